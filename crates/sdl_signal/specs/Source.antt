@@ -1,0 +1,67 @@
+-- A source of lines: what it answers, by the bytes that were to come.
+use Rattle.std.specs.Prelude.{◌≡◌, ℕ, ◌<◌, ◌≤◌, ◌⊎◌, List, [], ◌++◌, length, take, Option, Some, None, IfSome}
+use Rattle.std.specs.Io.KnownBytes.{Keeps, Consumes, IsAtEnd, prepend_known}
+use Rattle.sdl_signal.specs.declared.ahead.BlockRead.{BlockRead}
+use Rattle.sdl_signal.specs.declared.ahead.BlockRead.TheVariants as blocks
+use Rattle.sdl_signal.specs.declared.sources.LineRead.{LineRead}
+use Rattle.sdl_signal.specs.declared.sources.LineRead.TheVariants as reads
+use Rattle.sdl_signal.specs.declared.sources.Ended.{Ended}
+use Rattle.sdl_signal.specs.declared.sources.Ended.TheVariants as ended
+use Rattle.sdl_signal.specs.Bytes.{HasNoNewline, BeginsTooLong, ended_line}
+
+-- a source of lines: the bytes that it took from the reader and has not handed out, and how it ended, where it has
+pub record Source : Type 0 where
+  pub ahead : List ℕ
+  pub ended : Option Ended
+
+-- what a source that ended answers for ever
+abbrev pub last_answer : Ended → LineRead
+last_answer ended.Over = reads.Over
+last_answer ended.Done = reads.Done
+last_answer ended.Fault = reads.Fault
+
+-- the bytes that a source has yet to hand out, where the reader tells its bytes
+abbrev pub to_come : Source → Option (List ℕ) → Option (List ℕ)
+to_come source remaining = prepend_known source.ahead remaining
+
+-- The next line was handed out: one that a newline ended, or the last one, with which the input has ended.
+abbrev pub HandsOut : Option (List ℕ) → Option (List ℕ) → List ℕ → Option Ended → Type 0
+HandsOut before after line end =
+    (Consumes before after (ended_line line) × (end ≡ None))
+    ⊎ (Consumes before after line × (0 < length line) × IsAtEnd after × (end ≡ Some ended.Done))
+
+-- What a source that had not ended answers, and how it then stands, by the bytes that were to come before and after the call.
+abbrev pub IsNextLine : Option (List ℕ) → Option (List ℕ) → Source → LineRead → Type 0
+IsNextLine before after new (reads.Line line) = HasNoNewline line.items × (length line.items ≤ 320) × HandsOut before after line.items new.ended
+IsNextLine before after new reads.Over = IfSome before BeginsTooLong × Keeps before after × (new.ended ≡ Some ended.Over)
+IsNextLine before after new reads.Done = IsAtEnd before × Keeps before after × (new.ended ≡ Some ended.Done)
+IsNextLine before after new reads.Fault = Keeps before after × HasNoNewline new.ahead × (new.ended ≡ Some ended.Fault)
+
+-- What the bytes that wait in an open source come to: a whole line, or that it is too long, or no whole line.
+abbrev pub IsWaitingLine : Source → Source → Option LineRead → Type 0
+IsWaitingLine old new (Some (reads.Line line)) =
+    (old.ahead ≡ ended_line line.items ++ new.ahead) × HasNoNewline line.items × (length line.items ≤ 320) × (new.ended ≡ None)
+IsWaitingLine old new (Some reads.Over) = BeginsTooLong old.ahead × (new.ahead ≡ old.ahead) × (new.ended ≡ Some ended.Over)
+IsWaitingLine old new (Some reads.Done) = ⊥
+IsWaitingLine old new (Some reads.Fault) = ⊥
+IsWaitingLine old new None = HasNoNewline old.ahead × (length old.ahead ≤ 320) × (new ≡ old)
+
+-- what they come to where the input has ended
+abbrev pub IsLastLine : Source → Source → LineRead → Type 0
+IsLastLine old new (reads.Line line) = (line.items ≡ old.ahead) × (0 < length old.ahead) × (new.ahead ≡ []) × (new.ended ≡ Some ended.Done)
+IsLastLine old new reads.Over = ⊥
+IsLastLine old new reads.Done = (old.ahead ≡ []) × (new.ahead ≡ []) × (new.ended ≡ Some ended.Done)
+IsLastLine old new reads.Fault = ⊥
+
+-- what the read of a block did to the bytes that the reader has left, and which bytes came
+abbrev pub IsBlockRead : Option (List ℕ) → Option (List ℕ) → List ℕ → BlockRead → Type 0
+IsBlockRead before after block (blocks.Bytes n) = (0 < n) × (n ≤ length block) × Consumes before after (take n block)
+IsBlockRead before after block blocks.End = Keeps before after × IsAtEnd after
+IsBlockRead before after block blocks.Fault = Keeps before after
+
+-- what it did to the bytes that wait
+abbrev pub IsFilled : Option (List ℕ) → Option (List ℕ) → List ℕ → List ℕ → BlockRead → Type 0
+IsFilled before after old new (blocks.Bytes n) =
+    (bytes : List ℕ) × (0 < length bytes) × (new ≡ old ++ bytes) × Consumes before after bytes
+IsFilled before after old new blocks.End = (new ≡ old) × Keeps before after × IsAtEnd after
+IsFilled before after old new blocks.Fault = (new ≡ old) × Keeps before after

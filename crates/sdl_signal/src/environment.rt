@@ -1,0 +1,87 @@
+//! The environment's reading of an input: its lines, read as signals, up to the end, a fault or the limit.
+ghost use Rattle.std.specs.Prelude.{◌≡◌, ℕ, List, [], Option};
+ghost use Rattle.sdl_signal.specs.declared.values.EnvLine.{EnvLine};
+ghost use Rattle.sdl_signal.specs.Environment.{Counts, GoesOn, HasCarried, IsEnvLine};
+
+use crate::ends::InputEnd;
+use crate::naming::Names;
+use crate::reading::{LineFault, read_line};
+use crate::sources::{LineRead, LineSource};
+use crate::values::EnvLine;
+use std::io::Read;
+use std::marker::Model;
+
+/// How many lines of an input are carried out at most. (This project's own.)
+pub const MOST_LINES: u32 = 16_384;
+
+/// What the environment's reading answers.
+#[derive(Debug, PartialEq, Eq, Drop)]
+pub enum EnvRead {
+    /// The next line, to be carried out.
+    Line(EnvLine),
+    /// The reading has ended.
+    Ended(InputEnd),
+}
+
+/// Reads an input as the environment does, and counts the lines that were carried out.
+#[derive(Drop)]
+pub struct EnvReader {
+    source: LineSource,
+    carried: u32,
+}
+
+impl Model for EnvReader {
+    ghost use Rattle.std.specs.Prelude.{◌≤◌};
+    ghost use Rattle.sdl_signal.specs.Environment.{Reading};
+
+    ghost Value = { Reading };
+
+    ghost view = { λ r. record { source = r.source; carried = r.carried } };
+
+    ghost invariant = { λ r. r.carried ≤ 16384 };
+}
+
+impl EnvReader {
+    pub fn new() -> Self
+        ensures begins { (names : _) (start : Option (List ℕ)) → HasCarried names start start result [] }
+        ensures none { result.carried ≡ 0 }
+    {
+        EnvReader {
+            source: LineSource::new(),
+            carried: 0,
+        }
+    }
+
+    /// The next line, or how the reading ended. After an end it is called no more.
+    pub fn next<R: Read>(&mut self, names: &Names, input: &mut R) -> EnvRead
+        ensures line { IsEnvLine names.now result }
+        ensures count { Counts self.old self.new result }
+        // Whatever was carried out of an input so far, the answer goes on from it.
+        ensures reading { (start : Option (List ℕ)) (carried : List EnvLine) → HasCarried names.now start (R.remaining input.old) self.old carried
+            → GoesOn names.now start (R.remaining input.new) self.new carried result }
+    {
+        let full = self.carried == MOST_LINES;
+        match self.source.next(input) {
+            LineRead::Done => EnvRead::Ended(InputEnd::Whole),
+            LineRead::Fault => EnvRead::Ended(InputEnd::ReadFault),
+            LineRead::Over => {
+                if full {
+                    return EnvRead::Ended(InputEnd::TooMuch);
+                }
+                EnvRead::Ended(InputEnd::BadLine(self.carried + 1, LineFault::TooLong))
+            }
+            LineRead::Line(line) => {
+                if full {
+                    return EnvRead::Ended(InputEnd::TooMuch);
+                }
+                match read_line(names, line.as_slice()) {
+                    Ok(signal) => {
+                        self.carried += 1;
+                        EnvRead::Line(signal)
+                    }
+                    Err(fault) => EnvRead::Ended(InputEnd::BadLine(self.carried + 1, fault)),
+                }
+            }
+        }
+    }
+}

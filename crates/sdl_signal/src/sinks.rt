@@ -1,0 +1,71 @@
+//! Lines, written.
+ghost use Rattle.std.specs.Prelude.{◌≡◌, ◌≤◌, take, length};
+ghost use Rattle.std.specs.Io.KnownBytes.{Appends};
+ghost use Rattle.sdl_signal.specs.Bytes.{IsWritten};
+
+use crate::ahead::RETRIES;
+use std::io::{ErrorKind, Write};
+
+/// What the writing of a line came to.
+#[derive(Clone, Copy, Debug, PartialEq, Eq)]
+pub enum Written {
+    /// The line and a newline went out.
+    Whole,
+    /// Exactly this many of their first bytes went out: the writer failed, took no byte, or was interrupted
+    /// more often than is tried again.
+    Fault(usize),
+}
+
+/// Writes lines. Interrupted writes are tried again, 1,000 over the life of the sink.
+#[derive(Drop)]
+pub struct LineSink {
+    interrupted: u32,
+}
+
+impl LineSink {
+    pub fn new() -> Self {
+        LineSink { interrupted: 0 }
+    }
+
+    /// Writes the line and a newline. A write that takes no byte is a fault. After a fault further lines may
+    /// be written, each behind what went out.
+    pub fn write<W: Write>(&mut self, output: &mut W, line: &[u8]) -> Written
+        ensures { IsWritten (W.contents output.old) (W.contents output.new) line.now result }
+    {
+        let sent = self.write_bytes(output, line);
+        if sent < line.len() {
+            return Written::Fault(sent);
+        }
+        if self.write_bytes(output, b"\n") == 0 {
+            return Written::Fault(sent);
+        }
+        Written::Whole
+    }
+
+    /// Writes the bytes, or as many of them as go out, and answers how many went.
+    fn write_bytes<W: Write>(&mut self, output: &mut W, bytes: &[u8]) -> usize
+        ensures count { result ≤ length bytes.now }
+        ensures bytes { Appends (W.contents output.old) (W.contents output.new) (take result bytes.now) }
+    {
+        let mut sent = 0;
+        while sent < bytes.len() {
+            match output.write(&bytes[sent..]) {
+                Ok(0) => return sent,
+                Ok(n) => sent += n,
+                Err(e) if e.kind() == ErrorKind::Interrupted && self.interrupted < RETRIES => {
+                    self.interrupted += 1;
+                }
+                Err(_) => return sent,
+            }
+        }
+        sent
+    }
+}
+
+/// Writes the line and a newline, as a sink of its own does: interrupted writes are counted for this call
+/// alone.
+pub fn write_line<W: Write>(output: &mut W, line: &[u8]) -> Written
+    ensures { IsWritten (W.contents output.old) (W.contents output.new) line.now result }
+{
+    LineSink::new().write(output, line)
+}

@@ -1,0 +1,88 @@
+//! Values, Pids, signals and items.
+use crate::ids::{GateId, RouteId, SetId, SignalId};
+use arrayvec::ArrayVec;
+
+/// The sort of a parameter or a variable.
+#[derive(Clone, Copy, Debug, PartialEq, Eq, PartialOrd, Ord, Hash)]
+pub enum Sort {
+    /// A signed number of 64 bits.
+    Integer,
+    Boolean,
+    Pid,
+}
+
+impl Default for Sort {
+    fn default() -> Self {
+        Sort::Integer
+    }
+}
+
+/// Who an agent instance is (Z.101, Pid sorts).
+#[derive(Clone, Copy, Debug, PartialEq, Eq, PartialOrd, Ord, Hash)]
+pub enum Pid {
+    /// No instance.
+    Null,
+    /// The environment, which is one agent. (This project's own.)
+    Env,
+    /// An instance of a set, by its serial number. Serial numbers count from 1 in each set and are never used
+    /// again. (This project's own.)
+    Inst(SetId, u32),
+}
+
+impl Default for Pid {
+    fn default() -> Self {
+        Pid::Null
+    }
+}
+
+/// A value of a sort.
+#[derive(Clone, Copy, Debug, PartialEq, Eq, PartialOrd, Ord, Hash)]
+pub enum Value {
+    Integer(i64),
+    Boolean(bool),
+    Pid(Pid),
+}
+
+impl Default for Value {
+    fn default() -> Self {
+        Value::Integer(0)
+    }
+}
+
+/// A signal with its actual parameters, at most four.
+#[derive(Debug, Default, PartialEq, Eq, Drop)]
+pub struct Signal {
+    pub id: SignalId,
+    pub params: ArrayVec<Value, 4>,
+}
+
+/// Which output an item came from: the worker that made it, and how many outputs that worker had made before,
+/// those that no route fits included. (This project's own.)
+#[derive(Clone, Copy, Debug, Default, PartialEq, Eq, PartialOrd, Ord, Hash)]
+pub struct Origin {
+    pub worker: u32,
+    pub number: u64,
+}
+
+/// A signal on its way: a signal instance of Z.101 with what this runtime adds to it.
+#[derive(Debug, Default, PartialEq, Eq, Drop)]
+pub struct Item {
+    pub origin: Origin,
+    /// One more than the greatest stamp that arrived at the sender's block before, and 0 where none did. The
+    /// environment's is 0. (This project's own.)
+    pub stamp: u64,
+    pub signal: Signal,
+    pub sender: Pid,
+    /// The instance that TO named, where it named one.
+    pub to: Option<Pid>,
+    pub route: RouteId,
+}
+
+/// A line of the environment, read: a signal that enters at a gate of the system.
+#[derive(Debug, Default, PartialEq, Eq, Drop)]
+pub struct EnvLine {
+    pub gate: GateId,
+    pub signal: Signal,
+    /// The TO part, where the line has one.
+    pub to: Option<Pid>,
+}
