@@ -1,0 +1,13 @@
+pub mod Last
+pub mod Ranks
+pub mod Places
+pub mod Found
+pub mod Walks
+pub mod Unique
+pub mod Counting
+pub mod Collecting
+pub mod Plain
+pub mod Borders
+pub mod Fitting
+pub mod Once
+pub mod Echo

@@ -1,0 +1,5 @@
+pub mod Finding
+pub mod Routes
+pub mod Table
+pub mod Found
+pub mod Collected

@@ -1,0 +1,67 @@
+-- A table of routes: what its rows show without their structure, and where the rows of each signal stand.
+use Rattle.std.specs.Prelude.{◌≡◌, ℕ, ◌+◌, ◌<◌, ◌≤◌, Bool, List, [], ◌∷◌, ◌++◌, map, filter, length, get_or, Some, slice_get, ⊤}
+use Rattle.std.specs.List.{AllByRecursion}
+use Rattle.sdl_signal.specs.declared.ids.BlockId.{BlockId}
+use Rattle.sdl_signal.specs.declared.ids.GateId.{GateId}
+use Rattle.sdl_routes.specs.declared.parts.Hop.{Hop}
+use Rattle.sdl_routes.specs.declared.parts.Route.{Route}
+use Rattle.sdl_routes.specs.declared.parts.Row.{Row}
+use Rattle.sdl_routes.specs.declared.parts.EndPoint.{EndPoint}
+use Rattle.sdl_routes.specs.declared.parts.EndPoint.TheVariants as ends
+use Rattle.sdl_routes.specs.declared.parts.Station.{Station}
+use Rattle.sdl_routes.specs.declared.parts.Station.TheVariants as stations
+use Rattle.sdl_routes.specs.declared.parts.Source.{Source}
+use Rattle.sdl_routes.specs.declared.parts.Source.TheVariants as source
+use Rattle.sdl_routes.specs.Routes.{EachOnce, AreInOrder}
+
+-- the environment starts at the very gate of its source, and a route to the environment ends at the very gate of its end
+abbrev pub IsSourceGate : Source → GateId → Type 0
+IsSourceGate (source.Gate e) gate = e ≡ gate
+IsSourceGate (source.Set t) gate = ⊤
+
+abbrev pub IsEndGate : EndPoint → GateId → Type 0
+IsEndGate (ends.Environment e) gate = e ≡ gate
+IsEndGate (ends.Set t) gate = ⊤
+
+-- a route to a set ends in an inlet, and one to the environment in the outlet
+abbrev pub IsArrival : EndPoint → Station → Type 0
+IsArrival (ends.Set t) station = (b : BlockId) × (station ≡ stations.Inlet b)
+IsArrival (ends.Environment e) station = station ≡ stations.Outlet
+
+-- the stations are some of the hops, in order, and then an inlet or the outlet
+abbrev pub AreStationsOf : Route → Type 0
+AreStationsOf r =
+    (delays : Hop → Bool) × (last : Station) × IsArrival r.end last × (r.stations.items ≡ map stations.Line (filter delays r.hops.items) ++ last ∷ [])
+
+-- what each route of a table shows without the structure
+pub record IsPlain (row : Row) : Type 0 where
+  pub signal : row.route.signal.0 < 64
+  pub some_hops : 0 < length row.route.hops.items
+  pub few_hops : length row.route.hops.items ≤ 3
+  pub hops_once : EachOnce row.route.hops.items
+  pub few_stations : length row.route.stations.items ≤ 4
+  pub stations_once : EachOnce row.route.stations.items
+  pub stations : AreStationsOf row.route
+  pub source : IsSourceGate row.source row.route.start
+  pub end : IsEndGate row.route.end row.route.end_gate
+
+pub record IsTable (rows : List Row) : Type 0 where
+  pub few : length rows ≤ 4096
+  pub plain : AllByRecursion IsPlain rows
+  pub order : AreInOrder rows
+
+-- the rows of a signal stand from low to high
+pub record IsRange (rows : List Row) (signal low high : ℕ) : Type 0 where
+  pub ordered : low ≤ high
+  pub within : high ≤ length rows
+  pub all : (k : ℕ) (row : Row) → slice_get rows k ≡ Some row → row.route.signal.0 ≡ signal → (low ≤ k) × (k < high)
+
+-- the rows of each signal stand from its start to that of the next
+abbrev pub AreStarts : List Row → List ℕ → Type 0
+AreStarts rows starts = (signal : ℕ) → signal < 64 → IsRange rows signal (get_or starts signal 0) (get_or starts (signal + 1) 0)
+
+-- the rows of signals below this one stand below the bound, and the others not
+pub record IsBorder (rows : List Row) (signal bound : ℕ) : Type 0 where
+  pub within : bound ≤ length rows
+  pub below : (k : ℕ) (row : Row) → slice_get rows k ≡ Some row → row.route.signal.0 < signal → k < bound
+  pub above : (k : ℕ) (row : Row) → slice_get rows k ≡ Some row → signal ≤ row.route.signal.0 → bound ≤ k

@@ -1,0 +1,17 @@
+//! The routes of an SDL system: all ways by which a signal gets from one agent to another, and the choice among them.
+#![tactic(auto)]
+
+mod choice;
+mod hops;
+pub mod laws;
+pub mod parts;
+mod rows;
+mod search;
+mod starts;
+pub mod table;
+
+pub use parts::{EndPoint, Goal, Hop, Route, Source, Station, Via, Wish};
+pub use table::{RouteFault, Routes};
+
+#[cfg(test)]
+mod tests;

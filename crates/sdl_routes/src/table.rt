@@ -1,0 +1,113 @@
+//! The table of all routes of a structure.
+ghost use Rattle.std.specs.Prelude.{◌≡◌, ◌≤◌, length, slice_get, option_map, option_copied, IfSome, IfOk, IsErrOf, ◌↔◌};
+ghost use Rattle.sdl_routes.specs.Routes.{AreRoutesOf, HasTooMany, FollowsIn, IsChoice};
+ghost use Rattle.sdl_routes.specs.Table.{IsTable};
+
+use crate::choice::{choose_among, station_after};
+use crate::parts::{Route, Row, Station, Wish};
+use crate::search::all_routes;
+use crate::starts::starts_of;
+use sdl_signal::RouteId;
+use sdl_structure::Checked;
+use std::alloc::Global;
+use std::marker::Model;
+use thiserror::Error;
+
+/// The most signals of a structure.
+const MOST_SIGNALS: usize = 64;
+
+/// Why there is no table.
+#[derive(Clone, Copy, Debug, PartialEq, Eq, Error)]
+pub enum RouteFault {
+    /// The structure has over 4,096 routes.
+    #[error("P1 TooMany")]
+    TooMany,
+    /// A growth was refused.
+    #[error("P2 Memory")]
+    Memory,
+}
+
+/// All routes of a structure, by signal number and then by their hops. A route's number is its place.
+#[derive(Drop)]
+pub struct Routes {
+    rows: Vec<Row>,
+    /// Where the routes of each signal start, and behind the last signal where they end.
+    starts: [usize; 65],
+}
+
+impl Model for Routes {
+    ghost use Rattle.std.specs.Prelude.{List};
+    ghost use Rattle.sdl_routes.specs.declared.parts.Row.{Row};
+    ghost use Rattle.sdl_routes.specs.Table.{IsTable, AreStarts};
+
+    ghost Value = { List Row };
+
+    ghost view = { λ t. t.rows.items };
+
+    ghost invariant = { λ t. IsTable t.rows.items × AreStarts t.rows.items t.starts };
+}
+
+impl Routes {
+    /// All routes of the structure, each once, by signal number and then by their hops, a hop by its channel's number and
+    /// forth before back. `TooMany` exactly where there are over 4,096, whatever memory there is.
+    pub fn build(alloc: Global, checked: &Checked) -> Result<Routes, RouteFault>
+        ensures ok { IfOk result (AreRoutesOf checked.now) }
+        ensures table { IfOk result IsTable }
+        ensures too_many { IsErrOf result RouteFault.TooMany ↔ HasTooMany checked.now }
+    {
+        let rows = all_routes(alloc, checked.structure())?;
+        let starts = starts_of(rows.as_slice());
+        Ok(Routes { rows, starts })
+    }
+
+    /// The route of this number.
+    pub fn get(&self, route: RouteId) -> Option<&Route>
+        ensures value { option_copied result ≡ option_map (λ row. row.route) (slice_get self.now route.0) }
+        ensures table { IsTable self.now }
+    {
+        match self.rows.get(route.0 as usize) {
+            Some(row) => Some(&row.route),
+            None => None,
+        }
+    }
+
+    /// The number of routes, at most 4,096.
+    pub fn len(&self) -> usize
+        ensures value { result ≡ length self.now }
+        ensures table { IsTable self.now }
+    {
+        self.rows.len()
+    }
+
+    /// The first station of the route for `None`, else the station behind the one given. `None` behind the last station,
+    /// for a station that is not the route's, and for a route that is not in the table.
+    pub fn next(&self, route: RouteId, after: Option<Station>) -> Option<Station>
+        ensures known { IfSome (slice_get self.now route.0) (λ row. FollowsIn row.route.stations.items after result) }
+        ensures unknown { length self.now ≤ route.0 → result ≡ None }
+        ensures table { IsTable self.now }
+    {
+        match self.rows.get(route.0 as usize) {
+            Some(row) => station_after(row.route.stations.as_slice(), after),
+            None => None,
+        }
+    }
+
+    /// With n routes that fit the wish, in their order, the one at `pick` modulo n. `None` exactly where none fits.
+    pub fn choose(&self, wish: &Wish, pick: u32) -> Option<RouteId>
+        ensures choice { IsChoice self.now wish.now pick result }
+        ensures table { IsTable self.now }
+    {
+        let signal = wish.signal.0 as usize;
+        if signal < MOST_SIGNALS {
+            choose_among(
+                self.rows.as_slice(),
+                self.starts[signal],
+                self.starts[signal + 1],
+                wish,
+                pick,
+            )
+        } else {
+            choose_among(self.rows.as_slice(), 0, 0, wish, pick)
+        }
+    }
+}

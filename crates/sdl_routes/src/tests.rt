@@ -1,0 +1,299 @@
+mod systems;
+mod walks;
+
+use crate::{EndPoint, Goal, Hop, RouteFault, Routes, Source, Station, Via, Wish};
+use sdl_signal::{BlockId, ChannelId, GateId, RouteId, SetId, SignalId};
+use sdl_structure::{Checked, check, read_structure};
+use std::alloc::{AllocError, Global};
+use std::test::Fail;
+
+fn checked(alloc: Global, file: &str) -> Result<Checked, Fail> {
+    let structure = read_structure(alloc, file)?;
+    Ok(check(structure).ok().ok_or("not well formed")?)
+}
+
+fn hop(channel: u32, back: bool) -> Hop {
+    Hop {
+        channel: ChannelId(channel),
+        back,
+    }
+}
+
+/// The routes in a line each: the signal's number, the gate's at the start, the channels with `+` forth and `-` back, and the
+/// gate's at the end.
+fn described(alloc: Global, routes: &Routes) -> Result<String, AllocError> {
+    let mut text = String::new(alloc);
+    for number in 0..routes.len() {
+        if let Some(route) = routes.get(RouteId(number as u32)) {
+            text.push_str(format!(in alloc;
+                "{} from {} by",
+                route.signal.0, route.start.0
+            )?.as_str())?;
+            for hop in route.hops.as_slice() {
+                let direction = if hop.back { '-' } else { '+' };
+                text.push_str(format!(in alloc; " {}{direction}", hop.channel.0)?.as_str())?;
+            }
+            text.push_str(format!(in alloc; " to {}\n", route.end_gate.0)?.as_str())?;
+        }
+    }
+    Ok(text)
+}
+
+#[test]
+fn lists_the_routes_of_the_built_in_systems(rt: HostRuntime) -> Result<(), Fail> {
+    let alloc = rt.alloc();
+    let systems = [
+        (
+            systems::ECHO,
+            "0 from 0 by 0+ 1+ to 2\n1 from 2 by 1- 0- to 0\n",
+        ),
+        (
+            systems::RELAY,
+            "0 from 0 by 0+ 4+ to 6\n0 from 1 by 1+ 5+ to 8\n1 from 7 by 6+ 2+ 8+ to 12\n1 from 9 by 7+ 2+ 8+ to 12\n2 from 13 by 9+ 3+ to 2\n",
+        ),
+        (
+            systems::SPAWN,
+            "0 from 0 by 0+ 1+ to 2\n1 from 0 by 0+ 2+ to 5\n2 from 0 by 0+ 1+ to 2\n3 from 3 by 3+ to 4\n4 from 3 by 3+ to 4\n5 from 4 by 3- to 3\n6 from 3 by 3+ to 4\n7 from 5 by 2- 0- to 0\n8 from 5 by 2- 0- to 0\n9 from 0 by 0+ 1+ to 2\n",
+        ),
+        (
+            systems::RING,
+            "0 from 1 by 1- 0+ 2+ to 3\n0 from 3 by 2- 0- 1+ to 1\n",
+        ),
+    ];
+    for (file, expected) in systems {
+        let routes = Routes::build(alloc, &checked(alloc, file)?)?;
+        assert_eq!(rt; described(alloc, &routes)?.as_str(), expected);
+    }
+    Ok(())
+}
+
+#[test]
+fn tells_ends_and_stations(rt: HostRuntime) -> Result<(), Fail> {
+    let alloc = rt.alloc();
+    let echo = Routes::build(alloc, &checked(alloc, systems::ECHO)?)?;
+    assert_eq!(rt; echo.len(), 2);
+    let ping = echo.get(RouteId(0)).ok_or("no route 0")?;
+    assert_eq!(rt; ping.end, EndPoint::Set(SetId(0)));
+    let pong = echo.get(RouteId(1)).ok_or("no route 1")?;
+    assert_eq!(rt; pong.end, EndPoint::Environment(GateId(0)));
+    assert_eq!(rt;
+        pong.stations.as_slice(),
+        [
+            Station::Line(hop(1, true)),
+            Station::Line(hop(0, true)),
+            Station::Outlet
+        ]
+        .as_slice()
+    );
+    assert_eq!(rt; echo.get(RouteId(2)).is_some(), false);
+    Ok(())
+}
+
+#[test]
+fn goes_from_station_to_station(rt: HostRuntime) -> Result<(), Fail> {
+    let alloc = rt.alloc();
+    let echo = Routes::build(alloc, &checked(alloc, systems::ECHO)?)?;
+    let first = Station::Line(hop(0, false));
+    let second = Station::Line(hop(1, false));
+    let inlet = Station::Inlet(BlockId(0));
+    assert_eq!(rt; echo.next(RouteId(0), None), Some(first));
+    assert_eq!(rt; echo.next(RouteId(0), Some(first)), Some(second));
+    assert_eq!(rt; echo.next(RouteId(0), Some(second)), Some(inlet));
+    assert_eq!(rt; echo.next(RouteId(0), Some(inlet)), None);
+    assert_eq!(rt; echo.next(RouteId(0), Some(Station::Outlet)), None);
+    assert_eq!(rt; echo.next(RouteId(2), None), None);
+    let spawn = Routes::build(alloc, &checked(alloc, systems::SPAWN)?)?;
+    assert_eq!(rt; spawn.next(RouteId(3), None), Some(inlet), "no delay");
+    Ok(())
+}
+
+#[test]
+fn chooses_by_the_wish(rt: HostRuntime) -> Result<(), Fail> {
+    let alloc = rt.alloc();
+    let spawn = Routes::build(alloc, &checked(alloc, systems::SPAWN)?)?;
+    let born = Wish {
+        source: Source::Set(SetId(1)),
+        signal: SignalId(7),
+        goal: Goal::Anywhere,
+        via: Via::Any,
+    };
+    assert_eq!(rt;
+        spawn.choose(
+            &Wish {
+                via: Via::Gate(GateId(4)),
+                ..born
+            },
+            0
+        ),
+        None
+    );
+    assert_eq!(rt; spawn.choose(&born, 7), Some(RouteId(7)));
+    assert_eq!(rt;
+        spawn.choose(
+            &Wish {
+                via: Via::Channel(ChannelId(0)),
+                ..born
+            },
+            1
+        ),
+        Some(RouteId(7))
+    );
+    assert_eq!(rt;
+        spawn.choose(
+            &Wish {
+                via: Via::Channel(ChannelId(3)),
+                ..born
+            },
+            0
+        ),
+        None
+    );
+    assert_eq!(rt;
+        spawn.choose(
+            &Wish {
+                goal: Goal::Environment,
+                ..born
+            },
+            0
+        ),
+        Some(RouteId(7))
+    );
+    assert_eq!(rt;
+        spawn.choose(
+            &Wish {
+                goal: Goal::Set(SetId(0)),
+                ..born
+            },
+            0
+        ),
+        None
+    );
+    assert_eq!(rt;
+        spawn.choose(
+            &Wish {
+                goal: Goal::Null,
+                ..born
+            },
+            0
+        ),
+        None
+    );
+    assert_eq!(rt;
+        spawn.choose(
+            &Wish {
+                source: Source::Set(SetId(0)),
+                ..born
+            },
+            0
+        ),
+        None
+    );
+    assert_eq!(rt;
+        spawn.choose(
+            &Wish {
+                signal: SignalId(64),
+                ..born
+            },
+            0
+        ),
+        None
+    );
+    Ok(())
+}
+
+/// All signals, in a list.
+fn all_signals(alloc: Global) -> Result<String, AllocError> {
+    let mut list = String::new(alloc);
+    for signal in 0..64u32 {
+        list.push_str(format!(in alloc; "'s{signal}', ")?.as_str())?;
+    }
+    Ok(list)
+}
+
+/// A system with 64 signals, one block and one set, and this many channels from the system's gate to the block's, and 8 from
+/// there to the set's, each with all signals.
+fn wide_file(alloc: Global, outer: u32) -> Result<String, AllocError> {
+    let signals = all_signals(alloc)?;
+    let signals = signals.as_str();
+    let mut text = String::new(alloc);
+    text.push_str("version = 1\nsystem = 'Wide'\n")?;
+    text.push_str(format!(in alloc;
+        "gate = [{{ name = 'a', inward = [{signals}] }}]\n"
+    )?.as_str())?;
+    for signal in 0..64u32 {
+        text.push_str(format!(in alloc; "[[signal]]\nname = 's{signal}'\n")?.as_str())?;
+    }
+    for channel in 0..outer {
+        text.push_str(format!(in alloc;
+            "[[channel]]\nname = 'o{channel}'\nends = ['env.a', 'B.g']\nforth = [{signals}]\n"
+        )?.as_str())?;
+    }
+    text.push_str(format!(in alloc;
+        "[[block]]\nname = 'B'\ngate = [{{ name = 'g', inward = [{signals}] }}]\n"
+    )?.as_str())?;
+    text.push_str(format!(in alloc;
+        "set = [{{ name = 'E', gate = [{{ name = 'p', inward = [{signals}] }}] }}]\n"
+    )?.as_str())?;
+    for channel in 0..8u32 {
+        text.push_str(format!(in alloc;
+            "[[block.channel]]\nname = 'i{channel}'\nends = ['env.g', 'E.p']\nforth = [{signals}]\n"
+        )?.as_str())?;
+    }
+    Ok(text)
+}
+
+#[test]
+fn lists_4096_routes_and_no_more(rt: HostRuntime) -> Result<(), Fail> {
+    let alloc = rt.alloc();
+    let file = wide_file(alloc, 8)?;
+    let routes = Routes::build(alloc, &checked(alloc, file.as_str())?)?;
+    assert_eq!(rt; routes.len(), 4096);
+    let last = Wish {
+        source: Source::Gate(GateId(0)),
+        signal: SignalId(63),
+        goal: Goal::Set(SetId(0)),
+        via: Via::Channel(ChannelId(15)),
+    };
+    assert_eq!(rt; routes.choose(&last, 7), Some(RouteId(4095)));
+    let file = wide_file(alloc, 9)?;
+    let fault = Routes::build(alloc, &checked(alloc, file.as_str())?).err();
+    assert_eq!(rt; fault, Some(RouteFault::TooMany));
+    Ok(())
+}
+
+#[test]
+fn lists_what_a_slow_walk_finds(rt: HostRuntime) -> Result<(), Fail> {
+    let alloc = rt.alloc();
+    for file in [systems::ECHO, systems::RELAY, systems::SPAWN, systems::RING] {
+        let checked = checked(alloc, file)?;
+        let routes = Routes::build(alloc, &checked)?;
+        let found = walks::all(alloc, checked.structure())?;
+        assert_eq!(rt; routes.len(), found.len());
+        for number in 0..routes.len() {
+            let route = routes.get(RouteId(number as u32)).ok_or("no such route")?;
+            let walk = found.get(number).ok_or("no such walk")?;
+            assert_eq!(rt;
+                (route.signal, route.hops.as_slice().len()),
+                (walk.signal, walk.length)
+            );
+            for place in 0..route.hops.as_slice().len() {
+                let hop = route.hops.as_slice().get(place).copied();
+                assert_eq!(rt; hop, walk.hops.get(place).copied());
+            }
+        }
+    }
+    Ok(())
+}
+
+#[test]
+fn shows_its_faults(rt: HostRuntime) -> Result<(), Fail> {
+    assert_eq!(rt;
+        RouteFault::TooMany.to_string(rt.alloc())?.as_str(),
+        "P1 TooMany"
+    );
+    assert_eq!(rt;
+        RouteFault::Memory.to_string(rt.alloc())?.as_str(),
+        "P2 Memory"
+    );
+    Ok(())
+}
