@@ -1,0 +1,4 @@
+pub mod Lines
+pub mod Opens
+pub mod Puts
+pub mod Rows

@@ -1,0 +1,4 @@
+pub mod DelayLine
+pub mod Ends
+pub mod Rest
+pub mod Rule
