@@ -1,0 +1,37 @@
+//! Small systems, stored and fired.
+use crate::step::{Action, Dest};
+use crate::systems::{run_echo, store_anything, store_num, store_put};
+use arrayvec::ArrayVec;
+use sdl_routes::Via;
+use sdl_signal::{Signal, SignalId, Value};
+use std::test::Fail;
+
+#[test]
+fn echo_answers_what_it_was_sent(rt: HostRuntime) -> Result<(), Fail> {
+    let step = run_echo(rt.alloc(), 7)?;
+    assert!(rt; step.is_some());
+    if let Some(step) = step {
+        let mut params = ArrayVec::new();
+        params.push(Value::Integer(7));
+        let pong = Action::Output {
+            signal: Signal {
+                id: SignalId(1),
+                params,
+            },
+            dest: Dest::Anywhere,
+            via: Via::Any,
+        };
+        assert_eq!(rt; step.actions.len(), 1);
+        assert!(rt; step.actions.as_slice()[0] == pong);
+        drop(pong);
+    }
+    Ok(())
+}
+
+#[test]
+fn transitions_keep_their_numbers(rt: HostRuntime) -> Result<(), Fail> {
+    assert_eq!(rt; store_put(rt.alloc())?, 1);
+    assert_eq!(rt; store_num(rt.alloc())?, 2);
+    assert_eq!(rt; store_anything(rt.alloc())?, 9);
+    Ok(())
+}
