@@ -1,0 +1,40 @@
+/* Loaded before the C library, it refuses the program's allocation of the number in REFUSE, counted from 1. */
+#define _GNU_SOURCE
+#include <dlfcn.h>
+#include <errno.h>
+#include <stdlib.h>
+
+static long made;
+
+static int is_refused(void) {
+    const char *number = getenv("REFUSE");
+    return ++made == (number ? atol(number) : 0);
+}
+
+void *malloc(size_t size) {
+    static void *(*next)(size_t);
+    if (!next) next = dlsym(RTLD_NEXT, "malloc");
+    if (is_refused()) { errno = ENOMEM; return NULL; }
+    return next(size);
+}
+
+void *realloc(void *memory, size_t size) {
+    static void *(*next)(void *, size_t);
+    if (!next) next = dlsym(RTLD_NEXT, "realloc");
+    if (is_refused()) { errno = ENOMEM; return NULL; }
+    return next(memory, size);
+}
+
+void *aligned_alloc(size_t alignment, size_t size) {
+    static void *(*next)(size_t, size_t);
+    if (!next) next = dlsym(RTLD_NEXT, "aligned_alloc");
+    if (is_refused()) { errno = ENOMEM; return NULL; }
+    return next(alignment, size);
+}
+
+int posix_memalign(void **memory, size_t alignment, size_t size) {
+    static int (*next)(void **, size_t, size_t);
+    if (!next) next = dlsym(RTLD_NEXT, "posix_memalign");
+    if (is_refused()) return ENOMEM;
+    return next(memory, alignment, size);
+}
