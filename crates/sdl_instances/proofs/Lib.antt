@@ -1,0 +1,11 @@
+pub mod Places
+pub mod Logs
+pub mod Pids
+pub mod Sound
+pub mod Arrived
+pub mod Initial
+pub mod Begin
+pub mod Takes
+pub mod Rows
+pub mod WrongBodies
+pub mod Readiness

@@ -1,0 +1,10 @@
+pub mod Record
+pub mod Rules
+pub mod Legal
+pub mod Machine
+pub mod Run
+pub mod Core
+pub mod Cores
+pub mod Ready
+pub mod Calls
+pub mod Spawn

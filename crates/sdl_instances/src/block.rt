@@ -1,0 +1,111 @@
+//! The core of a block: its instances with its log, and the behaviours of its sets.
+ghost use Rattle.std.specs.Prelude.{◌≡◌, List, ◌≤◌, ◌++◌, ◌∷◌, ◌<◌, ◌%◌, ◌^◌, ◌-◌, [], IfOk, IfErr, None};
+ghost use Rattle.sdl_signal.specs.declared.ids.SetId.{SetId};
+ghost use Rattle.sdl_signal.specs.declared.values.Pid.{Pid};
+ghost use Rattle.sdl_instances.specs.Legal.{GoesTo, IsOfSet};
+ghost use Rattle.sdl_instances.specs.declared.event.Arrival.TheVariants as arrival;
+ghost use Rattle.sdl_instances.specs.Machine.{Arrives, number_living};
+ghost use Rattle.sdl_instances.specs.Core.{arrival_event, IsLivingAt, IsLegalIn, IsSound, IsBoundIn, signals_of, sets_of};
+ghost use Rattle.sdl_instances.specs.Run.{turns, waiting, initial};
+ghost use Rattle.sdl_instances.specs.Rules.{block_rules};
+ghost use Rattle.sdl_routes.specs.declared.parts.Row.{Row};
+
+use crate::event::{Arrival, Event};
+use crate::parts::BlockParts;
+use crate::table::Table;
+use sdl_routes::Routes;
+use sdl_signal::Item;
+use sdl_transition::Agents;
+use sdl_structure::Checked;
+use std::alloc::{AllocError, Global};
+
+/// The instances of a block with their input ports, the log of all that happened to them, and the behaviours of the
+/// block's sets.
+#[derive(Drop)]
+pub struct BlockCore<S> {
+    table: Table,
+    parts: BlockParts<S>,
+}
+
+impl<S: Agents> BlockCore<S> {
+    ghost use Rattle.sdl_instances.specs.Cores.{core_of, parts_of, system_in};
+    ghost use Rattle.sdl_instances.specs.Calls.{KeepsRest};
+
+    /// The initial instances of the block, its sets in order and none of them started. `budget` is the number of turns
+    /// that the block may have. A refusal hands the parts back.
+    pub fn new(
+        alloc: Global,
+        parts: BlockParts<S>,
+        checked: &Checked,
+        budget: u32,
+    ) -> Result<BlockCore<S>, (BlockParts<S>, AllocError)>
+        requires budget { (1 ≤ budget) × (budget ≤ 1000000) }
+        requires bound { IsBoundIn (signals_of checked.now) (sets_of checked.now) (block_rules parts) parts.block }
+        ensures initial { IfOk result (λ c. core_of c ≡ record { block = parts.block; signals = signals_of checked.now; sets = sets_of checked.now; state = initial (block_rules parts) (sets_of checked.now) parts.block; log = []; budget = budget }) }
+        ensures sound { IfOk result (λ c. (routes : List Row) → IsSound S.may (system_in c routes) (core_of c)) }
+        ensures parts { IfOk result (λ c. parts_of c ≡ parts) }
+        ensures err { IfErr result (λ e. e.0 ≡ parts) }
+    {
+        let structure = checked.structure();
+        structure.is_consistent();
+        match Table::first(alloc, &parts, structure, budget) {
+            Ok(table) => Ok(BlockCore { table, parts }),
+            Err(_) => Err((parts, AllocError)),
+        }
+    }
+
+    /// Lets an item arrive. It enters the port of the instance that its output named, or of the living one of the set at
+    /// the end of its route at `pick` modulo their number, in order of creation. It is discarded where there is none.
+    /// A refusal changes nothing and hands the item back. It costs a scan over the living instances.
+    pub fn arrive(
+        &mut self,
+        routes: &Routes,
+        item: Item,
+        pick: u32,
+    ) -> Result<Arrival, (Item, AllocError)>
+        requires stamp { item.stamp < 2 ^ 64 - 1 }
+        requires legal { IsLegalIn (system_in self.old routes.now) item }
+        requires sound { IsSound S.may (system_in self.old routes.now) (core_of self.old) }
+        requires ends_here { (set : SetId) × GoesTo routes.now item set × ((p : Pid) → item.to ≡ Some p → IsOfSet set p) }
+        ensures arrives { IfOk result (λ a. Arrives routes.now (core_of self.old).state item a (core_of self.new).state) }
+        ensures log { IfOk result (λ a. (core_of self.new).log ≡ (core_of self.old).log ++ arrival_event item a ∷ []) }
+        ensures picked { (set : SetId) (p : Pid) → GoesTo routes.now item set → item.to ≡ None → result ≡ Ok (arrival.Entered p) → IsLivingAt set (core_of self.old).state (pick % number_living set (core_of self.old).state) p }
+        ensures sound { IfOk result (λ _. IsSound S.may (system_in self.old routes.now) (core_of self.new)) }
+        ensures rest { KeepsRest (core_of self.old) (core_of self.new) }
+        ensures parts { parts_of self.new ≡ parts_of self.old }
+        ensures err { IfErr result (λ e. (e.0 ≡ item) × (core_of self.new ≡ core_of self.old)) }
+    {
+        self.table.arrive(routes, item, pick)
+    }
+
+    /// The number of signals in all ports. No memory is taken.
+    pub fn left_in_ports(&self) -> u64
+        ensures { result ≡ waiting (core_of self.now).state.living }
+    {
+        self.table.left_in_ports()
+    }
+
+    /// The number of turns so far. No memory is taken.
+    pub fn made(&self) -> u32
+        ensures { result ≡ turns (core_of self.now).log }
+    {
+        self.table.made()
+    }
+
+    /// The log so far, the earliest event first. No memory is taken.
+    pub fn log(&self) -> &Vec<Event>
+        ensures { result.now.items ≡ (core_of self.now).log }
+    {
+        self.table.log()
+    }
+
+    /// The parts of the block, the log, and the number of signals in all ports. No memory is taken.
+    pub fn into_parts(self) -> (BlockParts<S>, Vec<Event>, u64)
+        ensures parts { result.0 ≡ parts_of self }
+        ensures log { result.1.items ≡ (core_of self).log }
+        ensures left { result.2 ≡ waiting (core_of self).state.living }
+    {
+        let left = self.table.left_in_ports();
+        (self.parts, self.table.into_log(), left)
+    }
+}

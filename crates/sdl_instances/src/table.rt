@@ -1,0 +1,233 @@
+//! The instances of a block with its log.
+ghost use Rattle.std.specs.Prelude.{◌≡◌, ℕ, ◌++◌, ◌∷◌, ◌<◌, ◌≤◌, ◌%◌, ◌^◌, ◌-◌, [], OnOk, OnErr, IfOk, IfErr, slice_get, length, None, Some};
+ghost use Rattle.sdl_signal.specs.declared.ids.SetId.{SetId};
+ghost use Rattle.sdl_signal.specs.declared.values.Pid.{Pid};
+ghost use Rattle.sdl_routes.specs.declared.parts.Row.{Row};
+ghost use Rattle.sdl_routes.specs.declared.parts.EndPoint.TheVariants as ends;
+ghost use Rattle.sdl_instances.specs.Legal.{GoesTo, IsOfSet};
+ghost use Rattle.sdl_instances.specs.Record.{Record};
+ghost use Rattle.sdl_instances.specs.Machine.{Arrives, Becomes, number_living, pids};
+ghost use Rattle.sdl_instances.specs.Core.{arrival_event, IsLivingAt, signals_of, sets_of};
+ghost use Rattle.sdl_instances.specs.Run.{turns, waiting, initial};
+ghost use Rattle.sdl_instances.specs.Rules.{block_rules};
+ghost use Rattle.sdl_instances.specs.declared.event.Arrival.TheVariants as arrival;
+
+use crate::choice::{number_of, place_of};
+use crate::copies::copied_item;
+use crate::event::{Arrival, Cause, Event};
+use crate::first::{first_living, first_serials, numbers_of_sets, sorts_of};
+use crate::instance::Instance;
+use crate::parts::{BlockParts, ProcessSet};
+use crate::ready::{number_ready, place_ready, Look};
+use arrayvec::ArrayVec;
+use indexmap::IndexMap;
+use sdl_routes::{EndPoint, Routes};
+use sdl_signal::{BlockId, Item, Pid, RouteId, SetId, Sort};
+use std::alloc::{AllocError, Global};
+use sdl_structure::Structure;
+use std::marker::Model;
+
+/// The living instances of a block in the order of their creation, the serial numbers given out, and the log. The sorts
+/// of the signals and the numbers of the sets are those of the whole structure.
+#[derive(Drop)]
+pub struct Table {
+    block: BlockId,
+    signals: Vec<ArrayVec<Sort, 4>>,
+    sets: Vec<ProcessSet>,
+    living: IndexMap<Pid, Instance>,
+    last: Vec<u32>,
+    log: Vec<Event>,
+    outputs: u64,
+    stamp: u64,
+    made: u32,
+    budget: u32,
+}
+
+impl Model for Table {
+    ghost use Rattle.std.specs.Prelude.{map};
+    ghost use Rattle.sdl_instances.specs.Core.{Core};
+    ghost use Rattle.sdl_instances.specs.Run.{IsCounted};
+
+    ghost Value = { Core };
+
+    ghost view = { λ t. record { block = t.block; signals = map (λ s. s.items) t.signals.items; sets = t.sets.items; state = record { living = t.living.entries; last = t.last.items }; log = t.log.items; budget = t.budget } };
+
+    ghost invariant = { λ t. IsCounted t.log.items t.living.entries t.outputs t.stamp t.made t.budget };
+}
+
+impl Table {
+    /// The table before any event: the initial instances, none started.
+    pub fn first<S>(
+        alloc: Global,
+        parts: &BlockParts<S>,
+        structure: &Structure,
+        budget: u32,
+    ) -> Result<Table, AllocError>
+        requires { length structure.now.sets ≤ 64 }
+        ensures { IfOk result (λ t. t ≡ record { block = parts.now.block; signals = signals_of structure.now; sets = sets_of structure.now; state = initial (block_rules parts.now) (sets_of structure.now) parts.now.block; log = []; budget = budget }) }
+    {
+        let signals = sorts_of(alloc, structure.signals())?;
+        let sets = numbers_of_sets(alloc, structure.sets())?;
+        let last = first_serials(alloc, parts.block, sets.as_slice())?;
+        let living = first_living(alloc, parts, sets.as_slice())?;
+        Ok(Table {
+            block: parts.block,
+            signals,
+            sets,
+            living,
+            last,
+            log: Vec::new(alloc),
+            outputs: 0,
+            stamp: 0,
+            made: 0,
+            budget,
+        })
+    }
+}
+
+/// The set at the end of the item's route.
+fn end_of(routes: &Routes, route: RouteId) -> SetId
+    requires { (set : SetId) × (row : Row) × (slice_get routes.now route.0 ≡ Some row) × (row.route.end ≡ ends.Set set) }
+    ensures { (row : Row) × (slice_get routes.now route.0 ≡ Some row) × (row.route.end ≡ ends.Set result) }
+{
+    match routes.get(route) {
+        Some(found) => match found.end {
+            EndPoint::Set(set) => set,
+            EndPoint::Environment(_) => unreachable!(),
+        },
+        None => unreachable!(),
+    }
+}
+
+impl Table {
+    /// Puts the item into the port of the instance at this place. A refusal changes nothing.
+    fn enter(&mut self, place: usize, item: Item) -> Result<Pid, (Item, AllocError)>
+        requires stamp { item.stamp < 2 ^ 64 - 1 }
+        requires within { place < length self.old.state.living }
+        ensures entered { IfOk result (λ p. (r : Record) × Becomes p r (record r { port = r.port ++ item ∷ [] }) self.old.state self.new.state) }
+        ensures place { IfOk result (λ p. slice_get (pids self.old.state) place ≡ Some p) }
+        ensures log { IfOk result (λ p. self.new.log ≡ self.old.log ++ arrival_event item (arrival.Entered p) ∷ []) }
+        ensures rest { (self.new.block ≡ self.old.block) × (self.new.signals ≡ self.old.signals) × (self.new.sets ≡ self.old.sets) × (self.new.budget ≡ self.old.budget) }
+        ensures err { IfErr result (λ e. (e.0 ≡ item) × (self.new ≡ self.old)) }
+    {
+        if self.log.reserve(1).is_err() {
+            return Err((item, AllocError));
+        }
+        let copy = copied_item(&item);
+        let (pid, instance) = self.living.pair_mut(place);
+        let pid = *pid;
+        match instance.receive(copy) {
+            Ok(()) => {}
+            Err(_) => return Err((item, AllocError)),
+        }
+        self.stamp = self.stamp.max(item.stamp + 1);
+        match self.log.push(Event::Entered(item, pid)) {
+            Ok(()) => Ok(pid),
+            Err(_) => unreachable!(),
+        }
+    }
+
+    /// Discards the item. A refusal changes nothing.
+    fn discard(&mut self, cause: Cause, item: Item) -> Result<(), (Item, AllocError)>
+        requires stamp { item.stamp < 2 ^ 64 - 1 }
+        ensures log { OnOk result (self.new.log ≡ self.old.log ++ arrival_event item (arrival.Discarded cause) ∷ []) }
+        ensures state { OnOk result (self.new.state ≡ self.old.state) }
+        ensures rest { (self.new.block ≡ self.old.block) × (self.new.signals ≡ self.old.signals) × (self.new.sets ≡ self.old.sets) × (self.new.budget ≡ self.old.budget) }
+        ensures err { IfErr result (λ e. (e.0 ≡ item) × (self.new ≡ self.old)) }
+    {
+        if self.log.reserve(1).is_err() {
+            return Err((item, AllocError));
+        }
+        self.stamp = self.stamp.max(item.stamp + 1);
+        match self.log.push(Event::Discarded(item, cause)) {
+            Ok(()) => Ok(()),
+            Err(_) => unreachable!(),
+        }
+    }
+}
+
+impl Table {
+    ghost use Rattle.sdl_instances.specs.Calls.{LookFinds};
+
+    /// Lets an item arrive: it enters the port of a living instance that it admits, or is discarded where there is none. A refusal changes nothing.
+    pub fn arrive(
+        &mut self,
+        routes: &Routes,
+        item: Item,
+        pick: u32,
+    ) -> Result<Arrival, (Item, AllocError)>
+        requires stamp { item.stamp < 2 ^ 64 - 1 }
+        requires ends_here { (set : SetId) × GoesTo routes.now item set × ((p : Pid) → item.to ≡ Some p → IsOfSet set p) }
+        ensures arrives { IfOk result (λ a. Arrives routes.now self.old.state item a self.new.state) }
+        ensures log { IfOk result (λ a. self.new.log ≡ self.old.log ++ arrival_event item a ∷ []) }
+        ensures picked { (set : SetId) (p : Pid) → GoesTo routes.now item set → item.to ≡ None → result ≡ Ok (arrival.Entered p) → IsLivingAt set self.old.state (pick % number_living set self.old.state) p }
+        ensures rest { (self.new.block ≡ self.old.block) × (self.new.signals ≡ self.old.signals) × (self.new.sets ≡ self.old.sets) × (self.new.budget ≡ self.old.budget) }
+        ensures err { IfErr result (λ e. (e.0 ≡ item) × (self.new ≡ self.old)) }
+    {
+        match item.to {
+            Some(pid) => match self.living.get_index_of(&pid) {
+                Some(place) => Ok(Arrival::Entered(self.enter(place, item)?)),
+                None => {
+                    self.discard(Cause::Gone, item)?;
+                    Ok(Arrival::Discarded(Cause::Gone))
+                }
+            },
+            None => {
+                let set = end_of(routes, item.route);
+                let keys = self.living.keys().as_slice();
+                let living = number_of(keys, set);
+                if living == 0 {
+                    self.discard(Cause::NoInstance, item)?;
+                    return Ok(Arrival::Discarded(Cause::NoInstance));
+                }
+                let place = place_of(keys, set, pick as usize % living);
+                Ok(Arrival::Entered(self.enter(place, item)?))
+            }
+        }
+    }
+
+    /// The log so far.
+    pub fn log(&self) -> &Vec<Event>
+        ensures { result.now.items ≡ self.now.log }
+    {
+        &self.log
+    }
+
+    /// What a turn at this pick finds.
+    pub fn look(&self, pick: u32) -> Look
+        ensures { LookFinds pick self.now result }
+    {
+        let instances = self.living.values().as_slice();
+        let ready = number_ready(instances);
+        if ready == 0 {
+            return Look::Idle;
+        }
+        let place = place_ready(instances, pick as usize % ready);
+        if self.made == self.budget { Look::Spent } else { Look::Next(place) }
+    }
+
+    /// The number of turns so far. No memory is taken.
+    pub fn made(&self) -> u32
+        ensures { result ≡ turns self.now.log }
+    {
+        self.made
+    }
+
+    /// The number of signals in all ports. No memory is taken.
+    pub fn left_in_ports(&self) -> u64
+        ensures { result ≡ waiting self.now.state.living }
+    {
+        let mut count: u64 = 0;
+        for instance in self.living.values().as_slice() {
+            count += instance.port_len();
+        }
+        count
+    }
+
+    /// The log.
+    pub fn into_log(self) -> Vec<Event>
+        ensures { result.items ≡ self.log }
+    {
+        self.log
+    }
+}
