@@ -5,6 +5,7 @@ use crate::{EndPoint, Goal, Hop, RouteFault, Routes, Source, Station, Via, Wish}
 use sdl_signal::{BlockId, ChannelId, GateId, RouteId, SetId, SignalId};
 use sdl_structure::{Checked, check, read_structure};
 use std::alloc::{AllocError, Global};
+use std::process::Abort;
 use std::test::Fail;
 
 fn checked(alloc: Global, file: &str) -> Result<Checked, Fail> {
@@ -107,97 +108,60 @@ fn goes_from_station_to_station(rt: HostRuntime) -> Result<(), Fail> {
     Ok(())
 }
 
-#[test]
-fn chooses_by_the_wish(rt: HostRuntime) -> Result<(), Fail> {
-    let alloc = rt.alloc();
-    let spawn = Routes::build(alloc, &checked(alloc, systems::SPAWN)?)?;
-    let born = Wish {
+/// What a new instance of Spawn's second set wishes, which tells the environment that it is there.
+fn born() -> Wish {
+    Wish {
         source: Source::Set(SetId(1)),
         signal: SignalId(7),
         goal: Goal::Anywhere,
         via: Via::Any,
-    };
-    assert_eq!(rt;
-        spawn.choose(
-            &Wish {
-                via: Via::Gate(GateId(4)),
-                ..born
-            },
-            0
-        ),
-        None
-    );
-    assert_eq!(rt; spawn.choose(&born, 7), Some(RouteId(7)));
-    assert_eq!(rt;
-        spawn.choose(
-            &Wish {
-                via: Via::Channel(ChannelId(0)),
-                ..born
-            },
-            1
-        ),
-        Some(RouteId(7))
-    );
-    assert_eq!(rt;
-        spawn.choose(
-            &Wish {
-                via: Via::Channel(ChannelId(3)),
-                ..born
-            },
-            0
-        ),
-        None
-    );
-    assert_eq!(rt;
-        spawn.choose(
-            &Wish {
-                goal: Goal::Environment,
-                ..born
-            },
-            0
-        ),
-        Some(RouteId(7))
-    );
-    assert_eq!(rt;
-        spawn.choose(
-            &Wish {
-                goal: Goal::Set(SetId(0)),
-                ..born
-            },
-            0
-        ),
-        None
-    );
-    assert_eq!(rt;
-        spawn.choose(
-            &Wish {
-                goal: Goal::Null,
-                ..born
-            },
-            0
-        ),
-        None
-    );
-    assert_eq!(rt;
-        spawn.choose(
-            &Wish {
-                source: Source::Set(SetId(0)),
-                ..born
-            },
-            0
-        ),
-        None
-    );
-    assert_eq!(rt;
-        spawn.choose(
-            &Wish {
-                signal: SignalId(64),
-                ..born
-            },
-            0
-        ),
-        None
-    );
+    }
+}
+
+fn assert_chosen(
+    rt: &impl Abort,
+    alloc: Global,
+    wish: Wish,
+    pick: u32,
+    expected: Option<RouteId>,
+) -> Result<(), Fail> {
+    let spawn = Routes::build(alloc, &checked(alloc, systems::SPAWN)?)?;
+    assert_eq!(rt; spawn.choose(&wish, pick), expected);
+    Ok(())
+}
+
+#[test]
+fn chooses_by_source_and_signal(rt: HostRuntime) -> Result<(), Fail> {
+    let alloc = rt.alloc();
+    assert_chosen(&rt, alloc, born(), 7, Some(RouteId(7)))?;
+    let source = Source::Set(SetId(0));
+    assert_chosen(&rt, alloc, Wish { source, ..born() }, 0, None)?;
+    let signal = SignalId(64);
+    assert_chosen(&rt, alloc, Wish { signal, ..born() }, 0, None)?;
+    Ok(())
+}
+
+#[test]
+fn chooses_by_the_way(rt: HostRuntime) -> Result<(), Fail> {
+    let alloc = rt.alloc();
+    let via = Via::Gate(GateId(4));
+    assert_chosen(&rt, alloc, Wish { via, ..born() }, 0, None)?;
+    let via = Via::Channel(ChannelId(0));
+    assert_chosen(&rt, alloc, Wish { via, ..born() }, 1, Some(RouteId(7)))?;
+    let via = Via::Channel(ChannelId(3));
+    assert_chosen(&rt, alloc, Wish { via, ..born() }, 0, None)?;
+    Ok(())
+}
+
+#[test]
+fn chooses_by_the_goal(rt: HostRuntime) -> Result<(), Fail> {
+    let alloc = rt.alloc();
+    let goal = Goal::Environment;
+    assert_chosen(&rt, alloc, Wish { goal, ..born() }, 0, Some(RouteId(7)))?;
+    let goal = Goal::Set(SetId(0));
+    assert_chosen(&rt, alloc, Wish { goal, ..born() }, 0, None)?;
+    let goal = Goal::Null;
+    assert_chosen(&rt, alloc, Wish { goal, ..born() }, 0, None)?;
     Ok(())
 }
 

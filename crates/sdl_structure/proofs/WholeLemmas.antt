@@ -3,6 +3,7 @@ use Rattle.std.proofs.Common.{◌≡◌, ◌≢◌, ℕ, zero, suc, ◌+◌, ◌
 use Rattle.std.proofs.lemmas.List.{length-append, length-map}
 use Rattle.std.proofs.lemmas.Option.{slice_get_within}
 use Rattle.std.specs.List.{AllZip, AllByRecursion}
+use Rattle.std.specs.Prelude.{⊤}
 use Rattle.toml.specs.Data.{Data, Members, as_str}
 use Rattle.sdl_signal.specs.declared.ids.SignalId.{SignalId}
 use Rattle.sdl_signal.specs.declared.ids.BlockId.{BlockId}
@@ -19,7 +20,7 @@ use Rattle.sdl_structure.specs.declared.parts.Scope.TheVariants as scope
 use Rattle.sdl_structure.specs.declared.parts.Side.TheVariants.{Outer, Inner}
 use Rattle.sdl_structure.specs.declared.reading.Key.{Key}
 use Rattle.sdl_structure.specs.declared.reading.Key.TheVariants as key
-use Rattle.sdl_structure.specs.Structure.{Structure, IsStructure, OwnerExists, ScopeExists, SignalsExist, AreSystemFirst, IsEnd, JoinsAt}
+use Rattle.sdl_structure.specs.Structure.{Structure, IsStructure, HasFewInstances, OwnerExists, ScopeExists, SignalsExist, AreSystemFirst, IsEnd, JoinsAt}
 use Rattle.sdl_structure.specs.Tables.{tables_at, elements_at, total}
 use Rattle.sdl_structure.specs.File.{ListsParts, IsWithinLimits, IsBlockTable, IsSetTable, IsGateTable, IsChannelTable, ListsSignals, NamesSignal, NamesEnd, IsAgent, HasOneDot, agent_part, gate_part, side_in, sets_of, owned, set_gates, block_gates, gates_of, channels_in, block_channels, channels_of}
 use Rattle.sdl_structure.proofs.SignalLemmas.{some_and}
@@ -39,6 +40,10 @@ all_append P (x ∷ xs) ys h k = (h.0, all_append P xs ys h.1 k)
 all_mapped : {A B : Type 0} (f : A → B) (P : B → Type 0) (xs : List A) → ((x : A) → P (f x)) → AllByRecursion P (map f xs)
 all_mapped f P [] h = tt
 all_mapped f P (x ∷ xs) h = (h x, all_mapped f P xs h)
+
+all_hold : {A : Type 0} (xs : List A) → AllByRecursion (λ x. ⊤) xs
+all_hold [] = tt
+all_hold (x ∷ xs) = (tt, all_hold xs)
 
 -- the numbers of blocks and sets in the lists of tables are below how many there are
 sets_below : (b n : ℕ) (ts : List Members) → b + length ts ≤ n → AllByRecursion (λ x. x.0 < n) (sets_of b ts)
@@ -158,6 +163,7 @@ is_structure root s parts limits = record {
   few_gates = limits.gates;
   few_channels = limits.channels;
   sets = zip_by IsSetTable (λ x. x.0 < length s.blocks) (λ t. t.block.0 < length s.blocks) (sets_of 0 (tables_at key.Block root)) s.sets (λ x t q r. subst (λ n. n < length s.blocks) (sym r.block) q) (sets_below 0 (length s.blocks) (tables_at key.Block root) blocks_fit) parts.sets;
+  instances = zip_by IsSetTable (λ x. ⊤) HasFewInstances (sets_of 0 (tables_at key.Block root)) s.sets (λ x t q r. record { initial = r.initial.1; some = r.maximum.1; maximum = r.maximum.2 }) (all_hold (sets_of 0 (tables_at key.Block root))) parts.sets;
   gates = zip_by (IsGateTable s.signals) (λ x. OwnerExists s x.0) _ (gates_of root (tables_at key.Block root)) s.gates
       (λ x g q r. (subst (λ o. OwnerExists s o) (sym r.owner) q, signals_exist s _ g.inward.items r.inward.named, signals_exist s _ g.outward.items r.outward.named))
       (all_append (λ x. OwnerExists s x.0) (owned owner.System root) (block_gates 0 0 (tables_at key.Block root)) (all_mapped (λ g. (owner.System, g)) (λ x. OwnerExists s x.0) (tables_at key.Gate root) (λ g. tt)) (block_gates_exist s 0 0 (tables_at key.Block root) blocks_fit sets_fit)) parts.gates;

@@ -94,8 +94,14 @@ abbrev pub AreSystemFirst : List Gate → Type 0
 AreSystemFirst [] = ⊤
 AreSystemFirst (g ∷ gates) = AllByRecursion (λ h. h.owner ≡ owner.System → g.owner ≡ owner.System) gates × AreSystemFirst gates
 
--- The parts are within this project's limits, with at most 8 gates for each agent. What one part names of the others is
--- there, and each end of a channel is where the channel may end.
+-- a set may have an instance, and starts with at most 1024 of them and never has more
+pub record HasFewInstances (t : Set) : Type 0 where
+  pub initial : t.initial ≤ 1024
+  pub some : 1 ≤ t.maximum
+  pub maximum : t.maximum ≤ 1024
+
+-- The parts are within this project's limits, with at most 8 gates for each agent and 1024 instances for each set. What one
+-- part names of the others is there, and each end of a channel is where the channel may end.
 pub record IsStructure (s : Structure) : Type 0 where
   pub few_signals : length s.signals ≤ 64
   pub few_blocks : length s.blocks ≤ 16
@@ -103,6 +109,7 @@ pub record IsStructure (s : Structure) : Type 0 where
   pub few_gates : length s.gates ≤ 8 * (1 + length s.blocks + length s.sets)
   pub few_channels : length s.channels ≤ 64
   pub sets : AllByRecursion (λ t. t.block.0 < length s.blocks) s.sets
+  pub instances : AllByRecursion HasFewInstances s.sets
   pub gates : AllByRecursion (λ g. OwnerExists s g.owner × SignalsExist s g.inward.items × SignalsExist s g.outward.items) s.gates
   pub gates_order : AreSystemFirst s.gates
   pub channels : AllByRecursion (λ c. ScopeExists s c.scope × IsEnd s c.scope c.first × IsEnd s c.scope c.second × SignalsExist s c.forth.items × SignalsExist s c.back.items) s.channels

@@ -1,5 +1,5 @@
 //! A whole structure.
-ghost use Rattle.std.specs.Prelude.{◌≡◌, ◌+◌, ◌<◌, [], ◌∷◌, ◌++◌, length, map, filter_map, All, IfOk, OnOk};
+ghost use Rattle.std.specs.Prelude.{◌≡◌, ◌+◌, ◌<◌, ◌≤◌, [], ◌∷◌, ◌++◌, length, map, filter_map, All, IfOk, OnOk};
 ghost use Rattle.sdl_signal.specs.Names.{IsName};
 ghost use Rattle.sdl_structure.specs.Structure.{IsStructure, lexicon_of, system_gate_name, declared, HasLegalNames};
 ghost use Rattle.sdl_structure.specs.Lists.{structure_of};
@@ -228,7 +228,10 @@ impl Structure {
         initial: u32,
         maximum: u32,
     ) -> Result<Structure, AllocError>
-        requires { IsName set.bytes }
+        requires name { IsName set.bytes }
+        requires initial { initial ≤ 1024 }
+        requires some { 1 ≤ maximum }
+        requires maximum { maximum ≤ 1024 }
     {
         let mut names = Names::new(alloc);
         names.add_set(set)?;

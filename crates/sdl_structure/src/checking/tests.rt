@@ -1,4 +1,6 @@
 //! Structures that are checked.
+ghost use Rattle.std.specs.Prelude.{◌≤◌};
+
 use crate::checking::{CheckFault, check};
 use crate::structure::Structure;
 use sdl_signal::{SetId, name};
@@ -6,7 +8,11 @@ use std::alloc::{AllocError, Global};
 use std::test::Fail;
 
 /// The block B with the set E.
-fn one_set(alloc: Global, initial: u32, maximum: u32) -> Result<Option<Structure>, AllocError> {
+fn one_set(alloc: Global, initial: u32, maximum: u32) -> Result<Option<Structure>, AllocError>
+    requires initial { initial ≤ 1024 }
+    requires some { 1 ≤ maximum }
+    requires maximum { maximum ≤ 1024 }
+{
     match (name("B"), name("E")) {
         (Some(block), Some(set)) => Ok(Some(Structure::of_one_set(
             alloc, block, set, initial, maximum,

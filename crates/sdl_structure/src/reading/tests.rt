@@ -151,10 +151,9 @@ fn reads_the_channels_of_echo(rt: HostRuntime) -> Result<(), Fail> {
 }
 
 #[test]
-fn names_the_fault_of_the_top_table(rt: HostRuntime) -> Result<(), Fail> {
+fn names_the_fault_of_the_version(rt: HostRuntime) -> Result<(), Fail> {
     let alloc = rt.alloc();
     let version = "version = 1\n";
-    let system = "system = \"Echo\"\n";
     refuses(
         &rt,
         alloc,
@@ -162,30 +161,6 @@ fn names_the_fault_of_the_top_table(rt: HostRuntime) -> Result<(), Fail> {
         FileFault::MissingKey(place(Part::System, Key::Version)),
     );
     refuses(&rt, alloc, "x =", FileFault::NotToml);
-    refuses_echo(
-        &rt,
-        alloc,
-        system,
-        "\n",
-        "budget = 0\n",
-        FileFault::OutOfRange(place(Part::System, Key::Budget)),
-    )?;
-    refuses_echo(
-        &rt,
-        alloc,
-        system,
-        "\n",
-        "budget = 1000001\n",
-        FileFault::OutOfRange(place(Part::System, Key::Budget)),
-    )?;
-    refuses_echo(
-        &rt,
-        alloc,
-        system,
-        "\n",
-        "colour = 1\n",
-        FileFault::UnknownKey(place(Part::System, Key::Other)),
-    )?;
     refuses_echo(
         &rt,
         alloc,
@@ -201,6 +176,31 @@ fn names_the_fault_of_the_top_table(rt: HostRuntime) -> Result<(), Fail> {
         version,
         "version = \"1\"\n",
         FileFault::WrongType(place(Part::System, Key::Version)),
+    )?;
+    Ok(())
+}
+
+#[test]
+fn names_the_fault_of_the_budget(rt: HostRuntime) -> Result<(), Fail> {
+    let alloc = rt.alloc();
+    let system = "system = \"Echo\"\n";
+    let budget = FileFault::OutOfRange(place(Part::System, Key::Budget));
+    refuses_echo(&rt, alloc, system, "\n", "budget = 0\n", budget)?;
+    refuses_echo(&rt, alloc, system, "\n", "budget = 1000001\n", budget)?;
+    Ok(())
+}
+
+#[test]
+fn names_the_fault_of_the_system(rt: HostRuntime) -> Result<(), Fail> {
+    let alloc = rt.alloc();
+    let system = "system = \"Echo\"\n";
+    refuses_echo(
+        &rt,
+        alloc,
+        system,
+        "\n",
+        "colour = 1\n",
+        FileFault::UnknownKey(place(Part::System, Key::Other)),
     )?;
     refuses_echo(
         &rt,
@@ -335,8 +335,6 @@ fn names_the_fault_of_a_block(rt: HostRuntime) -> Result<(), Fail> {
 fn names_the_fault_of_a_channel(rt: HostRuntime) -> Result<(), Fail> {
     let alloc = rt.alloc();
     let inner = "[[block.channel]]";
-    let top = "[[channel]]";
-    let ends = place(Part::Channel, Key::Ends);
     let forth = place(Part::BlockChannel, Key::Forth);
     refuses_echo(
         &rt,
@@ -362,6 +360,15 @@ fn names_the_fault_of_a_channel(rt: HostRuntime) -> Result<(), Fail> {
         "[\"ping\", \"ping\"]",
         FileFault::Duplicate(forth),
     )?;
+    Ok(())
+}
+
+#[test]
+fn names_the_fault_of_the_ends_of_a_channel(rt: HostRuntime) -> Result<(), Fail> {
+    let alloc = rt.alloc();
+    let inner = "[[block.channel]]";
+    let top = "[[channel]]";
+    let ends = place(Part::Channel, Key::Ends);
     refuses_echo(
         &rt,
         alloc,
