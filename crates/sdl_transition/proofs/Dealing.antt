@@ -1,5 +1,5 @@
 -- Elements one by one, dealt to the places that a number names.
-use Rattle.std.proofs.Common.{◌≡◌, ◌≢◌, ℕ, suc, ◌+◌, ◌-◌, ◌<◌, ◌≤◌, Bool, true, false, eqb, cond, List, [], ◌∷◌, ◌++◌, length, filter, get_or, set, take, drop, ◌⊎◌, inl, inr, refl, ◌∙◌, ap, sym, subst, arith}
+use Rattle.std.proofs.Common.{◌≡◌, ◌≢◌, ℕ, suc, ◌+◌, ◌-◌, ◌<◌, ◌≤◌, eqb, cond, List, [], ◌∷◌, ◌++◌, length, filter, map, get_or, set, take, drop, inl, inr, ◌∙◌, ap, sym, subst, arith}
 use Rattle.std.proofs.lemmas.Bool.{cases_order}
 use Rattle.std.proofs.lemmas.Bool.Decides.{eqb_tells}
 use Rattle.std.proofs.lemmas.List.{get_or_append_left, get_or-append_right, get_or-set_other, get_or-set_same, length_push, append_assoc, length-append}
@@ -9,6 +9,8 @@ use Rattle.std.specs.List.{All}
 use Rattle.sdl_structure.specs.Structure.{Structure}
 use Rattle.sdl_transition.specs.declared.behaviour.Behaviour.{Behaviour}
 use Rattle.sdl_transition.specs.declared.parts.BlockParts.{BlockParts}
+use Rattle.sdl_transition.specs.Rules.{rules_of}
+use Rattle.sdl_transition.specs.Index.{IsIndexOf}
 use Rattle.sdl_transition.specs.Blocks.{EachAt, HasItsOwn, AreDealt, IsDealing, is_of_block}
 
 zero_gap : (k n : ℕ) → k ≡ n → k - n ≡ 0
@@ -78,15 +80,24 @@ all_front P xs rest x is all =
     let whole : All P (x ∷ rest) = subst (All P) is all in
     (whole 0 x (omega arith), λ k d lt. whole (suc k) d (omega arith))
 
--- at the end each block has its own
+-- at the end a block has its own
+its_own : {S I : Type 0} {F : I → Type 0} {g : _} (s : Structure) (all rest : List (Behaviour S I F g)) (k : ℕ) (p : BlockParts S I F g)
+    → length rest ≡ 0 → IsDealing s all rest k p → HasItsOwn s all k p
+its_own s all rest k p none h =
+    let own : p.behaviours.items ≡ filter (is_of_block s k) all = sym (append-nil p.behaviours.items)
+    ∙ ap (λ (left : List (Behaviour _ _ _ _)). p.behaviours.items ++ filter (is_of_block s k) left) (sym (nil_from_length rest none)) ∙ h.own in
+    record {
+      block = h.block;
+      own = own;
+      indexed = record { index = subst (λ (bs : List (Behaviour _ _ _ _)). IsIndexOf (map rules_of bs) p.index) (sym own) h.index };
+    }
+
+-- and so has each
 pub dealt : {S I : Type 0} {F : I → Type 0} {g : _} (s : Structure) (all rest : List (Behaviour S I F g)) (blocks : List (BlockParts S I F g))
     → length rest ≡ 0 → length blocks ≡ length s.blocks → EachAt (IsDealing s all rest) blocks → AreDealt s all blocks
 dealt s all rest blocks none len each = record {
   blocks_are = len;
-  each = λ k d lt. let h : IsDealing s all rest k (get_or blocks k d) = each k d lt in record {
-    own = sym (append-nil (get_or blocks k d).behaviours.items)
-        ∙ ap (λ (left : List (Behaviour _ _ _ _)). (get_or blocks k d).behaviours.items ++ filter (is_of_block s k) left) (sym (nil_from_length rest none)) ∙ h.own;
-  };
+  each = λ k d lt. let h : IsDealing s all rest k (get_or blocks k d) = each k d lt in its_own s all rest k (get_or blocks k d) none h;
 }
 
 -- a list after its first element was added

@@ -1,5 +1,5 @@
 -- The frame of a `ping` is of the offer of its row.
-use Rattle.std.proofs.Common.{◌≡◌, ℕ, ℤ, [], ◌∷◌, rules, arith, refl}
+use Rattle.std.proofs.Common.{ℤ, [], arith, refl}
 use Rattle.std.proofs.lemmas.List.Elements.{All-nil, All-cons}
 use Rattle.sdl_signal.specs.declared.values.Value.TheVariants as value
 use Rattle.sdl_transition.specs.declared.step.Frame.{Frame}

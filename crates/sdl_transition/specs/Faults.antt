@@ -2,8 +2,6 @@
 use Rattle.std.specs.Prelude.{◌≡◌, ◌≢◌, ℕ, ◌<◌, ◌≤◌, List, [], ◌∷◌, length, Option, Some, None, option_map, slice_get, IsSomeAnd, Contains, Any, ◌⊎◌, ⊤}
 use Rattle.sdl_signal.specs.declared.ids.SetId.{SetId}
 use Rattle.sdl_signal.specs.declared.ids.SignalId.{SignalId}
-use Rattle.sdl_signal.specs.declared.ids.StateId.{StateId}
-use Rattle.sdl_signal.specs.declared.ids.GateId.{GateId}
 use Rattle.sdl_signal.specs.declared.values.Value.{Value}
 use Rattle.sdl_signal.specs.declared.values.Value.TheVariants as value
 use Rattle.sdl_signal.specs.declared.values.Pid.TheVariants.{Null}
@@ -12,7 +10,7 @@ use Rattle.sdl_structure.specs.declared.parts.Gate.{Gate}
 use Rattle.sdl_structure.specs.declared.parts.Set.{Set}
 use Rattle.sdl_structure.specs.declared.parts.Channel.{Channel}
 use Rattle.sdl_structure.specs.declared.parts.SignalDecl.{SignalDecl}
-use Rattle.sdl_structure.specs.Structure.{Structure, set_at, gate_at, channel_at}
+use Rattle.sdl_structure.specs.Structure.{Structure, set_at, gate_at}
 use Rattle.sdl_routes.specs.declared.parts.Via.{Via}
 use Rattle.sdl_routes.specs.declared.parts.Via.TheVariants as via
 use Rattle.sdl_structure.specs.Order.{IsBefore}

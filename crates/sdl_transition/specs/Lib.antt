@@ -3,6 +3,8 @@ pub mod Transitions
 pub mod Declarations
 pub mod Faults
 pub mod Stages
+pub mod Rules
+pub mod Index
 pub mod Blocks
 pub mod Bound
 pub mod Tables

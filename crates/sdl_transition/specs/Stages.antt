@@ -1,5 +1,5 @@
 -- The faults of behaviours, one stage after the other: sets without a behaviour, sets with two, behaviours one by one.
-use Rattle.std.specs.Prelude.{ℕ, ◌<◌, ◌≤◌, List, length, slice_get, IfSome}
+use Rattle.std.specs.Prelude.{ℕ, ◌<◌, ◌≤◌, List, slice_get, IfSome}
 use Rattle.sdl_signal.specs.declared.ids.SetId.{SetId}
 use Rattle.sdl_structure.specs.Structure.{Structure}
 use Rattle.sdl_transition.specs.declared.faults.BindFault.{BindFault}

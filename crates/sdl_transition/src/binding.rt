@@ -5,6 +5,7 @@ ghost use Rattle.sdl_routes.specs.Routes.{AreRoutesOf};
 ghost use Rattle.sdl_transition.specs.Transitions.{IsAllowedBehaviour};
 ghost use Rattle.sdl_transition.specs.Declarations.{declared};
 ghost use Rattle.sdl_transition.specs.Faults.{FitTogether};
+ghost use Rattle.sdl_transition.specs.Index.{HasPlaces};
 ghost use Rattle.sdl_transition.specs.Blocks.{block_number, AreDealt};
 ghost use Rattle.sdl_transition.specs.Bound.{structure_of, routes_of, blocks_of, AreOneSystem, IsBound, IsRefusal};
 
@@ -34,11 +35,12 @@ pub struct Unbound<S> {
     pub fault: BindFault,
 }
 
-/// Each behaviour that fits is of a set of the structure, and so of a block.
-fn all_are_of_blocks<S>(structure: &Structure, behaviours: &[Behaviour<S>])
+/// Each behaviour that fits is of a set of the structure, and so of a block, and its numbers have places in an index.
+fn all_have_places<S>(structure: &Structure, behaviours: &[Behaviour<S>])
     requires structure { IsStructure structure.now }
     requires fit { FitTogether structure.now (map declared behaviours.now) }
-    ensures { All (λ b. block_number structure.now b.set < length structure.now.blocks) behaviours.now }
+    ensures blocks { All (λ b. block_number structure.now b.set < length structure.now.blocks) behaviours.now }
+    ensures places { All HasPlaces behaviours.now }
 {}
 
 /// The behaviours by blocks, or the same behaviours for want of memory.
@@ -52,10 +54,10 @@ fn by_blocks<S>(
     ensures ok { IfOk result (λ blocks. AreDealt structure.now behaviours.items blocks.items) }
     ensures err { IfErr result (λ same. same ≡ behaviours) }
 {
+    all_have_places(structure, behaviours.as_slice());
     match empty_parts(alloc, structure, behaviours.as_slice()) {
         Ok(blocks) => {
             let mut blocks = blocks;
-            all_are_of_blocks(structure, behaviours.as_slice());
             deal(structure, behaviours, &mut blocks);
             Ok(blocks)
         }

@@ -4,7 +4,9 @@
 pub mod agents;
 pub mod behaviour;
 pub mod binding;
+mod blocks;
 pub mod faults;
+mod index;
 pub mod offer;
 pub mod parts;
 mod probes;

@@ -1,19 +1,25 @@
 //! The agents of small systems, as their author stores them: closures that hand the frame to a function with a
 //! contract, each beside the offer that it keeps to and the table that it is exactly.
-ghost use Rattle.std.specs.Prelude.{◌≡◌, ◌<◌, [], ◌∷◌, All};
-ghost use Rattle.sdl_signal.specs.declared.values.Sort.TheVariants as sort;
+ghost use Rattle.std.specs.Prelude.{◌≡◌, All};
 ghost use Rattle.sdl_transition.specs.Offers.{IsFrameOf, Conforms};
 ghost use Rattle.sdl_transition.specs.Transitions.{IsAllowed, IsAllowedRow, IsAllowedBehaviour};
-ghost use Rattle.sdl_transition.specs.Tables.{EchoMay, RelayMay, LeadsToIdle, forwarded, IsStartOffer, IsForwardOffer, IsPingFrame};
+ghost use Rattle.sdl_transition.specs.Tables.{EchoMay, RelayMay, IsStartOffer, IsForwardOffer, IsPingFrame};
+
+pub(crate) mod offers;
+pub(crate) mod ring;
+pub(crate) mod spawn;
+pub(crate) mod steps;
 
 use crate::agents::Agents;
 use crate::behaviour::{Behaviour, Row};
 use crate::offer::{Offer, OfferedOutput, SignalSorts};
-use crate::step::{Action, Dest, Frame, Next, Step};
+use crate::step::{Frame, Step};
+use crate::systems::offers::one_integer;
+use crate::systems::steps::{forward, idle};
 use crate::transition::{Run, Transition};
 use arrayvec::ArrayVec;
 use sdl_routes::Via;
-use sdl_signal::{Pid, SetId, Signal, SignalId, Sort, StateId, Value};
+use sdl_signal::{Pid, SetId, Signal, SignalId, StateId, Value};
 use std::alloc::{AllocError, Global};
 use std::thread;
 use std::thread::Threads;
@@ -30,43 +36,6 @@ pub(crate) struct Relay;
 
 impl Agents for Relay {
     ghost may = { RelayMay };
-}
-
-fn idle(actions: ArrayVec<Action, 8>) -> Step
-    ensures { LeadsToIdle actions.items result }
-{
-    Step {
-        actions,
-        vars: ArrayVec::new(),
-        next: Next::State(StateId(0)),
-    }
-}
-
-/// An output of the other signal with the Integer of the signal consumed.
-fn forward(frame: &Frame, to: SignalId) -> Step
-    ensures { LeadsToIdle (forwarded to.0 frame.now.signal) result }
-{
-    let mut actions = ArrayVec::new();
-    if let Some(signal) = &frame.signal {
-        if let [Value::Integer(n)] = signal.params.as_slice() {
-            let mut params = ArrayVec::new();
-            params.push(Value::Integer(*n));
-            actions.push(Action::Output {
-                signal: Signal { id: to, params },
-                dest: Dest::Anywhere,
-                via: Via::Any,
-            });
-        }
-    }
-    idle(actions)
-}
-
-fn one_integer() -> ArrayVec<Sort, 4>
-    ensures { result.items ≡ sort.Integer ∷ [] }
-{
-    let mut sorts = ArrayVec::new();
-    sorts.push(Sort::Integer);
-    sorts
 }
 
 /// The offer of a start without an output.

@@ -1,6 +1,10 @@
 //! Small systems, stored and fired.
+mod binding;
+mod drafts;
+mod files;
+
 use crate::step::{Action, Dest};
-use crate::systems::{run_echo, store_anything, store_num, store_put};
+use crate::systems::{ring, run_echo, spawn, store_anything, store_num, store_put};
 use arrayvec::ArrayVec;
 use sdl_routes::Via;
 use sdl_signal::{Signal, SignalId, Value};
@@ -33,5 +37,22 @@ fn transitions_keep_their_numbers(rt: HostRuntime) -> Result<(), Fail> {
     assert_eq!(rt; store_put(rt.alloc())?, 1);
     assert_eq!(rt; store_num(rt.alloc())?, 2);
     assert_eq!(rt; store_anything(rt.alloc())?, 9);
+    let spawn = [
+        spawn::store_start(rt.alloc())?,
+        spawn::store_make(rt.alloc())?,
+        spawn::store_kill(rt.alloc())?,
+        spawn::store_query(rt.alloc())?,
+        spawn::store_ask(rt.alloc())?,
+        spawn::store_hello(rt.alloc())?,
+        spawn::store_reply(rt.alloc())?,
+        spawn::store_die(rt.alloc())?,
+    ];
+    assert_eq!(rt; spawn, [0, 1, 2, 3, 4, 5, 6, 7]);
+    let ring = [
+        ring::store_first(rt.alloc())?,
+        ring::store_start(rt.alloc())?,
+        ring::store_tok(rt.alloc())?,
+    ];
+    assert_eq!(rt; ring, [0, 1, 2]);
     Ok(())
 }

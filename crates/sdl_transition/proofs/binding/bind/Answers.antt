@@ -1,6 +1,4 @@
-use Rattle.std.proofs.Common.{map, refl, inl, inr}
-use Rattle.sdl_transition.specs.Declarations.{declared}
-use Rattle.sdl_transition.specs.Faults.{FitTogether}
+use Rattle.std.proofs.Common.{refl, inl, inr}
 use Rattle.sdl_transition.proofs.Firsts.{from_none}
 use Rattle.sdl_transition.proofs.binding.bind.Goals as goal
 

@@ -1,7 +1,10 @@
-use Rattle.std.proofs.Common.{◌≡◌, ◌≢◌, ◌<◌, ◌≤◌, ◌++◌, length, filter, get_or, set, refl, ◌∙◌, ap, sym, subst, arith}
+use Rattle.std.proofs.Common.{◌≡◌, ◌<◌, ◌++◌, length, filter, map, refl, ◌∙◌, ap, sym, subst, arith}
 use Rattle.std.specs.Prelude.{vec_capacity}
 use Rattle.std.proofs.lemmas.List.{length-set}
-use Rattle.sdl_transition.specs.Blocks.{block_number, is_of_block, EachAt, IsDealing}
+use Rattle.sdl_transition.specs.declared.parts.BlockParts.{BlockParts}
+use Rattle.sdl_transition.specs.Rules.{rules_of}
+use Rattle.sdl_transition.specs.Index.{IsIndexOf}
+use Rattle.sdl_transition.specs.Blocks.{block_number, is_of_block, IsDealing}
 use Rattle.sdl_transition.proofs.Dealing.{all_front, each_set, left_here, left_there, room_here, dealt}
 use Rattle.sdl_transition.proofs.parts.deal.Goals as goal
 
@@ -53,18 +56,23 @@ loop-rest-preserved g c =
           c.loop-rest.blocks.items _ c.block_of-block.result c.add.new.self refl (length-set c.loop-rest.blocks.items c.block_of-block.result c.add.new.self) at
           c.loop-rest.invariant.dealing
           (λ k q apart h. record {
+            block = h.block;
             own = left_there (λ b. block_number c.args.structure.now b.set) c.take_first-behaviour.result c.take_first-behaviour.new.behaviours.items
                 q.behaviours.items (filter (is_of_block c.args.structure.now k) c.args.behaviours.items) k (λ e. apart (sym e ∙ sym c.block_of-block.ensures))
                 (subst (λ left. q.behaviours.items ++ filter (is_of_block c.args.structure.now k) left ≡ filter (is_of_block c.args.structure.now k) c.args.behaviours.items) c.take_first-behaviour.ensures h.own);
             room = h.room;
+            index = h.index;
           })
           (record {
+            block = ap (λ (p : BlockParts _ _ _ _). p.block.0) c.add.ensures.same ∙ here.block;
             own = left_here (λ b. block_number c.args.structure.now b.set) c.take_first-behaviour.result c.take_first-behaviour.new.behaviours.items
                 c.index_mut.result.now.behaviours.items c.add.new.self.behaviours.items (filter (is_of_block c.args.structure.now c.block_of-block.result) c.args.behaviours.items)
                 c.block_of-block.result (sym c.block_of-block.ensures) c.add.ensures.items
                 (subst (λ left. c.index_mut.result.now.behaviours.items ++ filter (is_of_block c.args.structure.now c.block_of-block.result) left
                 ≡ filter (is_of_block c.args.structure.now c.block_of-block.result) c.args.behaviours.items) c.take_first-behaviour.ensures here.own);
             room = omega (arith, here.room, c.add.ensures.room);
+            index = subst (λ i. IsIndexOf (map rules_of (filter (is_of_block c.args.structure.now c.block_of-block.result) c.args.behaviours.items)) i)
+                (sym (ap (λ (p : BlockParts _ _ _ _). p.index) c.add.ensures.same)) here.index;
           });
     }
 

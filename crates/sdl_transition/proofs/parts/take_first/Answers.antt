@@ -1,4 +1,3 @@
-use Rattle.std.proofs.Common.{rules}
 use Rattle.sdl_transition.proofs.Dealing.{front}
 use Rattle.sdl_transition.proofs.parts.take_first.Goals as goal
 

@@ -1,4 +1,4 @@
-use Rattle.std.proofs.Common.{rules, arith, refl, ◌≡◌, ◌<◌, ◌∙◌, ap, length, map, Some, slice_get, option_map}
+use Rattle.std.proofs.Common.{rules, arith, refl, ◌∙◌, ap, map, option_map}
 use Rattle.std.proofs.lemmas.Option.{slice_get-map, slice_get_read}
 use Rattle.sdl_transition.specs.Declarations.{declared}
 use Rattle.sdl_transition.proofs.Firsts.{broken_first, behaviour_more}

@@ -1,4 +1,4 @@
-use Rattle.std.proofs.Common.{rules, ap, arith, ◌<◌, length, map}
+use Rattle.std.proofs.Common.{rules, ap, arith, length}
 use Rattle.sdl_transition.proofs.Firsts.{double_first}
 use Rattle.sdl_transition.proofs.stages.first_double.Goals as goal
 

@@ -1,4 +1,4 @@
-use Rattle.std.proofs.Common.{map, length, sym, subst}
+use Rattle.std.proofs.Common.{map, sym, subst}
 use Rattle.std.proofs.lemmas.List.{length-map}
 use Rattle.sdl_transition.specs.Declarations.{declared}
 use Rattle.sdl_transition.specs.Stages.{AllFaultless}

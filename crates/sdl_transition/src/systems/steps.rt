@@ -1,0 +1,61 @@
+//! The parts of steps that lead to idle, without variables.
+ghost use Rattle.std.specs.Prelude.{◌≡◌};
+ghost use Rattle.sdl_transition.specs.Tables.{LeadsToIdle, output, output_integer, values_of, forwarded};
+
+use crate::step::{Action, Dest, Frame, Next, Step};
+use arrayvec::ArrayVec;
+use sdl_routes::Via;
+use sdl_signal::{Signal, SignalId, StateId, Value};
+
+/// The step that does these actions.
+pub(crate) fn idle(actions: ArrayVec<Action, 8>) -> Step
+    ensures { LeadsToIdle actions.items result }
+{
+    Step {
+        actions,
+        vars: ArrayVec::new(),
+        next: Next::State(StateId(0)),
+    }
+}
+
+/// The values of the signal consumed.
+pub(crate) fn values(frame: &Frame) -> &[Value]
+    ensures { result.now ≡ values_of frame.now.signal }
+{
+    match &frame.signal {
+        Some(signal) => signal.params.as_slice(),
+        None => &[],
+    }
+}
+
+/// An output by any way.
+pub(crate) fn send(id: SignalId, params: ArrayVec<Value, 4>, dest: Dest) -> Action
+    ensures { result ≡ output id.0 params.items dest }
+{
+    Action::Output {
+        signal: Signal { id, params },
+        dest,
+        via: Via::Any,
+    }
+}
+
+/// The step with one output, of one Integer, to anywhere.
+pub(crate) fn send_integer(id: SignalId, n: i64) -> Step
+    ensures { LeadsToIdle (output_integer id.0 n) result }
+{
+    let mut params = ArrayVec::new();
+    params.push(Value::Integer(n));
+    let mut actions = ArrayVec::new();
+    actions.push(send(id, params, Dest::Anywhere));
+    idle(actions)
+}
+
+/// An output of the other signal with the Integer of the signal consumed.
+pub(crate) fn forward(frame: &Frame, to: SignalId) -> Step
+    ensures { LeadsToIdle (forwarded to.0 frame.now.signal) result }
+{
+    match values(frame) {
+        [Value::Integer(n)] => send_integer(to, *n),
+        _ => idle(ArrayVec::new()),
+    }
+}
