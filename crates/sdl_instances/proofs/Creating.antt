@@ -1,0 +1,84 @@
+-- What is done at one place among the living instances.
+use Rattle.std.proofs.Common.{◌≡◌, ℕ, zero, suc, ◌+◌, ◌<◌, ◌≤◌, List, [], ◌∷◌, ◌++◌, Option, Some, All, refl, ap, sym, ◌∙◌, subst, unwrap_or, is_some, true≢false, length, get_or, slice_get, slice_set, slice_index, arith}
+use Rattle.std.proofs.lemmas.List.Elements.{All-weaker}
+use Rattle.sdl_signal.specs.declared.ids.SetId.{SetId}
+use Rattle.sdl_signal.specs.declared.values.Pid.{Pid}
+use Rattle.sdl_signal.specs.declared.values.Pid.TheVariants as pid
+use Rattle.sdl_signal.specs.declared.values.Value.{Value}
+use Rattle.sdl_instances.specs.declared.parts.ProcessSet.{ProcessSet}
+use Rattle.sdl_instances.specs.Record.{Record}
+use Rattle.sdl_instances.specs.Machine.{State, newborn, number_living}
+use Rattle.sdl_instances.specs.Core.{HasSerial}
+use Rattle.sdl_instances.specs.Living.{StandsAt, written, born, next_of, CreatesAt}
+
+-- two readings of one place agree
+pub value_same : (es : List (Pid × Record)) (place : ℕ) (k p : Pid) (v r : Record) → slice_get es place ≡ Some (k, v) → slice_get es place ≡ Some (p, r) → v ≡ r
+value_same es place k p v r is at = ap (λ (o : Option (Pid × Record)). (unwrap_or o (p, r)).1) (sym is ∙ at)
+
+pub key_same : (es : List (Pid × Record)) (place : ℕ) (k p : Pid) (v r : Record) → slice_get es place ≡ Some (k, v) → slice_get es place ≡ Some (p, r) → k ≡ p
+key_same es place k p v r is at = ap (λ (o : Option (Pid × Record)). (unwrap_or o (p, r)).0) (sym is ∙ at)
+
+pub get_append_left : {X : Type 0} (xs ys : List X) (i : ℕ) (x : X) → slice_get xs i ≡ Some x → slice_get (xs ++ ys) i ≡ Some x
+get_append_left [] ys i x h = absurd (true≢false (sym (ap is_some h)))
+get_append_left (e ∷ xs) ys zero x h = h
+get_append_left (e ∷ xs) ys (suc i) x h = get_append_left xs ys i x h
+
+-- no living instance has the next serial number
+next_is_new : (last : List ℕ) (set : SetId) (n : ℕ) → n ≡ slice_index last set.0 → HasSerial last (pid.Inst set (n + 1)) → ⊥
+next_is_new last set n at h = (let past : n + 1 ≤ slice_index last set.0 = h.2 in omega (arith, past, at))
+
+pub fresh : (last : List ℕ) (set : SetId) (n : ℕ) (es : List (Pid × Record)) → n ≡ slice_index last set.0 → All (λ (e : Pid × Record). HasSerial last e.0) es
+    → All (λ (e : Pid × Record). pid.Inst set (n + 1) ≡ e.0 → ⊥) es
+fresh last set n es at h =
+    All-weaker (λ (e : Pid × Record). HasSerial last e.0) (λ (e : Pid × Record). pid.Inst set (n + 1) ≡ e.0 → ⊥)
+    (λ e has is. next_is_new last set n at (subst (HasSerial last) (sym is) has)) es h
+
+-- an instance that is added under the next serial number is born
+pub born_is : (es after : List (Pid × Record)) (last : List ℕ) (set : SetId) (vars : List Value) (p : Pid) (n : ℕ) (r : Record)
+    → n ≡ slice_index last set.0 → r ≡ newborn vars p → after ≡ es ++ (pid.Inst set (n + 1), r) ∷ []
+    → record { living = after; last = slice_set last set.0 (n + 1) } ≡ born (record { living = es; last = last }) set vars p
+born_is es after last set vars p n r at is made =
+    let q = pid.Inst set (slice_index last set.0 + 1) in
+    let entries : after ≡ es ++ (q, newborn vars p) ∷ [] =
+    made ∙ ap (λ (k : ℕ). es ++ (pid.Inst set (k + 1), r) ∷ []) at ∙ ap (λ (t : Record). es ++ (q, t) ∷ []) is in
+    ap (λ (l : List (Pid × Record)). record { living = l; last = slice_set last set.0 (n + 1) }) entries
+    ∙ ap (λ (k : ℕ). record { living = es ++ (q, newborn vars p) ∷ []; last = slice_set last set.0 (k + 1) }) at
+
+-- the same state with another record at the place
+written_same : (s t : State) (place : ℕ) (p : Pid) (a b : Record) → s ≡ t → a ≡ b → written s place p a ≡ written t place p b
+written_same s t place p a b is same = ap (λ (x : State). written x place p a) is ∙ ap (λ (x : Record). written t place p x) same
+
+module _ (sets : List ProcessSet) (place : ℕ) (p : Pid) (r : Record) (set : SetId) (vars : List Value) (old : State) where
+  -- one more is born, and its creator's OFFSPRING is the new instance
+  pub creates_one : (mid : State) (made parent : Pid) (d : ProcessSet) (new : State) → StandsAt old place p r → parent ≡ p
+      → slice_get sets set.0 ≡ Some d → number_living set old < d.maximum
+      → made ≡ next_of old set → mid ≡ born old set vars parent
+      → ((q : Pid) (v : Record) → StandsAt mid place q v → new ≡ written mid place q (record v { offspring = made }))
+      → CreatesAt sets place p r set vars made old new
+  creates_one mid made parent d new at is_parent here room is_made is_born is_new =
+      let stands : slice_get mid.living place ≡ Some (p, r) =
+      ap (λ (s : State). slice_get s.living place) is_born ∙ get_append_left old.living _ place (p, r) at in
+      let record_is : record r { offspring = made } ≡ record r { offspring = next_of old set } = ap (λ (x : Pid). record r { offspring = x }) is_made in
+      let born_here : mid ≡ born old set vars p = is_born ∙ ap (λ (x : Pid). born old set vars x) is_parent in
+      subst (λ (x : Pid). CreatesAt sets place p r set vars x old new) (sym is_made) (
+        (d, here, room),
+        refl,
+        is_new p r stands ∙ written_same mid (born old set vars p) place p (record r { offspring = made }) (record r { offspring = next_of old set }) born_here record_is,
+      )
+
+  -- there are as many as may be, and OFFSPRING is Null
+  pub creates_none : (made : Pid) (d : ProcessSet) (new : State)
+      → slice_get sets set.0 ≡ Some d → (number_living set old < d.maximum → ⊥)
+      → made ≡ pid.Null → new ≡ written old place p (record r { offspring = made })
+      → CreatesAt sets place p r set vars made old new
+  creates_none made d new here full is_made is_new =
+      subst (λ (x : Pid). CreatesAt sets place p r set vars x old new) (sym is_made) (
+        (λ e is lt. full (subst (λ (x : ProcessSet). number_living set old < x.maximum) (ap (λ (o : Option ProcessSet). unwrap_or o d) (sym is ∙ here)) lt)),
+        is_new ∙ ap (λ (x : Pid). written old place p (record r { offspring = x })) is_made,
+      )
+
+-- inside a list what stands for no element doesn't matter
+pub get_any : (xs : List ℕ) (k a b : ℕ) → k < length xs → get_or xs k a ≡ get_or xs k b
+get_any [] k a b h = absurd (omega (arith, h))
+get_any (x ∷ xs) zero a b h = refl
+get_any (x ∷ xs) (suc k) a b h = get_any xs k a b (omega (arith, h))

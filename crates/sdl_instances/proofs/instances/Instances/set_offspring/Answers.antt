@@ -1,0 +1,34 @@
+use Rattle.std.proofs.Common.{◌≡◌, Some, slice_get, ap, sym, ◌∙◌}
+use Rattle.indexmap.specs.Layout.{length-set_value_at}
+use Rattle.sdl_instances.specs.Record.{Record}
+use Rattle.sdl_instances.specs.Ready.{Listed, is_ready, ready_places}
+use Rattle.sdl_instances.proofs.Places.{set_value_at-is}
+use Rattle.sdl_instances.proofs.ReadyPlaces.{same_readiness, wrote}
+use Rattle.sdl_instances.proofs.instances.Instances.set_offspring.Goals as goal
+
+pub invariant_of-self : goal.invariant_of-self
+invariant_of-self c =
+    let es = c.self.inside.map.entries in
+    let k = c.pair_mut-instance.result.0.now in
+    let v = c.pair_mut-instance.result.1.now in
+    let place = c.args.place in
+    let found : slice_get es place ≡ Some (k, v) = c.pair_mut-instance.ensures.value in
+    let w = c.set_offspring.new.self in
+    same_readiness es place (k, v) (k, w) found c.self.inside.ready.items c.self.invariant (ap is_ready c.set_offspring.ensures)
+    ∙ ap (ready_places 0) (sym (set_value_at-is es place (k, v) w found))
+
+pub returns-clause-entries : goal.returns-clause-entries
+returns-clause-entries c p r at =
+    let es = c.self.inside.map.entries in
+    let k = c.pair_mut-instance.result.0.now in
+    let v = c.pair_mut-instance.result.1.now in
+    let place = c.args.place in
+    let found : slice_get es place ≡ Some (k, v) = c.pair_mut-instance.ensures.value in
+    let w = c.set_offspring.new.self in
+    let all = ap (λ (l : Listed). l.entries) c.self.view_is in
+    wrote es c.args.self.now.entries place k p v r w (record r { offspring = c.args.offspring }) all found at (λ same. c.set_offspring.ensures ∙ ap (λ (x : Record). record x { offspring = c.args.offspring }) same)
+
+pub returns-clause-births : goal.returns-clause-births
+returns-clause-births c =
+    let es = c.self.inside.map.entries in
+    rw (length-set_value_at es c.args.place c.set_offspring.new.self) (ap (λ (l : Listed). l.births) c.self.view_is)

@@ -1,0 +1,16 @@
+use Rattle.std.proofs.Common.{ap, ◌∙◌}
+use Rattle.sdl_instances.specs.Machine.{newborn}
+use Rattle.sdl_instances.proofs.Creating.{born_is, fresh, get_any}
+use Rattle.sdl_instances.proofs.living.Living.bear.Goals as goal
+
+pub add-requires : goal.add-requires
+add-requires c =
+    let serial = c.index.ensures ∙ get_any c.args.self.now.last.items c.args.set.0 c.index.result.now 0 c.requires.set in
+    record { room = c.requires.room; absent = fresh c.args.self.now.last.items c.args.set c.index.result.now c.args.self.now.instances.entries serial c.requires.serials }
+
+pub returns-clause-born : goal.returns-clause-born
+returns-clause-born c =
+    let made = c.new-instance.ensures ∙ ap (λ v. newborn v c.args.parent) (c.copied_values.ensures ∙ c.as_slice.ensures.value) in
+    let serial = c.index.ensures ∙ get_any c.args.self.now.last.items c.args.set.0 c.index.result.now 0 c.requires.set in
+    born_is c.args.self.now.instances.entries c.add.new.self.entries c.args.self.now.last.items c.args.set c.args.vars.now.items c.args.parent c.index.result.now c.new-instance.result
+    serial made c.add.ensures.entries

@@ -1,0 +1,12 @@
+pub mod Record
+pub mod Legal
+pub mod Machine
+pub mod Run
+pub mod Core
+pub mod Cores
+pub mod Ready
+pub mod Calls
+pub mod Spawn
+pub mod Living
+pub mod Turning
+pub mod Arriving

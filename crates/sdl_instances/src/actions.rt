@@ -1,0 +1,108 @@
+//! What the actions of a transition do.
+ghost use Rattle.std.specs.Prelude.{◌≡◌, ◌+◌, ◌<◌, ◌≤◌, ◌^◌, ◌++◌, ◌∷◌, [], ℕ, List, Some, length};
+ghost use Rattle.sdl_signal.specs.declared.values.Pid.{Pid};
+ghost use Rattle.sdl_signal.specs.declared.values.Sort.{Sort};
+ghost use Rattle.sdl_instances.specs.Record.{Record};
+ghost use Rattle.sdl_transition.specs.Rules.{block_rules};
+ghost use Rattle.sdl_transition.specs.Index.{IsIndexed};
+ghost use Rattle.sdl_instances.specs.Machine.{Does, set_of};
+ghost use Rattle.sdl_instances.specs.Living.{state_of, births_of, StandsAt, CanAct, CanCarryOut, CarriesOut, TakesAt, system_with};
+ghost use Rattle.std.specs.List.{AllByRecursion, flat_map};
+ghost use Rattle.sdl_instances.specs.Run.{origin_by, sent_by};
+
+use crate::copies::copied_item;
+use crate::event::Done;
+use crate::living::Living;
+use crate::outputs::{Mark, output};
+use crate::parts::ProcessSet;
+use arrayvec::ArrayVec;
+use sdl_routes::Routes;
+use sdl_signal::Item;
+use sdl_transition::{Action, Agents, BlockParts};
+
+/// Carries out an action of the instance at this place.
+fn act<S: Agents>(
+    living: &mut Living,
+    routes: &Routes,
+    parts: &BlockParts<S>,
+    sets: &[ProcessSet],
+    place: usize,
+    action: &Action,
+    mark: Mark,
+) -> Done
+    requires indexed { IsIndexed parts.now }
+    requires ready { CanCarryOut sets.now place 1 (births_of living.old) (state_of living.old) }
+    requires creatable { CanAct sets.now (block_rules parts.now) action.now }
+    ensures does { (d : _) → CarriesOut S.may sets.now routes.now (block_rules parts.now) place mark (action.now ∷ []) d (d ++ result ∷ []) (state_of living.old) (state_of living.new) }
+    ensures ready { (n : ℕ) → CanCarryOut sets.now place (n + 1) (births_of living.old) (state_of living.old) → CanCarryOut sets.now place n (births_of living.new) (state_of living.new) }
+{
+    match action {
+        Action::Output { signal, dest, via } => living.output(
+            routes, place, signal, *dest, *via, mark,
+        ),
+        Action::Create(set) => Done::Made(living.create(sets, place, *set, parts.variables(*set))),
+    }
+}
+
+/// Carries out the actions of the instance at this place, in order, and adds what each did.
+pub fn act_all<S: Agents>(
+    living: &mut Living,
+    routes: &Routes,
+    parts: &BlockParts<S>,
+    sets: &[ProcessSet],
+    place: usize,
+    actions: &[Action],
+    mark: Mark,
+    done: &mut ArrayVec<Done, 8>,
+)
+    requires indexed { IsIndexed parts.now }
+    requires ready { CanCarryOut sets.now place (length actions.now) (births_of living.old) (state_of living.old) }
+    requires creatable { AllByRecursion (CanAct sets.now (block_rules parts.now)) actions.now }
+    requires room { length done.old.items + length actions.now ≤ 8 }
+    requires numbers { mark.origin.number + length actions.now < 2 ^ 64 }
+    ensures { CarriesOut S.may sets.now routes.now (block_rules parts.now) place mark actions.now done.old.items done.new.items (state_of living.old) (state_of living.new) }
+{
+    if let Some((action, rest)) = actions.split_first() {
+        let one = act(living, routes, parts, sets, place, action, mark);
+        let next = mark.after(&one);
+        match done.try_push(one) {
+            Ok(()) => {}
+            Err(_) => unreachable!(),
+        }
+        act_all(living, routes, parts, sets, place, rest, next, done);
+    }
+}
+
+/// Adds the items that were sent, in order.
+pub fn add_sent(done: &[Done], sent: &mut ArrayVec<Item, 8>)
+    requires { length sent.old.items + length done.now ≤ 8 }
+    ensures { sent.new.items ≡ sent.old.items ++ flat_map sent_by done.now }
+{
+    if let Some((one, rest)) = done.split_first() {
+        if let Done::Sent(item) = one {
+            match sent.try_push(copied_item(item)) {
+                Ok(()) => {}
+                Err(_) => unreachable!(),
+            }
+        }
+        add_sent(rest, sent);
+    }
+}
+
+/// The number of outputs, those that no route fits included.
+pub fn number_of_outputs(done: &[Done]) -> u64
+    ensures counted { result ≡ length (flat_map origin_by done.now) }
+    ensures few { result ≤ length done.now }
+{
+    match done.split_first() {
+        Some((one, rest)) => {
+            let others = number_of_outputs(rest);
+            match one {
+                Done::Made(_) => others,
+                Done::Sent(_) => others + 1,
+                Done::NoRoute(_, _) => others + 1,
+            }
+        }
+        None => 0,
+    }
+}

@@ -1,0 +1,238 @@
+//! The core of a block: its instances with its log, and the behaviours of its sets.
+ghost use Rattle.std.specs.Prelude.{◌≡◌, List, ◌≤◌, ◌++◌, ◌∷◌, ◌<◌, ◌%◌, ◌^◌, ◌-◌, [], IfOk, IfErr, None};
+ghost use Rattle.sdl_signal.specs.declared.ids.SetId.{SetId};
+ghost use Rattle.sdl_signal.specs.declared.values.Pid.{Pid};
+ghost use Rattle.sdl_instances.specs.Legal.{GoesTo, IsOfSet};
+ghost use Rattle.sdl_instances.specs.declared.event.Arrival.TheVariants as arrival;
+ghost use Rattle.sdl_instances.specs.Machine.{Arrives, number_living};
+ghost use Rattle.std.specs.Prelude.{IsTrue, ◌↔◌};
+ghost use Rattle.sdl_instances.specs.Core.{IsReady, arrival_event, IsLivingAt, IsLegalIn, IsSound, IsBoundIn, signals_of, sets_of};
+ghost use Rattle.sdl_instances.specs.Run.{turns, waiting, initial};
+ghost use Rattle.sdl_transition.specs.Rules.{block_rules};
+ghost use Rattle.sdl_routes.specs.declared.parts.Row.{Row};
+
+use crate::event::{Arrival, Event, Trigger, Turned};
+use crate::outputs::{set_of, signal_of};
+use crate::ready::Look;
+use crate::table::Table;
+use arrayvec::ArrayVec;
+use sdl_routes::Routes;
+use sdl_signal::{Item, StateId};
+use sdl_structure::Checked;
+use sdl_transition::{Agents, BlockParts, Frame};
+use std::alloc::{AllocError, Global};
+
+/// The instances of a block with their input ports, the log of all that happened to them, and the behaviours of the
+/// block's sets.
+#[derive(Drop)]
+pub struct BlockCore<S> {
+    pub(crate) table: Table,
+    parts: BlockParts<S>,
+}
+
+impl<S: Agents> BlockCore<S> {
+    ghost use Rattle.std.specs.Prelude.{OnOk, OnErr, All, Some, true};
+    ghost use Rattle.sdl_instances.specs.Ready.{is_ready};
+    ghost use Rattle.sdl_signal.specs.declared.values.Item.{Item};
+    ghost use Rattle.sdl_instances.specs.Record.{Record};
+    ghost use Rattle.sdl_instances.specs.Cores.{core_of, parts_of, system_in, CanFire, HasTurnRoom};
+    ghost use Rattle.sdl_instances.specs.Calls.{KeepsRest, TurnAnswers, hand_of};
+    ghost use Rattle.sdl_instances.specs.Living.{StandsAt, next_frame};
+    ghost use Rattle.sdl_instances.specs.Turning.{Fires};
+
+    /// The initial instances of the block, its sets in order and none of them started. `budget` is the number of turns
+    /// that the block may have. A refusal hands the parts back.
+    pub fn new(
+        alloc: Global,
+        parts: BlockParts<S>,
+        checked: &Checked,
+        budget: u32,
+    ) -> Result<BlockCore<S>, (BlockParts<S>, AllocError)>
+        requires budget { (1 ≤ budget) × (budget ≤ 1000000) }
+        requires bound { IsBoundIn (signals_of checked.now) (sets_of checked.now) (block_rules parts) parts.block }
+        ensures initial { IfOk result (λ c. core_of c ≡ record { block = parts.block; signals = signals_of checked.now; sets = sets_of checked.now; state = initial (block_rules parts) (sets_of checked.now) parts.block; log = []; budget = budget }) }
+        ensures sound { IfOk result (λ c. (routes : List Row) → IsSound S.may (system_in c routes) (core_of c)) }
+        ensures parts { IfOk result (λ c. parts_of c ≡ parts) }
+        ensures err { IfErr result (λ e. e.0 ≡ parts) }
+    {
+        let structure = checked.structure();
+        structure.parts_agree();
+        match Table::first(alloc, &parts, structure, budget) {
+            Ok(table) => Ok(BlockCore { table, parts }),
+            Err(_) => Err((parts, AllocError)),
+        }
+    }
+
+    /// Lets an item arrive. It enters the port of the instance that its output named, or of the living one of the set at
+    /// the end of its route at `pick` modulo their number, in order of creation. It is discarded where there is none.
+    /// A refusal changes nothing and hands the item back. It costs a scan over the living instances.
+    pub fn arrive(
+        &mut self,
+        routes: &Routes,
+        item: Item,
+        pick: u32,
+    ) -> Result<Arrival, (Item, AllocError)>
+        requires stamp { item.stamp < 2 ^ 64 - 1 }
+        requires legal { IsLegalIn (system_in self.old routes.now) item }
+        requires sound { IsSound S.may (system_in self.old routes.now) (core_of self.old) }
+        requires ends_here { (set : SetId) × GoesTo routes.now item set × ((p : Pid) → item.to ≡ Some p → IsOfSet set p) }
+        ensures arrives { IfOk result (λ a. Arrives routes.now (core_of self.old).state item a (core_of self.new).state) }
+        ensures log { IfOk result (λ a. (core_of self.new).log ≡ (core_of self.old).log ++ arrival_event item a ∷ []) }
+        ensures picked { (set : SetId) (p : Pid) → GoesTo routes.now item set → item.to ≡ None → result ≡ Ok (arrival.Entered p) → IsLivingAt set (core_of self.old).state (pick % number_living set (core_of self.old).state) p }
+        ensures sound { IfOk result (λ _. IsSound S.may (system_in self.old routes.now) (core_of self.new)) }
+        ensures rest { KeepsRest (core_of self.old) (core_of self.new) }
+        ensures parts { parts_of self.new ≡ parts_of self.old }
+        ensures err { IfErr result (λ e. (e.0 ≡ item) × (core_of self.new ≡ core_of self.old)) }
+    {
+        self.table.arrive(routes, item, pick)
+    }
+
+    /// Lets the ready instance at `pick` modulo their number, in order of creation, make its start transition, or consume the
+    /// signal at the front of its port by its row or by the implicit transition (Z.101, the transition of an agent). Each
+    /// counts one against the budget. The outputs take the fitting route at the same pick. A refusal changes nothing.
+    pub fn turn(&mut self, routes: &Routes, pick: u32) -> Result<Turned, AllocError>
+        requires sound { IsSound S.may (system_in self.old routes.now) (core_of self.old) }
+        requires parts { CanFire S.may (parts_of self.old) }
+        ensures answers { IfOk result (λ t. TurnAnswers S.may (system_in self.old routes.now) pick (core_of self.old) t (core_of self.new)) }
+        ensures sound { IfOk result (λ _. IsSound S.may (system_in self.old routes.now) (core_of self.new)) }
+        ensures legal { IfOk result (λ t. All (IsLegalIn (system_in self.old routes.now)) (hand_of t)) }
+        ensures parts { parts_of self.new ≡ parts_of self.old }
+        ensures err { OnErr result (core_of self.new ≡ core_of self.old) }
+    {
+        match self.table.look(pick) {
+            Look::Idle => Ok(Turned::Idle),
+            Look::Spent => Ok(Turned::Spent),
+            Look::Next(place) => {
+                self.table.make_room()?;
+                let frame = self.table.frame(place);
+                let pid = frame.self_pid;
+                Ok(Turned::Fired(pid, self.turn_at(routes, pick, place, frame)))
+            }
+        }
+    }
+
+    /// Lets the ready instance at this place make a turn, and gives the items that it sent.
+    fn turn_at(
+        &mut self,
+        routes: &Routes,
+        pick: u32,
+        place: usize,
+        frame: Frame,
+    ) -> ArrayVec<Item, 8>
+        requires sound { IsSound S.may (system_in self.old routes.now) (core_of self.old) }
+        requires parts { CanFire S.may (parts_of self.old) }
+        requires next { (r : Record) × StandsAt (core_of self.old).state place frame.self_pid r × (frame ≡ next_frame frame.self_pid r) × (is_ready r ≡ true) }
+        requires room { HasTurnRoom self.old }
+        ensures fires { Fires S.may (system_in self.old routes.now) pick frame.self_pid (core_of self.old) result.items (core_of self.new) }
+        ensures parts { parts_of self.new ≡ parts_of self.old }
+    {
+        match frame.state {
+            None => self.start(routes, pick, place, frame),
+            Some(state) => self.fire(routes, pick, place, state, frame),
+        }
+    }
+
+    /// Lets the instance at this place make its start transition.
+    fn start(&mut self, routes: &Routes, pick: u32, place: usize, frame: Frame) -> ArrayVec<Item, 8>
+        requires sound { IsSound S.may (system_in self.old routes.now) (core_of self.old) }
+        requires parts { CanFire S.may (parts_of self.old) }
+        requires next { (r : Record) × StandsAt (core_of self.old).state place frame.self_pid r × (frame ≡ next_frame frame.self_pid r) × (r.state ≡ None) }
+        requires room { HasTurnRoom self.old }
+        ensures fires { Fires S.may (system_in self.old routes.now) pick frame.self_pid (core_of self.old) result.items (core_of self.new) }
+        ensures parts { parts_of self.new ≡ parts_of self.old }
+    {
+        let step = self.parts.start(set_of(frame.self_pid)).fire(&frame);
+        self.table.complete(
+            routes,
+            &self.parts,
+            pick,
+            place,
+            Trigger::Start,
+            frame,
+            step,
+        )
+    }
+
+    /// Lets the instance at this place consume the signal at the front of its port, in this state.
+    fn fire(
+        &mut self,
+        routes: &Routes,
+        pick: u32,
+        place: usize,
+        state: StateId,
+        frame: Frame,
+    ) -> ArrayVec<Item, 8>
+        requires sound { IsSound S.may (system_in self.old routes.now) (core_of self.old) }
+        requires parts { CanFire S.may (parts_of self.old) }
+        requires next { (r : Record) × (i : Item) × (rest : List Item) × StandsAt (core_of self.old).state place frame.self_pid r × (frame ≡ next_frame frame.self_pid r) × (r.state ≡ Some state) × (r.port ≡ i ∷ rest) }
+        requires room { HasTurnRoom self.old }
+        ensures fires { Fires S.may (system_in self.old routes.now) pick frame.self_pid (core_of self.old) result.items (core_of self.new) }
+        ensures parts { parts_of self.new ≡ parts_of self.old }
+    {
+        match self
+            .parts
+            .row(set_of(frame.self_pid), state, signal_of(&frame))
+        {
+            Some(transition) => {
+                let step = transition.fire(&frame);
+                let item = self.table.consume(place);
+                self.table.complete(
+                    routes,
+                    &self.parts,
+                    pick,
+                    place,
+                    Trigger::Fire(item),
+                    frame,
+                    step,
+                )
+            }
+            None => {
+                let item = self.table.consume(place);
+                self.table.skip(frame, item);
+                ArrayVec::new()
+            }
+        }
+    }
+
+    /// The number of signals in all ports. No memory is taken.
+    pub fn left_in_ports(&self) -> u64
+        ensures { result ≡ waiting (core_of self.now).state.living }
+    {
+        self.table.left_in_ports()
+    }
+
+    /// Whether no instance is ready for a turn. No memory is taken.
+    pub fn is_settled(&self) -> bool
+        ensures { IsTrue result ↔ ((p : Pid) → IsReady p (core_of self.now).state → ⊥) }
+    {
+        match self.table.look(0) {
+            Look::Idle => true,
+            Look::Spent => false,
+            Look::Next(_) => false,
+        }
+    }
+
+    /// The number of turns so far. No memory is taken.
+    pub fn made(&self) -> u32
+        ensures { result ≡ turns (core_of self.now).log }
+    {
+        self.table.made()
+    }
+
+    /// The log so far, the earliest event first. No memory is taken.
+    pub fn log(&self) -> &Vec<Event>
+        ensures { result.now.items ≡ (core_of self.now).log }
+    {
+        self.table.log()
+    }
+
+    /// The parts of the block, the log, and the number of signals in all ports. No memory is taken.
+    pub fn into_parts(self) -> (BlockParts<S>, Vec<Event>, u64)
+        ensures parts { result.0 ≡ parts_of self }
+        ensures log { result.1.items ≡ (core_of self).log }
+        ensures left { result.2 ≡ waiting (core_of self).state.living }
+    {
+        let left = self.table.left_in_ports();
+        (self.parts, self.table.into_log(), left)
+    }
+}

@@ -1,0 +1,27 @@
+//! The instances of one block: their input ports, their turns, and the log.
+#![tactic(auto)]
+
+mod actions;
+mod arriving;
+pub mod block;
+pub mod bounds;
+pub mod choice;
+mod copies;
+pub mod event;
+mod first;
+pub mod instance;
+mod instances;
+pub mod laws;
+mod living;
+mod outputs;
+pub mod parts;
+mod ready;
+pub mod table;
+#[cfg(test)]
+mod tests;
+mod turning;
+
+pub use block::BlockCore;
+pub use event::{Arrival, Cause, Done, Event, Trigger, Turned};
+pub use parts::ProcessSet;
+pub use sdl_transition::BlockParts;

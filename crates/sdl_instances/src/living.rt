@@ -1,0 +1,152 @@
+//! The living instances of a block.
+ghost use Rattle.std.specs.Prelude.{◌≡◌, ◌+◌, ◌<◌, ◌≤◌, ◌^◌, ◌∷◌, List, length, slice_index, OnOk, OnErr, IfOk, IfErr, ◌++◌, []};
+ghost use Rattle.sdl_signal.specs.declared.values.Pid.{Pid};
+ghost use Rattle.sdl_signal.specs.declared.values.Item.{Item};
+ghost use Rattle.sdl_instances.specs.Record.{Record};
+ghost use Rattle.sdl_instances.specs.Machine.{consumed};
+ghost use Rattle.sdl_instances.specs.Living.{state_of, births_of, StandsAt, HaveSerials, written, born, next_of, next_frame, CreatesAt, FinishesAt, OutputsAs};
+
+use crate::choice::number_of;
+use crate::copies::{copied_item, copied_values};
+use crate::event::Done;
+use crate::first::numbers_at;
+use crate::instance::Instance;
+use crate::instances::Instances;
+use crate::outputs::{Mark, output};
+use crate::parts::ProcessSet;
+use arrayvec::ArrayVec;
+use sdl_routes::{Routes, Via};
+use sdl_signal::{Item, Pid, SetId, Signal, Value};
+use sdl_transition::{Dest, Frame, Next};
+use std::alloc::{AllocError, Global};
+
+/// The living instances of a block in the order of their creation, and the last serial number that each set of the
+/// structure has given out.
+#[derive(Drop)]
+pub struct Living {
+    pub(crate) alloc: Global,
+    pub(crate) instances: Instances,
+    pub(crate) last: Vec<u32>,
+}
+
+impl Living {
+    /// Takes room for as many instances as a turn can create. A refusal changes no instance.
+    pub fn make_room(&mut self) -> Result<(), AllocError>
+        ensures same { state_of self.new ≡ state_of self.old }
+        ensures room { OnOk result (8 ≤ births_of self.new) }
+    {
+        self.instances.make_room()
+    }
+
+    /// The Pid of the instance at this place.
+    pub fn pid(&self, place: usize) -> Pid
+        requires { place < length (state_of self.now).living }
+        ensures { (p : Pid) (r : Record) → StandsAt (state_of self.now) place p r → result ≡ p }
+    {
+        let (pid, _) = self.instances.get(place);
+        pid
+    }
+
+    /// What the next transition of the instance at this place is shown.
+    pub fn frame(&self, place: usize) -> Frame
+        requires { place < length (state_of self.now).living }
+        ensures { (p : Pid) (r : Record) → StandsAt (state_of self.now) place p r → result ≡ next_frame p r }
+    {
+        let (pid, instance) = self.instances.get(place);
+        instance.frame(pid)
+    }
+
+    /// Carries out an output of the instance at this place.
+    pub fn output(
+        &self,
+        routes: &Routes,
+        place: usize,
+        signal: &Signal,
+        dest: Dest,
+        via: Via,
+        mark: Mark,
+    ) -> Done
+        requires within { place < length (state_of self.now).living }
+        requires serials { HaveSerials (state_of self.now) }
+        ensures { (p : Pid) (r : Record) → StandsAt (state_of self.now) place p r → OutputsAs routes.now p r signal.now dest via mark result }
+    {
+        let (pid, instance) = self.instances.get(place);
+        output(routes, pid, instance, signal, dest, via, mark)
+    }
+
+    /// Takes the signal at the front of its port from the instance at this place, whose SENDER it sets.
+    pub fn consume(&mut self, place: usize) -> Item
+        requires within { place < length (state_of self.old).living }
+        requires front { (p : Pid) (r : Record) → StandsAt (state_of self.old) place p r → 0 < length r.port }
+        ensures consumed { (p : Pid) (r : Record) → StandsAt (state_of self.old) place p r → (rest : List Item) × (r.port ≡ result ∷ rest) × (state_of self.new ≡ written (state_of self.old) place p (consumed r result rest)) }
+        ensures births { births_of self.new ≡ births_of self.old }
+    {
+        self.instances.consume(place)
+    }
+
+    /// Adds an instance of the set, of its next serial number, with the variables and the parent.
+    fn bear(&mut self, set: SetId, vars: &ArrayVec<Value, 8>, parent: Pid) -> Pid
+        requires set { set.0 < length (state_of self.old).last }
+        requires room { 0 < births_of self.old }
+        requires serials { HaveSerials (state_of self.old) }
+        requires few { slice_index (state_of self.old).last set.0 + 1 < 2 ^ 32 }
+        ensures pid { result ≡ next_of (state_of self.old) set }
+        ensures born { state_of self.new ≡ born (state_of self.old) set vars.now.items parent }
+        ensures births { births_of self.old < births_of self.new + 2 }
+    {
+        let serial = self.last[set.0 as usize] + 1;
+        let pid = Pid::Inst(set, serial);
+        let instance = Instance::new(self.alloc, copied_values(vars.as_slice()), parent);
+        self.instances.add(pid, instance);
+        self.last[set.0 as usize] = serial;
+        pid
+    }
+
+    /// Lets the instance at this place create one of the set. Where the set has as many as it may have, none is made, and
+    /// the answer and OFFSPRING are Null.
+    pub fn create(
+        &mut self,
+        sets: &[ProcessSet],
+        place: usize,
+        set: SetId,
+        vars: &ArrayVec<Value, 8>,
+    ) -> Pid
+        requires within { place < length (state_of self.old).living }
+        requires set { (set.0 < length sets.now) × (set.0 < length (state_of self.old).last) }
+        requires room { 0 < births_of self.old }
+        requires serials { HaveSerials (state_of self.old) }
+        requires few { slice_index (state_of self.old).last set.0 + 1 < 2 ^ 32 }
+        ensures creates { (p : Pid) (r : Record) → StandsAt (state_of self.old) place p r → CreatesAt sets.now place p r set vars.now.items result (state_of self.old) (state_of self.new) }
+        ensures births { births_of self.old < births_of self.new + 2 }
+    {
+        let creator = self.pid(place);
+        let numbers = numbers_at(sets, set.0 as usize);
+        let made = if number_of(self.instances.map().keys().as_slice(), set)
+            < numbers.maximum as usize
+        {
+            self.bear(set, vars, creator)
+        } else {
+            Pid::Null
+        };
+        self.instances.set_offspring(place, made);
+        made
+    }
+
+    /// Ends a transition of the instance at this place: it goes on in a state with these variables, or it stops. After a
+    /// stop the answer is the number of signals that were in its port.
+    pub fn finish(&mut self, place: usize, vars: &ArrayVec<Value, 8>, next: Next) -> Option<u64>
+        requires within { place < length (state_of self.old).living }
+        ensures { (p : Pid) (r : Record) → StandsAt (state_of self.old) place p r → FinishesAt place p r vars.now.items next result (state_of self.old) (state_of self.new) }
+    {
+        match next {
+            Next::State(state) => {
+                self.instances.proceed(place, state, vars);
+                None
+            }
+            Next::Stop => {
+                let (_, instance) = self.instances.remove(place);
+                Some(instance.port_len())
+            }
+        }
+    }
+}

@@ -1,0 +1,239 @@
+//! The instances of a block with its log.
+ghost use Rattle.std.specs.Prelude.{◌≡◌, ℕ, ◌++◌, ◌∷◌, ◌<◌, ◌≤◌, ◌%◌, ◌^◌, ◌-◌, [], OnOk, OnErr, IfOk, IfErr, slice_get, length, None, Some};
+ghost use Rattle.sdl_signal.specs.declared.ids.SetId.{SetId};
+ghost use Rattle.sdl_signal.specs.declared.values.Pid.{Pid};
+ghost use Rattle.sdl_routes.specs.declared.parts.Row.{Row};
+ghost use Rattle.sdl_routes.specs.declared.parts.EndPoint.TheVariants as ends;
+ghost use Rattle.sdl_instances.specs.Legal.{GoesTo, IsOfSet};
+ghost use Rattle.sdl_instances.specs.Record.{Record};
+ghost use Rattle.sdl_instances.specs.Machine.{Arrives, Becomes, number_living, pids};
+ghost use Rattle.sdl_instances.specs.Core.{arrival_event, IsLivingAt, signals_of, sets_of};
+ghost use Rattle.sdl_instances.specs.Living.{state_of, births_of};
+ghost use Rattle.sdl_instances.specs.Run.{turns, waiting, initial};
+ghost use Rattle.sdl_transition.specs.Rules.{block_rules};
+ghost use Rattle.sdl_instances.specs.declared.event.Arrival.TheVariants as arrival;
+
+use crate::choice::{number_of, place_of};
+use crate::copies::copied_item;
+use crate::event::{Arrival, Cause, Event};
+use crate::first::{first_living, first_serials, numbers_of_sets, sorts_of};
+use crate::instances::Instances;
+use crate::living::Living;
+use crate::parts::ProcessSet;
+use crate::ready::Look;
+use arrayvec::ArrayVec;
+use sdl_routes::{EndPoint, Routes};
+use sdl_signal::{BlockId, Item, Pid, RouteId, SetId, Sort};
+use sdl_structure::Structure;
+use sdl_transition::BlockParts;
+use std::alloc::{AllocError, Global};
+use std::marker::Model;
+
+/// The living instances of a block in the order of their creation, the serial numbers given out, and the log. The sorts
+/// of the signals and the numbers of the sets are those of the whole structure.
+#[derive(Drop)]
+pub struct Table {
+    pub(crate) block: BlockId,
+    pub(crate) signals: Vec<ArrayVec<Sort, 4>>,
+    pub(crate) sets: Vec<ProcessSet>,
+    pub(crate) living: Living,
+    pub(crate) log: Vec<Event>,
+    pub(crate) outputs: u64,
+    pub(crate) stamp: u64,
+    pub(crate) made: u32,
+    pub(crate) budget: u32,
+}
+
+impl Model for Table {
+    ghost use Rattle.std.specs.Prelude.{map, vec_capacity};
+    ghost use Rattle.sdl_instances.specs.Core.{Held};
+    ghost use Rattle.sdl_instances.specs.Living.{state_of, births_of};
+    ghost use Rattle.sdl_instances.specs.Run.{IsCounted};
+
+    ghost Value = { Held };
+
+    ghost view = { λ t. record { core = record { block = t.block; signals = map (λ s. s.items) t.signals.items; sets = t.sets.items; state = state_of t.living; log = t.log.items; budget = t.budget }; capacity = vec_capacity t.log; births = births_of t.living } };
+
+    ghost invariant = { λ t. IsCounted t.log.items (state_of t.living).living t.outputs t.stamp t.made t.budget };
+}
+
+impl Table {
+    /// The table before any event: the initial instances, none started.
+    pub fn first<S>(
+        alloc: Global,
+        parts: &BlockParts<S>,
+        structure: &Structure,
+        budget: u32,
+    ) -> Result<Table, AllocError>
+        requires { length structure.now.sets ≤ 64 }
+        ensures { IfOk result (λ t. t.core ≡ record { block = parts.now.block; signals = signals_of structure.now; sets = sets_of structure.now; state = initial (block_rules parts.now) (sets_of structure.now) parts.now.block; log = []; budget = budget }) }
+    {
+        let signals = sorts_of(alloc, structure.signals())?;
+        let sets = numbers_of_sets(alloc, structure.sets())?;
+        let last = first_serials(alloc, parts.block, sets.as_slice())?;
+        let instances = Instances::of_map(alloc, first_living(alloc, parts, sets.as_slice())?)?;
+        Ok(Table {
+            block: parts.block,
+            signals,
+            sets,
+            living: Living {
+                alloc,
+                instances,
+                last,
+            },
+            log: Vec::new(alloc),
+            outputs: 0,
+            stamp: 0,
+            made: 0,
+            budget,
+        })
+    }
+}
+
+/// The set at the end of the item's route.
+fn end_of(routes: &Routes, route: RouteId) -> SetId
+    requires { (set : SetId) × (row : Row) × (slice_get routes.now route.0 ≡ Some row) × (row.route.end ≡ ends.Set set) }
+    ensures { (row : Row) × (slice_get routes.now route.0 ≡ Some row) × (row.route.end ≡ ends.Set result) }
+{
+    match routes.get(route) {
+        Some(found) => match found.end {
+            EndPoint::Set(set) => set,
+            EndPoint::Environment(_) => unreachable!(),
+        },
+        None => unreachable!(),
+    }
+}
+
+impl Table {
+    /// Puts the item into the port of the instance at this place. A refusal changes nothing.
+    fn enter(&mut self, place: usize, item: Item) -> Result<Pid, (Item, AllocError)>
+        requires stamp { item.stamp < 2 ^ 64 - 1 }
+        requires within { place < length self.old.core.state.living }
+        ensures entered { IfOk result (λ p. (r : Record) × Becomes p r (record r { port = r.port ++ item ∷ [] }) self.old.core.state self.new.core.state) }
+        ensures place { IfOk result (λ p. slice_get (pids self.old.core.state) place ≡ Some p) }
+        ensures log { IfOk result (λ p. self.new.core.log ≡ self.old.core.log ++ arrival_event item (arrival.Entered p) ∷ []) }
+        ensures rest { (self.new.core.block ≡ self.old.core.block) × (self.new.core.signals ≡ self.old.core.signals) × (self.new.core.sets ≡ self.old.core.sets) × (self.new.core.budget ≡ self.old.core.budget) }
+        ensures err { IfErr result (λ e. (e.0 ≡ item) × (self.new.core ≡ self.old.core)) }
+    {
+        if self.log.reserve(1).is_err() {
+            return Err((item, AllocError));
+        }
+        let copy = copied_item(&item);
+        let pid = match self.living.instances.receive(place, copy) {
+            Ok(pid) => pid,
+            Err(_) => return Err((item, AllocError)),
+        };
+        self.stamp = self.stamp.max(item.stamp + 1);
+        match self.log.push(Event::Entered(item, pid)) {
+            Ok(()) => Ok(pid),
+            Err(_) => unreachable!(),
+        }
+    }
+
+    /// Discards the item. A refusal changes nothing.
+    fn discard(&mut self, cause: Cause, item: Item) -> Result<(), (Item, AllocError)>
+        requires stamp { item.stamp < 2 ^ 64 - 1 }
+        ensures log { OnOk result (self.new.core.log ≡ self.old.core.log ++ arrival_event item (arrival.Discarded cause) ∷ []) }
+        ensures state { OnOk result (self.new.core.state ≡ self.old.core.state) }
+        ensures rest { (self.new.core.block ≡ self.old.core.block) × (self.new.core.signals ≡ self.old.core.signals) × (self.new.core.sets ≡ self.old.core.sets) × (self.new.core.budget ≡ self.old.core.budget) }
+        ensures err { IfErr result (λ e. (e.0 ≡ item) × (self.new.core ≡ self.old.core)) }
+    {
+        if self.log.reserve(1).is_err() {
+            return Err((item, AllocError));
+        }
+        self.stamp = self.stamp.max(item.stamp + 1);
+        match self.log.push(Event::Discarded(item, cause)) {
+            Ok(()) => Ok(()),
+            Err(_) => unreachable!(),
+        }
+    }
+}
+
+impl Table {
+    ghost use Rattle.sdl_instances.specs.Calls.{LookFinds};
+
+    /// Lets an item arrive: it enters the port of a living instance that it admits, or is discarded where there is none. A refusal changes nothing.
+    pub fn arrive(
+        &mut self,
+        routes: &Routes,
+        item: Item,
+        pick: u32,
+    ) -> Result<Arrival, (Item, AllocError)>
+        requires stamp { item.stamp < 2 ^ 64 - 1 }
+        requires ends_here { (set : SetId) × GoesTo routes.now item set × ((p : Pid) → item.to ≡ Some p → IsOfSet set p) }
+        ensures arrives { IfOk result (λ a. Arrives routes.now self.old.core.state item a self.new.core.state) }
+        ensures log { IfOk result (λ a. self.new.core.log ≡ self.old.core.log ++ arrival_event item a ∷ []) }
+        ensures picked { (set : SetId) (p : Pid) → GoesTo routes.now item set → item.to ≡ None → result ≡ Ok (arrival.Entered p) → IsLivingAt set self.old.core.state (pick % number_living set self.old.core.state) p }
+        ensures rest { (self.new.core.block ≡ self.old.core.block) × (self.new.core.signals ≡ self.old.core.signals) × (self.new.core.sets ≡ self.old.core.sets) × (self.new.core.budget ≡ self.old.core.budget) }
+        ensures err { IfErr result (λ e. (e.0 ≡ item) × (self.new.core ≡ self.old.core)) }
+    {
+        match item.to {
+            Some(pid) => match self.living.instances.map().get_index_of(&pid) {
+                Some(place) => Ok(Arrival::Entered(self.enter(place, item)?)),
+                None => {
+                    self.discard(Cause::Gone, item)?;
+                    Ok(Arrival::Discarded(Cause::Gone))
+                }
+            },
+            None => {
+                let set = end_of(routes, item.route);
+                let keys = self.living.instances.map().keys().as_slice();
+                let living = number_of(keys, set);
+                if living == 0 {
+                    self.discard(Cause::NoInstance, item)?;
+                    return Ok(Arrival::Discarded(Cause::NoInstance));
+                }
+                let place = place_of(keys, set, pick as usize % living);
+                Ok(Arrival::Entered(self.enter(place, item)?))
+            }
+        }
+    }
+
+    /// The log so far.
+    pub fn log(&self) -> &Vec<Event>
+        ensures { result.now.items ≡ self.now.core.log }
+    {
+        &self.log
+    }
+
+    /// What a turn at this pick finds.
+    pub fn look(&self, pick: u32) -> Look
+        ensures { LookFinds pick self.now.core result }
+    {
+        let ready = self.living.instances.ready();
+        if ready.len() == 0 {
+            return Look::Idle;
+        }
+        let place = ready[pick as usize % ready.len()];
+        if self.made == self.budget {
+            Look::Spent
+        } else {
+            Look::Next(place)
+        }
+    }
+
+    /// The number of turns so far. No memory is taken.
+    pub fn made(&self) -> u32
+        ensures { result ≡ turns self.now.core.log }
+    {
+        self.made
+    }
+
+    /// The number of signals in all ports. No memory is taken.
+    pub fn left_in_ports(&self) -> u64
+        ensures { result ≡ waiting self.now.core.state.living }
+    {
+        let mut count: u64 = 0;
+        for instance in self.living.instances.values() {
+            count += instance.port_len();
+        }
+        count
+    }
+
+    /// The log.
+    pub fn into_log(self) -> Vec<Event>
+        ensures { result.items ≡ self.core.log }
+    {
+        self.log
+    }
+}
