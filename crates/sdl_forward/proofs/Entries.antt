@@ -1,0 +1,179 @@
+-- What waits at a station, when the entry at one place of the list changes.
+use Rattle.std.proofs.Common.{◌≡◌, ◌≢◌, ℕ, zero, suc, ◌<◌, false, cond, List, [], ◌∷◌, ◌++◌, length, Option, Some, None, MatchOption, Result, Ok, Err, MatchResult, Contains, slice_get, slice_set, slice_index_or, refl, ap, sym, ◌∙◌, subst, arith}
+use Rattle.std.proofs.lemmas.Bool.{cond-true, cond-false}
+use Rattle.std.proofs.lemmas.List.{length-map}
+use Rattle.std.proofs.lemmas.Option.{same_Some, slice_get-get_or, slice_get_within, slice_get_read}
+use Rattle.std.specs.declared.alloc.AllocError.{AllocError}
+use Rattle.sdl_signal.specs.declared.values.Item.{Item}
+use Rattle.sdl_routes.specs.declared.parts.Station.{Station}
+use Rattle.sdl_queue.specs.declared.rest.Rest.{Rest}
+use Rattle.sdl_queue.specs.declared.rest.Rest.TheVariants.{Serial, Ruled}
+use Rattle.sdl_queue.specs.Ends.{Account}
+use Rattle.sdl_queue.specs.Rest.{left_in}
+use Rattle.sdl_forward.specs.declared.index.Index.{Index}
+use Rattle.sdl_forward.specs.Boards.{same_station, stations_of, waiting, lists_of, ChangesOnly}
+use Rattle.sdl_forward.specs.Index.{place_of, IsIndexOf, AreSerial}
+use Rattle.sdl_forward.proofs.Same.{same_station_itself, other_station}
+
+-- the entry at a place, read and written
+get_here : {X : Type 0} (xs : List X) (k : ℕ) (old new : X) → slice_get xs k ≡ Some old → slice_get (slice_set xs k new) k ≡ Some new
+get_here [] k old new at = let e : None ≡ Some old = at in cc
+get_here (x ∷ xs) zero old new at = refl
+get_here (x ∷ xs) (suc k) old new at = get_here xs k old new at
+
+get_other : {X : Type 0} (xs : List X) (k j : ℕ) (new : X) → j ≢ k → slice_get (slice_set xs k new) j ≡ slice_get xs j
+get_other [] k j new n = refl
+get_other (x ∷ xs) zero zero new n = absurd (n refl)
+get_other (x ∷ xs) zero (suc j) new n = refl
+get_other (x ∷ xs) (suc k) zero new n = refl
+get_other (x ∷ xs) (suc k) (suc j) new n = get_other xs k j new (λ e. n (ap suc e))
+
+pub set_same : {X : Type 0} (xs : List X) (k : ℕ) (x : X) → slice_get xs k ≡ Some x → slice_set xs k x ≡ xs
+set_same [] k x at = refl
+set_same (y ∷ xs) zero x at = let e : Some y ≡ Some x = at in ap (λ z. z ∷ xs) (sym (same_Some y x e))
+set_same (y ∷ xs) (suc k) x at = ap (λ zs. y ∷ zs) (set_same xs k x at)
+
+-- the stations of the entries
+pub stations-lists : (rests : List (Station × Rest)) → stations_of (lists_of rests) ≡ stations_of rests
+stations-lists [] = refl
+stations-lists (r ∷ rests) = ap (λ ss. r.0 ∷ ss) (stations-lists rests)
+
+pub stations_get : {X : Type 0} (es : List (Station × X)) (k : ℕ) (e : Station × X) → slice_get es k ≡ Some e → slice_get (stations_of es) k ≡ Some e.0
+stations_get [] k e at = let f : None ≡ Some e = at in cc
+stations_get (x ∷ es) zero e at = ap (λ y. Some y.0) (same_Some x e at)
+stations_get (x ∷ es) (suc k) e at = stations_get es k e at
+
+pub stations_set : {X : Type 0} (es : List (Station × X)) (k : ℕ) (old new : Station × X) → slice_get es k ≡ Some old → new.0 ≡ old.0 → stations_of (slice_set es k new) ≡ stations_of es
+stations_set [] k old new at same = refl
+stations_set (x ∷ es) zero old new at same = ap (λ s. s ∷ stations_of es) (same ∙ sym (ap (λ (y : Station × _). y.0) (same_Some x old at)))
+stations_set (x ∷ es) (suc k) old new at same = ap (λ ss. x.0 ∷ ss) (stations_set es k old new at same)
+
+lists_get : (rests : List (Station × Rest)) (k : ℕ) (r : Station × Rest) → slice_get rests k ≡ Some r → slice_get (lists_of rests) k ≡ Some (r.0, left_in r.1)
+lists_get [] k r at = let f : None ≡ Some r = at in cc
+lists_get (x ∷ rests) zero r at = ap (λ (y : Station × Rest). Some (y.0, left_in y.1)) (same_Some x r at)
+lists_get (x ∷ rests) (suc k) r at = lists_get rests k r at
+
+lists_set : (rests : List (Station × Rest)) (k : ℕ) (r : Station × Rest) → lists_of (slice_set rests k r) ≡ slice_set (lists_of rests) k (r.0, left_in r.1)
+lists_set [] k r = refl
+lists_set (x ∷ rests) zero r = refl
+lists_set (x ∷ rests) (suc k) r = ap (λ es. (x.0, left_in x.1) ∷ es) (lists_set rests k r)
+
+-- what waits at the station of an entry, where no other entry is of that station
+waiting_at : (es : List (Station × List Item)) (k : ℕ) (s : Station) (items : List Item) → slice_get es k ≡ Some (s, items)
+    → ((j : ℕ) → slice_get (stations_of es) j ≡ Some s → j ≡ k) → waiting es s ≡ items
+waiting_at [] k s items at only = let f : ◌≡◌ {A = Option (Station × List Item)} None (Some (s, items)) = at in cc
+waiting_at (e ∷ es) zero s items at only =
+    let is : e ≡ (s, items) = same_Some e (s, items) at in
+    subst (λ (x : Station × List Item). cond (same_station x.0 s) x.1 (waiting es s) ≡ items) (sym is)
+    (cond-true (same_station s s) items (waiting es s) (same_station_itself s))
+waiting_at (e ∷ es) (suc k) s items at only =
+    let not_here : e.0 ≢ s = λ p. (let z : zero ≡ suc k = only zero (ap Some p) in cc) in
+    cond-false (same_station e.0 s) e.1 (waiting es s) (other_station e.0 s not_here)
+    ∙ waiting_at es k s items at (λ j h. let z : suc j ≡ suc k = only (suc j) h in omega arith)
+
+pub waiting_none : (es : List (Station × List Item)) (s : Station) → ((j : ℕ) → slice_get (stations_of es) j ≢ Some s) → waiting es s ≡ []
+waiting_none [] s none = refl
+waiting_none (e ∷ es) s none =
+    cond-false (same_station e.0 s) e.1 (waiting es s) (other_station e.0 s (λ p. none zero (ap Some p)))
+    ∙ waiting_none es s (λ j. none (suc j))
+
+-- at another station the same items wait
+waiting_other : (es : List (Station × List Item)) (k : ℕ) (s t : Station) (old new : List Item) → slice_get es k ≡ Some (s, old) → t ≢ s
+    → waiting (slice_set es k (s, new)) t ≡ waiting es t
+waiting_other [] k s t old new at n = refl
+waiting_other (e ∷ es) zero s t old new at n =
+    let is : e ≡ (s, old) = same_Some e (s, old) at in
+    let other : same_station s t ≡ false = other_station s t (λ p. n (sym p)) in
+    cond-false (same_station s t) new (waiting es t) other
+    ∙ sym (subst (λ (x : Station × List Item). cond (same_station x.0 t) x.1 (waiting es t) ≡ waiting es t) (sym is) (cond-false (same_station s t) old (waiting es t) other))
+waiting_other (e ∷ es) (suc k) s t old new at n = ap (λ items. cond (same_station e.0 t) e.1 items) (waiting_other es k s t old new at n)
+
+-- the place of a station is that of its entry, and of no other
+pub one_place : (index : Index) (stations : List Station) (s : Station) (k : ℕ) → IsIndexOf index stations → place_of index s ≡ Some k
+    → (j : ℕ) → slice_get stations j ≡ Some s → j ≡ k
+one_place index stations s k ok found j at = same_Some j k (sym (ok.every s j at) ∙ found)
+
+pub found_within : (index : Index) (rests : List (Station × Rest)) (s : Station) (k : ℕ) → IsIndexOf index (stations_of rests) → place_of index s ≡ Some k → k < length rests
+found_within index rests s k ok found =
+    subst (λ n. k < n) (length-map rests (λ e. e.0)) (slice_get_within (stations_of rests) k s (ok.only s k found))
+
+pub not_found : (index : Index) (rests : List (Station × Rest)) (s : Station) → IsIndexOf index (stations_of rests) → place_of index s ≡ None → waiting (lists_of rests) s ≡ []
+not_found index rests s ok absent = waiting_none (lists_of rests) s
+    (λ j at. let there : slice_get (stations_of rests) j ≡ Some s = subst (λ (ss : List Station). slice_get ss j ≡ Some s) (stations-lists rests) at in
+    let e : Some j ≡ None = sym (ok.every s j there) ∙ absent in cc)
+
+pub contained_found : (index : Index) (rests : List (Station × Rest)) (s : Station) → IsIndexOf index (stations_of rests) → Contains (stations_of (lists_of rests)) s → place_of index s ≢ None
+contained_found index rests s ok h absent =
+    let has : Contains (stations_of rests) s = subst (λ (ss : List Station). Contains ss s) (stations-lists rests) h in
+    let at : slice_get (stations_of rests) has.0 ≡ Some s = slice_get-get_or (stations_of rests) has.0 s has.1 ∙ ap Some has.2 in
+    let e : Some has.0 ≡ None = sym (ok.every s has.0 at) ∙ absent in cc
+
+pub serial_set : (rests : List (Station × Rest)) (k : ℕ) (s : Station) (queue : List Item) → AreSerial rests → AreSerial (slice_set rests k (s, Serial queue))
+serial_set [] k s queue serial j e at = serial j e at
+serial_set (x ∷ rests) zero s queue serial zero e at = (queue, ap (λ (y : Station × Rest). y.1) (sym (same_Some (s, Serial queue) e at)))
+serial_set (x ∷ rests) zero s queue serial (suc j) e at = serial (suc j) e at
+serial_set (x ∷ rests) (suc k) s queue serial zero e at = serial zero e at
+serial_set (x ∷ rests) (suc k) s queue serial (suc j) e at = serial_set rests k s queue (λ i f h. serial (suc i) f h) j e at
+
+pub not_ruled : (rests : List (Station × Rest)) (k : ℕ) (e : Station × Rest) (account : Account) → AreSerial rests → slice_get rests k ≡ Some e → e.1 ≡ Ruled account → ⊥
+not_ruled rests k e account serial at is = let f : Ruled account ≡ Serial (serial k e at).0 = sym is ∙ (serial k e at).1 in cc
+
+pub entry_here : (index : Index) (rests : List (Station × Rest)) (s : Station) (k : ℕ) (e : Station × Rest) → IsIndexOf index (stations_of rests) → place_of index s ≡ Some k
+    → e ≡ slice_index_or rests k e → slice_get rests k ≡ Some e
+entry_here index rests s k e ok found is = slice_get_read rests (length rests) k e refl (found_within index rests s k ok found) is
+
+-- the entry at the place of a station, and what another queue there changes
+module _ (index : Index) (rests : List (Station × Rest)) (s : Station) (k : ℕ) (entry : Station × Rest)
+    (ok : IsIndexOf index (stations_of rests)) (found : place_of index s ≡ Some k) (here : slice_get rests k ≡ Some entry) where
+  its_station : entry.0 ≡ s
+  its_station = same_Some entry.0 s (sym (stations_get rests k entry here) ∙ ok.only s k found)
+
+  alone : (es : List (Station × List Item)) → stations_of es ≡ stations_of rests → (j : ℕ) → slice_get (stations_of es) j ≡ Some s → j ≡ k
+  alone es same j at = one_place index (stations_of rests) s k ok found j (subst (λ (ss : List Station). slice_get ss j ≡ Some s) same at)
+
+  entry_at : slice_get (lists_of rests) k ≡ Some (s, left_in entry.1)
+  entry_at = subst (λ (t : Station). slice_get (lists_of rests) k ≡ Some (t, left_in entry.1)) its_station (lists_get rests k entry here)
+
+  pub waits : waiting (lists_of rests) s ≡ left_in entry.1
+  waits = waiting_at (lists_of rests) k s (left_in entry.1) entry_at (alone (lists_of rests) (stations-lists rests))
+
+  pub stations_same : (queue : List Item) → stations_of (slice_set rests k (entry.0, Serial queue)) ≡ stations_of rests
+  stations_same queue = stations_set rests k entry (entry.0, Serial queue) here refl
+
+  now_list : (queue : List Item) → lists_of (slice_set rests k (entry.0, Serial queue)) ≡ slice_set (lists_of rests) k (s, queue)
+  now_list queue = lists_set rests k (entry.0, Serial queue) ∙ ap (λ (t : Station). slice_set (lists_of rests) k (t, queue)) its_station
+
+  pub waits_now : (queue : List Item) → waiting (lists_of (slice_set rests k (entry.0, Serial queue))) s ≡ queue
+  waits_now queue = waiting_at (lists_of (slice_set rests k (entry.0, Serial queue))) k s queue
+      (ap (λ (es : List (Station × List Item)). slice_get es k) (now_list queue) ∙ get_here (lists_of rests) k (s, left_in entry.1) (s, queue) entry_at)
+      (alone (lists_of (slice_set rests k (entry.0, Serial queue))) (stations-lists (slice_set rests k (entry.0, Serial queue)) ∙ stations_same queue))
+
+  pub changes : (queue : List Item) → ChangesOnly (lists_of rests) (lists_of (slice_set rests k (entry.0, Serial queue))) s
+  changes queue = record {
+    stations = stations-lists (slice_set rests k (entry.0, Serial queue)) ∙ stations_same queue ∙ sym (stations-lists rests);
+    others = λ t n. ap (λ (es : List (Station × List Item)). waiting es t) (now_list queue) ∙ waiting_other (lists_of rests) k s t (left_in entry.1) queue entry_at n;
+  }
+
+  pub index_same : (queue : List Item) → IsIndexOf index (stations_of (slice_set rests k (entry.0, Serial queue)))
+  index_same queue = subst (λ (ss : List Station). IsIndexOf index ss) (sym (stations_same queue)) ok
+
+  module _ (queue after : List Item) (serial : entry.1 ≡ Serial queue) where
+    was : waiting (lists_of rests) s ≡ queue
+    was = waits ∙ ap left_in serial
+
+    as_before : after ≡ queue → lists_of (slice_set rests k (entry.0, Serial after)) ≡ lists_of rests
+    as_before same =
+        let e : ◌≡◌ {A = Rest} (Serial after) entry.1 = ap Serial same ∙ sym serial in
+        ap lists_of (ap (λ (r : Rest). slice_set rests k (entry.0, r)) e ∙ set_same rests k entry here)
+
+    pub takes : (result : Option Item) → MatchOption result ((queue ≡ []) × (after ≡ [])) (λ item. queue ≡ item ∷ after)
+        → MatchOption result ((waiting (lists_of rests) s ≡ []) × (lists_of (slice_set rests k (entry.0, Serial after)) ≡ lists_of rests))
+        (λ item. waiting (lists_of rests) s ≡ item ∷ waiting (lists_of (slice_set rests k (entry.0, Serial after))) s)
+    takes None h = (was ∙ h.0, as_before (h.1 ∙ sym h.0))
+    takes (Some item) h = was ∙ h ∙ ap (λ xs. item ∷ xs) (sym (waits_now after))
+
+    pub puts : (item : Item) (result : Result (Unit {0}) (Item × AllocError)) → MatchResult result (λ _. after ≡ queue ++ item ∷ []) (λ back. (back.0 ≡ item) × (after ≡ queue))
+        → MatchResult result (λ _. waiting (lists_of (slice_set rests k (entry.0, Serial after))) s ≡ waiting (lists_of rests) s ++ item ∷ [])
+        (λ back. (back.0 ≡ item) × (lists_of (slice_set rests k (entry.0, Serial after)) ≡ lists_of rests))
+    puts item (Ok u) h = waits_now after ∙ h ∙ ap (λ xs. xs ++ item ∷ []) (sym was)
+    puts item (Err back) h = (h.0, as_before h.1)

@@ -1,0 +1,7 @@
+pub mod Same
+pub mod Entries
+pub mod Collected
+pub mod Places
+pub mod Fresh
+pub mod Onward
+pub mod Rows

@@ -1,0 +1,70 @@
+-- Boards: a queue of items for each station of some route.
+use Rattle.std.specs.Prelude.{◌≡◌, ◌≢◌, ◌<◌, ◌==◌, ◌&&◌, Bool, true, false, if◌then◌else◌, List, [], ◌∷◌, map, Any, Contains, ⊤}
+use Rattle.std.specs.Bool.{beq}
+use Rattle.std.specs.List.{AllByRecursion}
+use Rattle.sdl_signal.specs.declared.values.Item.{Item}
+use Rattle.sdl_routes.specs.declared.parts.Hop.{Hop}
+use Rattle.sdl_routes.specs.declared.parts.Row.{Row}
+use Rattle.sdl_routes.specs.declared.parts.Station.{Station}
+use Rattle.sdl_routes.specs.declared.parts.Station.TheVariants.{Line, Inlet, Outlet}
+use Rattle.sdl_routes.specs.Routes.{hop_number}
+use Rattle.sdl_queue.specs.declared.rest.Rest.{Rest}
+use Rattle.sdl_queue.specs.Rest.{left_in}
+
+abbrev pub same_hop : Hop → Hop → Bool
+same_hop h k = (h.channel.0 == k.channel.0) && beq h.back k.back
+
+abbrev pub same_station : Station → Station → Bool
+same_station (Line h) (Line k) = same_hop h k
+same_station (Inlet b) (Inlet c) = b.0 == c.0
+same_station Outlet Outlet = true
+same_station _ _ = false
+
+-- A board is seen as a list of stations, each with the items that wait there, from the front.
+
+-- the stations of a board, or of a list of rests
+abbrev pub stations_of : {X : Type 0} → List (Station × X) → List Station
+stations_of entries = map (λ e. e.0) entries
+
+-- the items that wait at a station; none where the board has no such station
+abbrev pub waiting : List (Station × List Item) → Station → List Item
+waiting [] s = []
+waiting (e ∷ entries) s = if same_station e.0 s then e.1 else waiting entries s
+
+-- nothing changes on a board but at this station
+pub record ChangesOnly (old new : List (Station × List Item)) (s : Station) : Type 0 where
+  pub stations : stations_of new ≡ stations_of old
+  pub others : (t : Station) → t ≢ s → waiting new t ≡ waiting old t
+
+-- what is left at each station
+abbrev pub lists_of : List (Station × Rest) → List (Station × List Item)
+lists_of rests = map (λ r. (r.0, left_in r.1)) rests
+
+-- some route of the table passes the station
+abbrev pub IsStationOf : List Row → Station → Type 0
+IsStationOf rows s = Any (λ row. Contains row.route.stations.items s) rows
+
+-- lines by channel, forth before back, then inlets by block, then the outlet
+abbrev pub StandsBefore : Station → Station → Type 0
+StandsBefore (Line h) (Line k) = hop_number h < hop_number k
+StandsBefore (Line h) (Inlet b) = ⊤
+StandsBefore (Line h) Outlet = ⊤
+StandsBefore (Inlet b) (Line h) = ⊥
+StandsBefore (Inlet b) (Inlet c) = b.0 < c.0
+StandsBefore (Inlet b) Outlet = ⊤
+StandsBefore Outlet s = ⊥
+
+-- each station stands before all later ones
+abbrev pub AreInOrder : List Station → Type 0
+AreInOrder [] = ⊤
+AreInOrder (s ∷ stations) = AllByRecursion (StandsBefore s) stations × AreInOrder stations
+
+-- exactly the stations of the table's routes, each once, in order
+pub record AreAllStations (rows : List Row) (stations : List Station) : Type 0 where
+  pub every : (s : Station) → IsStationOf rows s → Contains stations s
+  pub only : (s : Station) → Contains stations s → IsStationOf rows s
+  pub order : AreInOrder stations
+
+-- the board has a queue for each station of the table's routes, and no other
+abbrev pub IsBoardOf : List Row → List (Station × List Item) → Type 0
+IsBoardOf rows board = AreAllStations rows (stations_of board)

@@ -1,0 +1,100 @@
+//! A board: the queues of all stations, on one thread.
+ghost use Rattle.std.specs.Prelude.{◌≡◌, List, [], ◌∷◌, ◌++◌, Contains, map, IfOk, MatchResult, MatchOption};
+ghost use Rattle.sdl_queue.specs.declared.rest.Rest.TheVariants.{Serial};
+ghost use Rattle.sdl_routes.specs.declared.parts.Station.{Station};
+ghost use Rattle.sdl_forward.specs.Boards.{stations_of, waiting, ChangesOnly, lists_of, IsBoardOf};
+
+use crate::index::Index;
+use crate::stations::stations_of;
+use sdl_queue::{Rest, SerialQueue};
+use sdl_routes::{Routes, Station};
+use sdl_signal::Item;
+use std::alloc::{AllocError, Global};
+use std::marker::Model;
+
+/// A queue for each station of some route. Contracts see a list of the stations, each with the items that wait there, from the
+/// front.
+#[derive(Drop)]
+pub struct Board {
+    rests: Vec<(Station, Rest)>,
+    index: Index,
+}
+
+impl Model for Board {
+    ghost use Rattle.std.specs.Prelude.{List};
+    ghost use Rattle.sdl_signal.specs.declared.values.Item.{Item};
+    ghost use Rattle.sdl_routes.specs.declared.parts.Station.{Station};
+    ghost use Rattle.sdl_forward.specs.Boards.{stations_of, lists_of};
+    ghost use Rattle.sdl_forward.specs.Index.{IsIndexOf, AreSerial};
+
+    ghost Value = { List (Station × List Item) };
+
+    ghost view = { λ b. lists_of b.rests.items };
+
+    ghost invariant = { λ b. IsIndexOf b.index (stations_of b.rests.items) × AreSerial b.rests.items };
+}
+
+impl Board {
+    /// A board of empty queues, one for each station of the routes: lines by channel, forth before back, then inlets by block,
+    /// then the outlet.
+    pub fn new(alloc: Global, routes: &Routes) -> Result<Board, AllocError>
+        ensures stations { IfOk result (λ board. IsBoardOf routes.now board) }
+        ensures empty { IfOk result (λ board. (s : Station) → waiting board s ≡ []) }
+    {
+        let stations = stations_of(alloc, routes)?;
+        let index = Index::of(alloc, stations.as_slice())?;
+        let rests = empty_queues(alloc, stations.as_slice())?;
+        Ok(Board { rests, index })
+    }
+
+    /// Puts the item at the back of the station, which is one of the board's. Where memory is refused, the item comes back and
+    /// the board is as it was.
+    pub fn put(&mut self, station: Station, item: Item) -> Result<(), (Item, AllocError)>
+        requires { Contains (stations_of self.old) station }
+        ensures put { MatchResult result
+            (λ _. waiting self.new station ≡ waiting self.old station ++ item ∷ [])
+            (λ back. (back.0 ≡ item) × (self.new ≡ self.old)) }
+        ensures others { ChangesOnly self.old self.new station }
+    {
+        let Some(place) = self.index.get(station) else {
+            unreachable!()
+        };
+        match &mut self.rests[place].1 {
+            Rest::Serial(queue) => queue.put(item),
+            Rest::Ruled(_) => unreachable!(),
+        }
+    }
+
+    /// Takes the item at the front of the station. `None` exactly where no item waits there, as where the board has no such
+    /// station. It takes no memory.
+    pub fn take(&mut self, station: Station) -> Option<Item>
+        ensures take { MatchOption result
+            ((waiting self.old station ≡ []) × (self.new ≡ self.old))
+            (λ item. waiting self.old station ≡ item ∷ waiting self.new station) }
+        ensures others { ChangesOnly self.old self.new station }
+    {
+        let place = self.index.get(station)?;
+        match &mut self.rests[place].1 {
+            Rest::Serial(queue) => queue.take(),
+            Rest::Ruled(_) => unreachable!(),
+        }
+    }
+
+    /// What is left at each station, in the order of the board. It takes no memory.
+    pub fn into_rests(self) -> Vec<(Station, Rest)>
+        ensures { lists_of result.items ≡ self }
+    {
+        self.rests
+    }
+}
+
+/// An empty queue for each of these stations.
+fn empty_queues(alloc: Global, stations: &[Station]) -> Result<Vec<(Station, Rest)>, AllocError>
+    ensures { IfOk result (λ rests. rests.items ≡ map (λ s. (s, Serial [])) stations.now) }
+{
+    let mut rests = Vec::with_capacity(alloc, stations.len())?;
+    for station in stations {
+        rests.push((*station, Rest::Serial(SerialQueue::new(alloc))))?;
+    }
+    Ok(rests)
+}

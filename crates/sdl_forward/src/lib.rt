@@ -1,0 +1,13 @@
+//! Stations and their queues, and the forwarders that bring items from one station to the next.
+#![tactic(auto)]
+
+pub mod board;
+pub mod forwarder;
+mod index;
+mod stations;
+
+pub use board::Board;
+pub use forwarder::{Forwarded, Forwarder};
+
+#[cfg(test)]
+mod tests;
