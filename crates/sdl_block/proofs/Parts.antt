@@ -1,0 +1,122 @@
+-- A step is made of parts: what each part does to a block and its board, and that parts follow one another.
+use Rattle.std.proofs.Common.{◌≡◌, ◌≢◌, ℕ, ◌+◌, ◌*◌, ◌≤◌, List, [], ◌++◌, length, All, refl, ap, sym, ◌∙◌, subst, append_assoc, append-nil, length-append, arith}
+use Rattle.std.specs.Option.{option_to_list}
+use Rattle.std.specs.List.{flat_map}
+use Rattle.std.proofs.lemmas.List.Concat.{flat_map-append}
+use Rattle.std.proofs.lemmas.List.Elements.{filter-append, All-append, All-nil}
+use Rattle.std.proofs.lemmas.List.Sums.{sum_by-append}
+use Rattle.sdl_signal.specs.declared.values.Item.{Item}
+use Rattle.sdl_routes.specs.declared.parts.Row.{Row}
+use Rattle.sdl_routes.specs.declared.parts.Station.{Station}
+use Rattle.sdl_routes.specs.declared.parts.Station.TheVariants as station
+use Rattle.sdl_transition.specs.declared.step.Frame.{Frame}
+use Rattle.sdl_transition.specs.declared.step.Step.{Step}
+use Rattle.sdl_instances.specs.declared.event.Event.{Event}
+use Rattle.sdl_instances.specs.Machine.{System}
+use Rattle.sdl_instances.specs.Run.{arrived, arrived_in, done_in, sent, sent_by, all_done, turns, turn_in}
+use Rattle.sdl_instances.specs.Core.{Core, IsSound, IsLegalIn}
+use Rattle.sdl_instances.specs.Calls.{KeepsRest}
+use Rattle.sdl_forward.specs.Boards.{stations_of, waiting}
+use Rattle.sdl_block.specs.Work.{Working, Works, beginning_at, first_station, is_at}
+
+pub sent-append : (xs ys : List Event) → sent (xs ++ ys) ≡ sent xs ++ sent ys
+sent-append xs ys = ap (flat_map sent_by) (flat_map-append done_in xs ys) ∙ flat_map-append sent_by (all_done xs) (all_done ys)
+
+pub arrived-append : (xs ys : List Event) → arrived (xs ++ ys) ≡ arrived xs ++ arrived ys
+arrived-append xs ys = flat_map-append arrived_in xs ys
+
+pub turns-append : (xs ys : List Event) → turns (xs ++ ys) ≡ turns xs + turns ys
+turns-append xs ys = sum_by-append turn_in xs ys
+
+pub beginning-append : (rows : List Row) (s : Station) (xs ys : List Item) → beginning_at rows s (xs ++ ys) ≡ beginning_at rows s xs ++ beginning_at rows s ys
+beginning-append rows s xs ys = filter-append (λ i. is_at s (first_station rows i)) xs ys
+
+pub keeps-then : (a b c : Core) → KeepsRest a b → KeepsRest b c → KeepsRest a c
+keeps-then a b c h k = (k.0 ∙ h.0, k.1 ∙ h.1, k.2 ∙ h.2, k.3 ∙ h.3)
+
+pub keeps-same : (a : Core) → KeepsRest a a
+keeps-same a = (refl, refl, refl, refl)
+
+-- two parts of what goes through, one behind the other: what was, with what came in, is what went out, with what is
+through : {X : Type 0} (was in1 out1 mid in2 out2 is : List X) → was ++ in1 ≡ out1 ++ mid → mid ++ in2 ≡ out2 ++ is → was ++ (in1 ++ in2) ≡ (out1 ++ out2) ++ is
+through was in1 out1 mid in2 out2 is h k =
+    sym (append_assoc was in1 in2) ∙ ap (λ l. l ++ in2) h ∙ append_assoc out1 mid in2 ∙ ap (λ l. out1 ++ l) k ∙ sym (append_assoc out1 out2 is)
+
+module _ (may : ℕ → Frame → Step → Type 0) (sys : System) (inlet : Station) where
+  -- a part of a step, with what it put, what it took, and the new events
+  pub record Part (old : Working) (before : List (Station × List Item)) (put taken : List Item) (events : List Event) (new : Working) (after : List (Station × List Item)) : Type 0 where
+    pub inlet_is : waiting before inlet ++ beginning_at sys.routes inlet put ≡ taken ++ waiting after inlet
+    pub others : (s : Station) → s ≢ inlet → waiting after s ≡ waiting before s ++ beginning_at sys.routes s put
+    pub stations : stations_of after ≡ stations_of before
+    pub came : option_to_list old.kept ++ taken ≡ arrived events ++ option_to_list new.kept
+    pub went : put ++ new.outgoing ≡ old.outgoing ++ sent events
+    pub log : new.core.log ≡ old.core.log ++ events
+    pub sound : IsSound may sys new.core
+    pub rest : KeepsRest old.core new.core
+    pub legal : All (IsLegalIn sys) (sent events)
+    pub few : length (sent events) ≤ 8 * turns events
+
+  pub part_then : (old : Working) (before : List (Station × List Item)) (put1 taken1 : List Item) (events1 : List Event) (mid : Working) (between : List (Station × List Item)) (put2 taken2 : List Item) (events2 : List Event) (new : Working) (after : List (Station × List Item))
+      → Part old before put1 taken1 events1 mid between → Part mid between put2 taken2 events2 new after
+      → Part old before (put1 ++ put2) (taken1 ++ taken2) (events1 ++ events2) new after
+  part_then old before put1 taken1 events1 mid between put2 taken2 events2 new after a b =
+      record {
+        inlet_is =
+            ap (λ l. waiting before inlet ++ l) (beginning-append sys.routes inlet put1 put2)
+            ∙ through (waiting before inlet) (beginning_at sys.routes inlet put1) taken1 (waiting between inlet) (beginning_at sys.routes inlet put2) taken2 (waiting after inlet) a.inlet_is b.inlet_is;
+        others = λ s other.
+            b.others s other ∙ ap (λ l. l ++ beginning_at sys.routes s put2) (a.others s other)
+            ∙ append_assoc (waiting before s) (beginning_at sys.routes s put1) (beginning_at sys.routes s put2)
+            ∙ ap (λ l. waiting before s ++ l) (sym (beginning-append sys.routes s put1 put2));
+        stations = b.stations ∙ a.stations;
+        came =
+            through (option_to_list old.kept) taken1 (arrived events1) (option_to_list mid.kept) taken2 (arrived events2) (option_to_list new.kept) a.came b.came
+            ∙ ap (λ l. l ++ option_to_list new.kept) (sym (arrived-append events1 events2));
+        went =
+            sym (through old.outgoing (sent events1) put1 mid.outgoing (sent events2) put2 new.outgoing (sym a.went) (sym b.went))
+            ∙ ap (λ l. old.outgoing ++ l) (sym (sent-append events1 events2));
+        log = b.log ∙ ap (λ l. l ++ events2) a.log ∙ append_assoc old.core.log events1 events2;
+        sound = b.sound;
+        rest = keeps-then old.core mid.core new.core a.rest b.rest;
+        legal = subst (All (IsLegalIn sys)) (sym (sent-append events1 events2)) (All-append (IsLegalIn sys) (sent events1) (sent events2) a.legal b.legal);
+        few =
+            let s = ap length (sent-append events1 events2) ∙ length-append (sent events1) (sent events2) in
+            let t = turns-append events1 events2 in
+            omega (arith, s, t, a.few, b.few);
+      }
+
+  -- the part that does nothing
+  pub no_part : (old : Working) (before : List (Station × List Item)) → IsSound may sys old.core → Part old before [] [] [] old before
+  no_part old before sound =
+      record {
+        inlet_is = append-nil (waiting before inlet);
+        others = λ s other. sym (append-nil (waiting before s));
+        stations = refl;
+        came = append-nil (option_to_list old.kept);
+        went = sym (append-nil old.outgoing);
+        log = sym (append-nil old.core.log);
+        sound = sound;
+        rest = keeps-same old.core;
+        legal = All-nil (IsLegalIn sys);
+        few = omega arith;
+      }
+
+abbrev pub works : (may : ℕ → Frame → Step → Type 0) (sys : System) (old : Working) (before : List (Station × List Item)) (put taken : List Item) (events : List Event) (new : Working) (after : List (Station × List Item))
+    → length taken ≤ 1 → Part may sys (station.Inlet old.core.block) old before put taken events new after → Works may sys old before new after
+works may sys old before put taken events new after one p =
+    record {
+      put = put;
+      taken = taken;
+      events = events;
+      one = one;
+      inlet = p.inlet_is;
+      others = p.others;
+      stations = p.stations;
+      came = p.came;
+      went = p.went;
+      log = p.log;
+      sound = p.sound;
+      rest = p.rest;
+      legal = p.legal;
+      few = p.few;
+    }

@@ -1,0 +1,108 @@
+-- The parts of a step of a block, one by one.
+use Rattle.std.specs.Prelude.{◌≡◌, ℕ, ◌≤◌, ◌⊎◌, Bool, true, false, List, [], ◌∷◌, ◌++◌, Option, None, Some, Result, Ok, Err, length, All, slice_get}
+use Rattle.sdl_signal.specs.declared.values.Pid.{Pid}
+use Rattle.sdl_signal.specs.declared.values.Item.{Item}
+use Rattle.sdl_routes.specs.declared.parts.Row.{Row}
+use Rattle.sdl_routes.specs.declared.parts.Station.{Station}
+use Rattle.sdl_routes.specs.declared.parts.Station.TheVariants as station
+use Rattle.sdl_transition.specs.declared.step.Frame.{Frame}
+use Rattle.sdl_transition.specs.declared.step.Step.{Step}
+use Rattle.sdl_instances.specs.declared.event.Event.{Event}
+use Rattle.sdl_instances.specs.declared.event.Arrival.{Arrival}
+use Rattle.sdl_instances.specs.Machine.{System}
+use Rattle.sdl_instances.specs.Run.{sent, turns, turn_in}
+use Rattle.sdl_instances.specs.Core.{Core, IsReady, IsSound, IsLegalIn, arrival_event}
+use Rattle.sdl_instances.specs.Calls.{KeepsRest}
+use Rattle.sdl_forward.specs.Boards.{stations_of, waiting, ChangesOnly}
+use Rattle.sdl_block.specs.declared.worker.Stepped.{Stepped}
+use Rattle.sdl_block.specs.declared.worker.Stepped.TheVariants as stepped
+use Rattle.sdl_block.specs.declared.worker.Refused.{Refused}
+use Rattle.sdl_block.specs.Work.{Working, beginning_at, StepsAs}
+
+-- the item's route is one of the table's
+abbrev pub IsRouted : List Row → Item → Type 0
+IsRouted rows i = (row : Row) × (slice_get rows i.route.0 ≡ Some row)
+
+abbrev pub AreRouted : List Row → List Item → Type 0
+AreRouted rows items = All (IsRouted rows) items
+
+-- the items go, in order, to the backs of the first stations of their routes; nothing else on the board changes
+pub record Puts (rows : List Row) (before : List (Station × List Item)) (put : List Item) (after : List (Station × List Item)) : Type 0 where
+  pub each : (s : Station) → waiting after s ≡ waiting before s ++ beginning_at rows s put
+  pub stations : stations_of after ≡ stations_of before
+
+-- All that was in hand is put, or the first part of it is; the answer says whether anything was in hand.
+abbrev pub PutsOut : List Row → List Item → List (Station × List Item) → Result Bool Refused → List Item → List (Station × List Item) → Type 0
+PutsOut rows old before (Ok true) new after = Puts rows before old after × (old ≡ [] → ⊥) × (new ≡ [])
+PutsOut rows old before (Ok false) new after = (old ≡ []) × (new ≡ []) × (after ≡ before)
+PutsOut rows old before (Err _) new after = (put : List Item) × (put ++ new ≡ old) × Puts rows before put after
+
+-- The item taken is the kept one, or else the front of the inlet; there is none where that is empty.
+abbrev pub TakesFrom : Working → List (Station × List Item) → Option Item → List (Station × List Item) → Type 0
+TakesFrom w before None after = (w.kept ≡ None) × (waiting before (station.Inlet w.core.block) ≡ []) × (after ≡ before)
+TakesFrom w before (Some i) after =
+    ((w.kept ≡ Some i) × (after ≡ before))
+    ⊎ ((w.kept ≡ None)
+    × (waiting before (station.Inlet w.core.block) ≡ i ∷ waiting after (station.Inlet w.core.block))
+    × ChangesOnly before after (station.Inlet w.core.block))
+
+-- the item arrives, which is one event
+pub record Admits (may : ℕ → Frame → Step → Type 0) (sys : System) (old : Working) (i : Item) (new : Working) : Type 0 where
+  pub arrival : Arrival
+  pub log : new.core.log ≡ old.core.log ++ arrival_event i arrival ∷ []
+  pub sound : IsSound may sys new.core
+  pub rest : KeepsRest old.core new.core
+  pub hand : (new.kept ≡ old.kept) × (new.outgoing ≡ old.outgoing)
+
+-- the budget is used
+abbrev pub IsSpent : Core → Type 0
+IsSpent c = turns c.log ≡ c.budget
+
+-- Unless the budget is used, the item taken arrives, or is kept; the answer says whether it arrived.
+abbrev pub LetsIn : (ℕ → Frame → Step → Type 0) → System → Working → List (Station × List Item) → Result Bool Refused → Working → List (Station × List Item) → Type 0
+LetsIn may sys old before (Ok true) new after =
+    (i : Item) × (IsSpent old.core → ⊥) × TakesFrom old before (Some i) after × Admits may sys (record old { kept = None }) i new
+LetsIn may sys old before (Ok false) new after =
+    (new ≡ old) × (after ≡ before) × (old.kept ≡ None) × (IsSpent old.core ⊎ (waiting before (station.Inlet old.core.block) ≡ []))
+LetsIn may sys old before (Err _) new after =
+    (IsSpent old.core × (new ≡ old) × (after ≡ before))
+    ⊎ ((IsSpent old.core → ⊥) × ((i : Item) × TakesFrom old before (Some i) after × (new ≡ record old { kept = Some i })))
+
+-- an instance makes a turn, which is one event, and what it sends is in hand
+pub record MakesTurn (may : ℕ → Frame → Step → Type 0) (sys : System) (old new : Working) : Type 0 where
+  pub event : Event
+  pub turn : turn_in event ≡ 1
+  pub within : IsSpent old.core → ⊥
+  pub log : new.core.log ≡ old.core.log ++ event ∷ []
+  pub hand : new.outgoing ≡ sent (event ∷ [])
+  pub kept : new.kept ≡ old.kept
+  pub sound : IsSound may sys new.core
+  pub rest : KeepsRest old.core new.core
+  pub legal : All (IsLegalIn sys) new.outgoing
+  pub few : length new.outgoing ≤ 8
+
+-- An instance makes a turn; none does where none is ready, the budget is used, or memory is refused.
+abbrev pub Turns : (ℕ → Frame → Step → Type 0) → System → Working → Result Bool Refused → Working → Type 0
+Turns may sys old (Ok true) new = MakesTurn may sys old new
+Turns may sys old (Ok false) new = (new ≡ old) × (IsSpent old.core ⊎ ((p : Pid) → IsReady p old.core.state → ⊥))
+Turns may sys old (Err _) new = new ≡ old
+
+-- the answer of a step, by whether it did anything or was refused
+abbrev pub answer_of : Result Bool Refused → Stepped
+answer_of (Ok true) = stepped.Did
+answer_of (Ok false) = stepped.Idle
+answer_of (Err _) = stepped.Memory
+
+abbrev pub StepsTo : (ℕ → Frame → Step → Type 0) → System → Working → List (Station × List Item) → Result Bool Refused → Working → List (Station × List Item) → Type 0
+StepsTo may sys old before result new after = StepsAs may sys old before (answer_of result) new after
+
+-- after a step that was not refused nothing is in hand
+abbrev pub IsEmptyAfter : Stepped → Working → Type 0
+IsEmptyAfter stepped.Did w = (w.kept ≡ None) × (w.outgoing ≡ [])
+IsEmptyAfter stepped.Idle w = (w.kept ≡ None) × (w.outgoing ≡ [])
+IsEmptyAfter stepped.Memory w = Unit {0}
+
+-- Nothing happens, or all that was in hand is put: what is then in hand was sent in the new events.
+abbrev pub PutsFirst : Working → Working → Type 0
+PutsFirst old new =
+    (new.core ≡ old.core) ⊎ ((events : List Event) × (new.core.log ≡ old.core.log ++ events) × (length new.outgoing ≤ length (sent events)))

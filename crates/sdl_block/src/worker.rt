@@ -1,0 +1,217 @@
+//! A block at work.
+ghost use Rattle.std.specs.Prelude.{◌≡◌, [], All, IsTrue, ◌↔◌, MatchResult};
+ghost use Rattle.sdl_signal.specs.declared.values.Pid.{Pid};
+ghost use Rattle.sdl_forward.specs.Boards.{IsBoardOf};
+ghost use Rattle.sdl_instances.specs.Core.{IsSound, IsLegalIn, IsReady};
+ghost use Rattle.sdl_instances.specs.Cores.{core_of, parts_of, CanFire};
+ghost use Rattle.sdl_instances.specs.Run.{turns};
+ghost use Rattle.sdl_block.specs.Work.{with_core, StepsAs};
+ghost use Rattle.sdl_block.specs.Phases.{TakesFrom, Admits, LetsIn, Turns, StepsTo, PutsFirst, IsEmptyAfter};
+ghost use Rattle.sdl_block.specs.Phases as phases;
+ghost use Rattle.sdl_block.specs.Workers.{worker_of, behaviours_of, system_around};
+
+use arrayvec::ArrayVec;
+use sdl_forward::Board;
+use sdl_instances::{BlockCore, Turned};
+use sdl_routes::{Routes, Station};
+use sdl_signal::Item;
+use sdl_transition::Agents;
+
+/// What a block has in hand between two steps.
+#[derive(Debug, Drop)]
+pub struct Hand {
+    /// The item that was taken from the inlet and could not arrive: memory was refused, or it may not arrive here.
+    pub kept: Option<Item>,
+    /// Those of the last turn's items that are yet to be put at the first stations of their routes, in order.
+    pub outgoing: ArrayVec<Item, 8>,
+}
+
+/// What a step of a block did.
+#[derive(Clone, Copy, Debug, PartialEq, Eq)]
+pub enum Stepped {
+    /// It put an item, or an event happened.
+    Did,
+    /// Nothing could be done: nothing is in hand, and the budget is used, or the inlet is empty and no instance is ready.
+    Idle,
+    /// Memory was refused, or an item may not arrive. What was not carried out is in hand, and the next step goes on there.
+    Memory,
+}
+
+/// The end of a step: memory was refused, or an item may not arrive.
+#[derive(Clone, Copy, Debug, PartialEq, Eq)]
+pub(crate) struct Refused;
+
+/// What a step answers that did something or not, or was refused.
+fn answer_of(tried: Result<bool, Refused>) -> Stepped
+    ensures { result ≡ phases.answer_of tried }
+{
+    match tried {
+        Ok(true) => Stepped::Did,
+        Ok(false) => Stepped::Idle,
+        Err(Refused) => Stepped::Memory,
+    }
+}
+
+/// A block at work: its core, with what it has in hand.
+#[derive(Drop)]
+pub struct BlockWorker<S> {
+    core: BlockCore<S>,
+    hand: Hand,
+}
+
+impl<S: Agents> BlockWorker<S> {
+    /// The block with this core and nothing in hand. No memory is taken.
+    pub fn new(core: BlockCore<S>) -> BlockWorker<S>
+        ensures worker { worker_of result ≡ with_core (core_of core) }
+        ensures parts { behaviours_of result ≡ parts_of core }
+    {
+        BlockWorker {
+            core,
+            hand: Hand {
+                kept: None,
+                outgoing: ArrayVec::new(),
+            },
+        }
+    }
+
+    /// A step. It puts out what is in hand, from the front. Unless the budget is used, it then lets one item arrive: the kept
+    /// one, or else the front of its inlet. It makes one turn, and puts out what that turn sent. A refusal ends the step.
+    /// `pick` chooses among the instances that the item may enter, among those that are ready, and among the routes.
+    pub fn step_serial(&mut self, routes: &Routes, board: &mut Board, pick: u32) -> Stepped
+        requires parts { CanFire S.may (behaviours_of self.old) }
+        requires sound { IsSound S.may (system_around self.old routes.now) (worker_of self.old).core }
+        requires legal { All (IsLegalIn (system_around self.old routes.now)) (worker_of self.old).outgoing }
+        requires board { IsBoardOf routes.now board.old }
+        ensures step { StepsAs S.may (system_around self.old routes.now) (worker_of self.old) board.old result (worker_of self.new) board.new }
+        ensures first { PutsFirst (worker_of self.old) (worker_of self.new) }
+        ensures hand { IsEmptyAfter result (worker_of self.new) }
+        ensures spent { turns (worker_of self.old).core.log ≡ (worker_of self.old).core.budget → (worker_of self.new).core ≡ (worker_of self.old).core }
+        ensures sound { IsSound S.may (system_around self.new routes.now) (worker_of self.new).core }
+        ensures legal { All (IsLegalIn (system_around self.new routes.now)) (worker_of self.new).outgoing }
+        ensures board { IsBoardOf routes.now board.new }
+        ensures parts { behaviours_of self.new ≡ behaviours_of self.old }
+    {
+        answer_of(self.try_step(routes, board, pick))
+    }
+
+    /// A step, which says whether it did anything.
+    fn try_step(&mut self, routes: &Routes, board: &mut Board, pick: u32) -> Result<bool, Refused>
+        requires parts { CanFire S.may (behaviours_of self.old) }
+        requires sound { IsSound S.may (system_around self.old routes.now) (worker_of self.old).core }
+        requires legal { All (IsLegalIn (system_around self.old routes.now)) (worker_of self.old).outgoing }
+        requires board { IsBoardOf routes.now board.old }
+        ensures step { StepsTo S.may (system_around self.old routes.now) (worker_of self.old) board.old result (worker_of self.new) board.new }
+        ensures first { PutsFirst (worker_of self.old) (worker_of self.new) }
+        ensures hand { IsEmptyAfter (phases.answer_of result) (worker_of self.new) }
+        ensures spent { turns (worker_of self.old).core.log ≡ (worker_of self.old).core.budget → (worker_of self.new).core ≡ (worker_of self.old).core }
+        ensures parts { behaviours_of self.new ≡ behaviours_of self.old }
+    {
+        let put = self.hand.put_out(routes, board)?;
+        let arrived = self.let_one_arrive(routes, board, pick)?;
+        let turned = self.make_turn(routes, pick)?;
+        self.hand.put_out(routes, board)?;
+        Ok(put | arrived | turned)
+    }
+
+    /// Lets one item arrive, unless the budget is used, and says whether one did. An item that is refused is kept.
+    fn let_one_arrive(
+        &mut self,
+        routes: &Routes,
+        board: &mut Board,
+        pick: u32,
+    ) -> Result<bool, Refused>
+        requires sound { IsSound S.may (system_around self.old routes.now) (worker_of self.old).core }
+        ensures arrived { LetsIn S.may (system_around self.old routes.now) (worker_of self.old) board.old result (worker_of self.new) board.new }
+        ensures parts { behaviours_of self.new ≡ behaviours_of self.old }
+    {
+        if self.core.is_spent() {
+            return match self.hand.kept {
+                Some(_) => Err(Refused),
+                None => Ok(false),
+            };
+        }
+        let Some(item) = self.take_one(board) else {
+            return Ok(false);
+        };
+        match self.admit(routes, item, pick) {
+            Ok(()) => Ok(true),
+            Err(item) => {
+                self.hand.kept = Some(item);
+                Err(Refused)
+            }
+        }
+    }
+
+    /// Takes the kept item, or else the front of the inlet.
+    fn take_one(&mut self, board: &mut Board) -> Option<Item>
+        ensures taken { TakesFrom (worker_of self.old) board.old result board.new }
+        ensures emptied { worker_of self.new ≡ record (worker_of self.old) { kept = None } }
+        ensures parts { behaviours_of self.new ≡ behaviours_of self.old }
+    {
+        match self.hand.kept.take() {
+            Some(item) => Some(item),
+            None => board.take(Station::Inlet(self.core.block())),
+        }
+    }
+
+    /// Lets the item arrive. A refusal hands it back and changes nothing.
+    fn admit(&mut self, routes: &Routes, item: Item, pick: u32) -> Result<(), Item>
+        requires sound { IsSound S.may (system_around self.old routes.now) (worker_of self.old).core }
+        ensures arrived { MatchResult result
+            (λ _. Admits S.may (system_around self.old routes.now) (worker_of self.old) item (worker_of self.new))
+            (λ back. (back ≡ item) × (worker_of self.new ≡ worker_of self.old)) }
+        ensures parts { behaviours_of self.new ≡ behaviours_of self.old }
+    {
+        if !self.core.can_arrive(routes, &item) {
+            return Err(item);
+        }
+        match self.core.arrive(routes, item, pick) {
+            Ok(_) => Ok(()),
+            Err((item, _)) => Err(item),
+        }
+    }
+
+    /// Makes a turn, and takes into the hand, which is empty, what it sends. It says whether an instance was ready, and the
+    /// budget not used.
+    fn make_turn(&mut self, routes: &Routes, pick: u32) -> Result<bool, Refused>
+        requires parts { CanFire S.may (behaviours_of self.old) }
+        requires sound { IsSound S.may (system_around self.old routes.now) (worker_of self.old).core }
+        requires hand { (worker_of self.old).outgoing ≡ [] }
+        ensures turn { Turns S.may (system_around self.old routes.now) (worker_of self.old) result (worker_of self.new) }
+        ensures parts { behaviours_of self.new ≡ behaviours_of self.old }
+    {
+        match self.core.turn(routes, pick) {
+            Ok(Turned::Fired(_, sent)) => {
+                self.hand.outgoing = sent;
+                Ok(true)
+            }
+            Ok(Turned::Idle) => Ok(false),
+            Ok(Turned::Spent) => Ok(false),
+            Err(_) => Err(Refused),
+        }
+    }
+
+    /// Whether no instance is ready: each has started, and its port is empty. No memory is taken.
+    pub fn is_settled(&self) -> bool
+        ensures { IsTrue result ↔ ((p : Pid) → IsReady p (worker_of self.now).core.state → ⊥) }
+    {
+        self.core.is_settled()
+    }
+
+    /// The number of turns so far. No memory is taken.
+    pub fn made(&self) -> u32
+        ensures { result ≡ turns (worker_of self.now).core.log }
+    {
+        self.core.made()
+    }
+
+    /// The core of the block, and what it has in hand. No memory is taken.
+    pub fn into_parts(self) -> (BlockCore<S>, Hand)
+        ensures core { core_of result.0 ≡ (worker_of self).core }
+        ensures parts { parts_of result.0 ≡ behaviours_of self }
+        ensures kept { result.1.kept ≡ (worker_of self).kept }
+        ensures outgoing { result.1.outgoing.items ≡ (worker_of self).outgoing }
+    {
+        (self.core, self.hand)
+    }
+}
