@@ -1,0 +1,132 @@
+-- What holds between two steps holds at the start, and after each step.
+use Rattle.std.proofs.Common.{ℕ, List, [], ◌∷◌, ◌++◌, reverse, set, ◌≡◌, Option, Some, None, slice_get, refl, ap, sym, ◌∙◌, subst}
+use Rattle.std.specs.Option.{option_to_list}
+use Rattle.std.specs.List.{flat_map, AllByRecursion}
+use Rattle.std.proofs.lemmas.Bool.{cond_both}
+use Rattle.sdl_instances.specs.Run.{arrived, sent}
+use Rattle.sdl_signal.specs.declared.values.Item.{Item}
+use Rattle.sdl_routes.specs.declared.parts.Hop.{Hop}
+use Rattle.sdl_routes.specs.declared.parts.Station.{Station}
+use Rattle.sdl_transition.specs.declared.step.Frame.{Frame}
+use Rattle.sdl_transition.specs.declared.step.Step.{Step}
+use Rattle.sdl_forward.specs.Boards.{same_hop, waiting, IsBoardOf}
+use Rattle.sdl_forward.specs.declared.forwarder.Forwarded.{Forwarded}
+use Rattle.sdl_forward.specs.declared.forwarder.Forwarded.TheVariants as forwarded
+use Rattle.sdl_forward.specs.Forwards.{Forwarding}
+use Rattle.sdl_forward.specs.Forwards as hands
+use Rattle.sdl_block.specs.declared.worker.Stepped.{Stepped}
+use Rattle.sdl_block.specs.declared.worker.Stepped.TheVariants as stepped
+use Rattle.sdl_run.specs.declared.worker.Worker.{Worker}
+use Rattle.sdl_run.specs.declared.worker.Worker.TheVariants.{Block, Environment, Forwarder}
+use Rattle.sdl_run.specs.Stations.{Among, taker, place}
+use Rattle.sdl_run.specs.Books.{standing, left, of_route}
+use Rattle.sdl_run.specs.Plan.{Plan, IsPlan, MayTravel, ways_of, system_at}
+use Rattle.sdl_block.specs.Work.{Working, StepsAs}
+use Rattle.sdl_run.specs.Driver.{Site, site_books, of_block, held_at, IsAtWork, IsFresh, BlockSteps, ForwarderSteps}
+use Rattle.sdl_run.proofs.Lists.{set_same}
+use Rattle.sdl_run.proofs.BlockStep.{block_keeps}
+use Rattle.sdl_run.proofs.Forwarding.{moves_keep, holds_keep}
+
+unfoldable site : List Working → List Forwarding → List (Station × List Item) → Site
+site blocks forwarders board = record { blocks = blocks; forwarders = forwarders; board = board }
+
+-- sites of equal parts are equal
+pub site_is : (x y : Site) → y.blocks ≡ x.blocks → y.forwarders ≡ x.forwarders → y.board ≡ x.board → x ≡ y
+unfolding site
+site_is x y e f g =
+    ap (λ (b : List Working). site b x.forwarders x.board) (sym e) ∙ (ap (λ (w : List Forwarding). site y.blocks w x.board) (sym f) ∙ ap (λ (b : List (Station × List Item)). site y.blocks y.forwarders b) (sym g))
+
+module _ (may : ℕ → Frame → Step → Type 0) (plan : Plan) (ok : IsPlan plan) where
+  block_answer : (n : ℕ) (answer : Stepped) (old new : Site) (was is : Working) → IsAtWork may plan old → slice_get old.blocks n ≡ Some was
+      → new.blocks ≡ set old.blocks n is → new.forwarders ≡ old.forwarders → StepsAs may (system_at plan n) was old.board answer is new.board → IsAtWork may plan new
+  block_answer n stepped.Did old new was is work before after same step =
+      subst (IsAtWork may plan) (site_is (record { blocks = set old.blocks n is; forwarders = old.forwarders; board = new.board }) new after same refl)
+      (block_keeps may plan ok old work n was is before new.board step.0)
+  block_answer n stepped.Memory old new was is work before after same step =
+      subst (IsAtWork may plan) (site_is (record { blocks = set old.blocks n is; forwarders = old.forwarders; board = new.board }) new after same refl)
+      (block_keeps may plan ok old work n was is before new.board step)
+  block_answer n stepped.Idle old new was is work before after same step =
+      subst (IsAtWork may plan) (site_is old new (after ∙ (ap (set old.blocks n) step.0 ∙ set_same old.blocks n was before)) same step.1) work
+
+  pub block_steps : (n : ℕ) (answer : Stepped) (old new : Site) → IsAtWork may plan old → BlockSteps may plan n answer old new → IsAtWork may plan new
+  block_steps n answer old new work steps = block_answer n answer old new steps.was steps.is work steps.before steps.after steps.forwarders steps.step
+
+  forwarder_answer : (k : ℕ) (answer : Forwarded) (old new : Site) (was is : Forwarding) → IsAtWork may plan old → slice_get old.forwarders k ≡ Some was
+      → new.forwarders ≡ set old.forwarders k is → new.blocks ≡ old.blocks → IsBoardOf plan.routes new.board → hands.Forwards plan.routes was old.board answer is new.board → IsAtWork may plan new
+  forwarder_answer k forwarded.Moved old new was is work before after same board step =
+      subst (IsAtWork may plan) (site_is (record { blocks = old.blocks; forwarders = set old.forwarders k is; board = new.board }) new same after refl)
+      (moves_keep may plan ok old work k was is before new.board board (ap (λ (f : Forwarding). f.hop) step.emptied) step)
+  forwarder_answer k forwarded.Held old new was is work before after same board step =
+      subst (IsAtWork may plan) (site_is (record { blocks = old.blocks; forwarders = set old.forwarders k is; board = new.board }) new same after refl)
+      (holds_keep may plan ok old work k was is before new.board board (ap (λ (f : Forwarding). f.hop) step.held) step)
+  forwarder_answer k forwarded.Idle old new was is work before after same board step =
+      subst (IsAtWork may plan) (site_is old new same (after ∙ (ap (set old.forwarders k) step.forwarder ∙ set_same old.forwarders k was before)) step.board) work
+
+  pub forwarder_steps : (k : ℕ) (answer : Forwarded) (old new : Site) → IsAtWork may plan old → ForwarderSteps plan k answer old new → IsAtWork may plan new
+  forwarder_steps k answer old new work steps =
+      forwarder_answer k answer old new steps.was steps.is work steps.before steps.after steps.blocks steps.board steps.step
+
+-- at the start everything is empty
+flat_none : {A B : Type 0} (f : A → List B) → ((x : A) → f x ≡ []) → (xs : List A) → flat_map f xs ≡ []
+flat_none f h [] = refl
+flat_none f h (x ∷ xs) = ap (λ (ys : List _). ys ++ flat_map f xs) (h x) ∙ flat_none f h xs
+
+of_none : (f : Working → List Item) (o : Option Working) → ((w : Working) → o ≡ Some w → f w ≡ []) → (elim o as (λ _. List Item) [ None ↦ [] | Some w ↦ f w ]) ≡ []
+of_none f None h = refl
+of_none f (Some w) h = h w refl
+
+block_none : (f : Working → List Item) (ws : List Working) → ((n : ℕ) (w : Working) → slice_get ws n ≡ Some w → f w ≡ []) → (v : Worker) → of_block f ws v ≡ []
+block_none f ws h (Block b) = of_none f (slice_get ws b.0) (h b.0)
+block_none f ws h Environment = refl
+block_none f ws h (Forwarder k) = refl
+
+held_none : (fs : List Forwarding) → AllByRecursion (λ (f : Forwarding). f.held ≡ None) fs → (h : Hop) → held_at fs h ≡ []
+held_none [] none h = refl
+held_none (f ∷ fs) none h =
+    cond_both (same_hop f.hop h) (option_to_list f.held) (held_at fs h) (λ (xs : List Item). xs ≡ []) (λ e. ap (λ (o : Option Item). option_to_list o) none.0) (λ e. held_none fs none.1 h)
+
+module _ (may : ℕ → Frame → Step → Type 0) (plan : Plan) (start : Site) (fresh : IsFresh may plan start) where
+  no_sent : (v : Worker) → (site_books start).sent v ≡ []
+  no_sent = block_none (λ (w : Working). sent w.core.log) start.blocks (λ n w e. ap sent (fresh.cores n w e).1)
+
+  no_arrived : (v : Worker) → (site_books start).arrived v ≡ []
+  no_arrived = block_none (λ (w : Working). arrived w.core.log) start.blocks (λ n w e. ap arrived (fresh.cores n w e).1)
+
+  no_outgoing : (v : Worker) → (site_books start).outgoing v ≡ []
+  no_outgoing = block_none (λ (w : Working). w.outgoing) start.blocks (λ n w e. (fresh.cores n w e).3)
+
+  no_kept : (v : Worker) → (site_books start).kept v ≡ []
+  no_kept (Block b) = block_none (λ (w : Working). option_to_list w.kept) start.blocks (λ n w e. ap (λ (o : Option Item). option_to_list o) (fresh.cores n w e).2) (Block b)
+  no_kept Environment = refl
+  no_kept (Forwarder h) = held_none start.forwarders fresh.held h
+
+  no_standing : (s : Station) → standing (site_books start) s ≡ []
+  no_standing s = ap (λ (xs : List Item). xs ++ waiting start.board s) (no_kept (taker s)) ∙ fresh.empty s
+
+  all_none : (P : Item → Type 0) (xs : List Item) → xs ≡ [] → AllByRecursion P xs
+  all_none P xs e = subst (AllByRecursion P) (sym e) tt
+
+  nothing_left : (r : ℕ) → left (ways_of plan) (site_books start) r ≡ []
+  nothing_left r =
+      ap (λ (xs : List Item). xs ++ of_route r ((site_books start).outgoing ((ways_of plan).start r)))
+      (flat_none (λ (s : Station). of_route r (standing (site_books start) s)) (λ s. ap (of_route r) (no_standing s)) (reverse ((ways_of plan).stations r)))
+      ∙ ap (of_route r) (no_outgoing ((ways_of plan).start r))
+
+  pub starts_in_order : IsAtWork may plan start
+  starts_in_order =
+      record {
+        blocks = fresh.blocks;
+        cores = λ n w e. (fresh.cores n w e).0;
+        forwarders = fresh.forwarders;
+        board = fresh.board;
+        order = record {
+          in_order = λ r leads.
+              ap (of_route r) (no_sent ((ways_of plan).start r))
+              ∙ sym (ap (λ (xs : List Item). xs ++ left (ways_of plan) (site_books start) r) (ap (of_route r) (no_arrived ((ways_of plan).finish r))) ∙ nothing_left r);
+          in_place = λ s. all_none (λ (i : Item). Among s ((ways_of plan).stations i.route.0)) (standing (site_books start) s) (no_standing s);
+          let_in = λ w a. all_none (λ (i : Item). Among (place w) ((ways_of plan).stations i.route.0)) ((site_books start).arrived w) (no_arrived w);
+          leaving = λ w a. all_none (λ (i : Item). (ways_of plan).start i.route.0 ≡ w) ((site_books start).outgoing w) (no_outgoing w);
+        };
+        waiting_legal = λ s. all_none (MayTravel plan) (standing (site_books start) s) (no_standing s);
+        outgoing_legal = λ w a. all_none (MayTravel plan) ((site_books start).outgoing w) (no_outgoing w);
+      }

@@ -1,0 +1,170 @@
+-- The driver whose workers are all new is at work.
+use Rattle.std.proofs.Common.{ℕ, zero, suc, ◌+◌, ◌<◌, List, [], ◌∷◌, ◌++◌, length, map, get_or, slice_get, unwrap_or, Option, None, Some, All, ◌≡◌, refl, ap, sym, ◌∙◌, subst, arith}
+use Rattle.std.proofs.lemmas.List.{length-map, length-append}
+use Rattle.std.proofs.lemmas.Option.{none-some, same_Some}
+use Rattle.std.specs.List.{AllByRecursion}
+use Rattle.sdl_structure.specs.Structure.{Structure, IsStructure}
+use Rattle.sdl_routes.specs.declared.parts.Hop.{Hop}
+use Rattle.sdl_routes.specs.declared.parts.Row.{Row}
+use Rattle.sdl_routes.specs.declared.parts.Station.{Station}
+use Rattle.sdl_routes.specs.Table.{IsTable}
+use Rattle.sdl_transition.specs.declared.step.Frame.{Frame}
+use Rattle.sdl_transition.specs.declared.step.Step.{Step}
+use Rattle.sdl_transition.specs.declared.parts.BlockParts.{BlockParts}
+use Rattle.sdl_transition.specs.declared.binding.Bound.{Bound}
+use Rattle.sdl_transition.specs.Bound.{AreOneSystem, structure_of, routes_of, blocks_of}
+use Rattle.sdl_transition.specs.Index.{IsIndexed}
+use Rattle.sdl_transition.specs.Transitions.{IsAllowedBehaviour}
+use Rattle.sdl_transition.specs.Rules.{Rules, block_rules}
+use Rattle.sdl_instances.specs.Core.{IsSound}
+use Rattle.sdl_forward.specs.Forwards.{Forwarding}
+use Rattle.sdl_forward.specs.Boards.{waiting, IsBoardOf}
+use Rattle.sdl_block.specs.declared.worker.BlockWorker.{BlockWorker}
+use Rattle.sdl_block.specs.Work.{Working}
+use Rattle.sdl_block.specs.Workers.{worker_of, behaviours_of, system_around}
+use Rattle.sdl_run.specs.declared.driver.Driver.{Driver}
+use Rattle.sdl_run.specs.declared.end.RunEnd.{RunEnd}
+use Rattle.sdl_run.specs.declared.closing.Room.{Room}
+use Rattle.sdl_run.specs.Closings.{HasRoom, plan_of_bound}
+use Rattle.sdl_run.specs.Outcome.{Outcome}
+use Rattle.sdl_run.specs.Ends.{HasEnded}
+use Rattle.sdl_run.specs.Plan.{Plan, IsClosed, lines_from, system_at}
+use Rattle.sdl_run.specs.Driver.{IsCoreAt, IsFresh}
+use Rattle.sdl_run.specs.Drivers.{site_of, plan_of, IsDriving, IsSameSystem}
+use Rattle.sdl_run.specs.Starting.{idle_at}
+use Rattle.sdl_run.specs.Serial.{IsNew, plan_of_parts}
+use Rattle.sdl_run.proofs.Lists.{all_at}
+use Rattle.sdl_run.proofs.Between.{starts_in_order}
+use Rattle.sdl_run.proofs.Drives.{map_map, same_plan}
+use Rattle.sdl_run.proofs.Driving.{system_is}
+use Rattle.sdl_run.proofs.Rooms.{room_as}
+use Rattle.sdl_run.proofs.Starts.{block}
+
+got : {X Y : Type 0} (f : X → Y) (xs : List X) (n : ℕ) (y : Y) → slice_get (map f xs) n ≡ Some y → (x : X) × (slice_get xs n ≡ Some x) × (f x ≡ y)
+got f [] n y e = absurd (none-some y e)
+got f (x ∷ xs) zero y e = (x, refl, same_Some (f x) y e)
+got f (x ∷ xs) (suc n) y e = got f xs n y e
+
+place_read : {X Y : Type 0} (f : X → Y) (xs : List X) (n : ℕ) (x : X) → slice_get xs n ≡ Some x → get_or (map f xs) n (f x) ≡ f x
+place_read f [] n x e = absurd (none-some x e)
+place_read f (y ∷ ys) zero x e = ap f (same_Some y x e)
+place_read f (y ∷ ys) (suc n) x e = place_read f ys n x e
+
+place_get : {X Y : Type 0} (f : X → Y) (xs : List X) (n : ℕ) (x : X) → slice_get xs n ≡ Some x → slice_get (map f xs) n ≡ Some (f x)
+place_get f [] n x e = absurd (none-some x e)
+place_get f (y ∷ ys) zero x e = ap (λ z. Some (f z)) (same_Some y x e)
+place_get f (y ∷ ys) (suc n) x e = place_get f ys n x e
+
+place_within : {X Y : Type 0} (f : X → Y) (xs : List X) (n : ℕ) (x : X) → slice_get xs n ≡ Some x → n < length (map f xs)
+place_within f [] n x e = absurd (none-some x e)
+place_within f (y ∷ ys) zero x e = omega arith
+place_within f (y ∷ ys) (suc n) x e = let a = place_within f ys n x e in omega (arith, a)
+
+read_map : {X Y : Type 0} (f : X → Y) (xs : List X) (n : ℕ) (x : X) → get_or (map f xs) n (f x) ≡ f (get_or xs n x)
+read_map f [] n x = refl
+read_map f (y ∷ ys) zero x = refl
+read_map f (y ∷ ys) (suc n) x = read_map f ys n x
+
+all_of_map : {X Y : Type 0} (P : Y → Type 0) (f : X → Y) (xs : List X) → All P (map f xs) → All (λ x. P (f x)) xs
+all_of_map P f xs h = λ n x less. subst P (read_map f xs n x) (h n (f x) (let a = length-map xs f in omega (arith, a, less)))
+
+pub all_same : {X : Type 0} (P : X → Type 0) (xs ys : List X) → xs ≡ ys → All P xs → All P ys
+all_same P xs ys e h = subst (All P) e h
+
+hops_of : (hs : List Hop) → map (λ (f : Forwarding). f.hop) (map idle_at hs) ≡ hs
+hops_of [] = refl
+hops_of (h ∷ hs) = ap (λ zs. h ∷ zs) (hops_of hs)
+
+none_held : (hs : List Hop) → AllByRecursion (λ (f : Forwarding). f.held ≡ None) (map idle_at hs)
+none_held [] = tt
+none_held (h ∷ hs) = (refl, none_held hs)
+
+pub parts_count : {X Y : Type 0} (f : X → Y) (done : List X) (y : Y) (rest all : List Y) → map f done ++ y ∷ rest ≡ all → length all ≡ length done + (length rest + 1)
+parts_count f done y rest all e =
+    let a = length-append (map f done) (y ∷ rest) in
+    let b = length-map done f in
+    let d = ap length e in
+    omega (arith, a, b, d)
+
+module _ {S I : Type 0} {F : I → Type 0} {g : _} (may : ℕ → Frame → Step → Type 0) (d : Driver S I F g) (new : AllByRecursion (IsNew may d.checked d.budget) d.blocks.items)
+    (system : AreOneSystem may d.checked d.routes (map behaviours_of d.blocks.items)) where
+  core_new : (n : ℕ) (w : BlockWorker S I F g) → slice_get d.blocks.items n ≡ Some w → IsNew may d.checked d.budget w → IsCoreAt may (plan_of d) n (worker_of w).core
+  unfolding block
+  core_new n w found is =
+      let here : get_or (map behaviours_of d.blocks.items) n (behaviours_of w) ≡ behaviours_of w = place_read behaviours_of d.blocks.items n w found in
+      let own = system.dealt.each n (behaviours_of w) (place_within behaviours_of d.blocks.items n w found) in
+      let numbered : (behaviours_of w).block.0 ≡ n = subst (λ (p : BlockParts S I F g). p.block.0 ≡ n) here own.block in
+      let rules : unwrap_or (slice_get (map (λ v. block_rules (behaviours_of v)) d.blocks.items) n) [] ≡ block_rules (behaviours_of w) =
+      ap (λ (o : Option (List Rules)). unwrap_or o []) (place_get (λ v. block_rules (behaviours_of v)) d.blocks.items n w found) in
+      let same = system_is (system_at (plan_of d) n) (system_around w d.routes) (sym (ap (λ (k : Working). k.core.signals) is.worker)) (sym (ap (λ (k : Working). k.core.sets) is.worker)) refl rules in
+      record {
+        block = ap (λ (k : Working). k.core.block) is.worker ∙ ap (λ (k : ℕ). block k) numbered;
+        signals = ap (λ (k : Working). k.core.signals) is.worker;
+        sets = ap (λ (k : Working). k.core.sets) is.worker;
+        budget = ap (λ (k : Working). k.core.budget) is.worker;
+        sound = subst (λ s. IsSound may s (worker_of w).core) (sym same) (is.sound d.routes);
+      }
+
+  cores_new : (n : ℕ) (v : Working) → slice_get (map worker_of d.blocks.items) n ≡ Some v → IsCoreAt may (plan_of d) n v.core × (v.core.log ≡ []) × (v.kept ≡ None) × (v.outgoing ≡ [])
+  cores_new n v at =
+      let (w, found, is) = got worker_of d.blocks.items n v at in
+      let fresh = all_at (IsNew may d.checked d.budget) d.blocks.items n w new found in
+      subst (λ (k : Working). IsCoreAt may (plan_of d) n k.core × (k.core.log ≡ []) × (k.kept ≡ None) × (k.outgoing ≡ [])) is
+      (core_new n w found fresh, ap (λ (k : Working). k.core.log) fresh.worker, ap (λ (k : Working). k.kept) fresh.worker, ap (λ (k : Working). k.outgoing) fresh.worker)
+
+  module _ (forwarders : d.forwarders.items ≡ map idle_at (lines_from 0 d.checked.channels)) (board : IsBoardOf d.routes d.board) (empty : (s : Station) → waiting d.board s ≡ []) where
+    fresh : IsFresh may (plan_of d) (site_of d)
+    fresh =
+        record {
+          blocks = length-map d.blocks.items worker_of ∙ (sym (length-map d.blocks.items behaviours_of) ∙ system.dealt.blocks_are);
+          cores = cores_new;
+          forwarders = ap (map (λ (f : Forwarding). f.hop)) forwarders ∙ hops_of (lines_from 0 d.checked.channels);
+          held = subst (AllByRecursion (λ (f : Forwarding). f.held ≡ None)) (sym forwarders) (none_held (lines_from 0 d.checked.channels));
+          board = board;
+          empty = empty;
+        }
+
+    pub driving : (ps : List (BlockParts S I F g)) → ps ≡ map behaviours_of d.blocks.items → IsStructure d.checked → IsTable d.routes → IsClosed d.checked
+        → All (λ p. All (IsAllowedBehaviour may) p.behaviours.items) ps → All (λ p. IsIndexed p) ps → IsDriving may d
+    driving ps e structure table closed allowed indexed =
+        let a = all_of_map (λ p. All (IsAllowedBehaviour may) p.behaviours.items) behaviours_of d.blocks.items (all_same (λ p. All (IsAllowedBehaviour may) p.behaviours.items) ps (map behaviours_of d.blocks.items) e allowed) in
+        let i = all_of_map (λ p. IsIndexed p) behaviours_of d.blocks.items (all_same (λ p. IsIndexed p) ps (map behaviours_of d.blocks.items) e indexed) in
+        record {
+          plan = record { structure = structure; routes = system.routes_are; table = table };
+          work = starts_in_order may (plan_of d) (site_of d) fresh;
+          fire = λ n w less. record { allowed = a n w less; indexed = i n w less };
+          closed = closed;
+        }
+
+module _ {S I : Type 0} {F : I → Type 0} {g : _} (may : ℕ → Frame → Step → Type 0) where
+  -- what a run keeps of a driver
+  pub system_same : (old new : Driver S I F g) → IsSameSystem old new → AreOneSystem may old.checked old.routes (map behaviours_of old.blocks.items) → AreOneSystem may new.checked new.routes (map behaviours_of new.blocks.items)
+  system_same old new same h =
+      subst (λ (s : Structure). AreOneSystem may s new.routes (map behaviours_of new.blocks.items)) (sym same.checked)
+      (subst (λ (r : List Row). AreOneSystem may old.checked r (map behaviours_of new.blocks.items)) (sym same.routes)
+      (subst (λ (ps : List (BlockParts S I F g)). AreOneSystem may old.checked old.routes ps) (sym same.behaviours) h))
+
+  pub room_same : (old new : Driver S I F g) (r : Room S I F g) → IsSameSystem old new → IsDriving may old → IsDriving may new
+      → HasRoom (length old.blocks.items) (length old.blocks.items + (length old.forwarders.items + 1)) r → HasRoom (length new.blocks.items) (length new.blocks.items + (length new.forwarders.items + 1)) r
+  room_same old new r same was is h =
+      let blocks : length old.blocks.items ≡ length new.blocks.items = sym (length-map old.blocks.items behaviours_of) ∙ (ap length (sym same.behaviours) ∙ length-map new.blocks.items behaviours_of) in
+      let lines : length old.forwarders.items ≡ length new.forwarders.items =
+      sym (length-map old.forwarders.items (λ (f : Forwarding). f.hop))
+      ∙ (ap length was.work.forwarders ∙ (ap (λ (s : Structure). length (lines_from 0 s.channels)) (sym same.checked) ∙ (sym (ap length is.work.forwarders) ∙ length-map new.forwarders.items (λ (f : Forwarding). f.hop)))) in
+      room_as r (length old.blocks.items) (length old.blocks.items + (length old.forwarders.items + 1)) (length new.blocks.items) (length new.blocks.items + (length new.forwarders.items + 1)) blocks (omega (arith, blocks, lines)) h
+
+  pub ended_same : (old new : Driver S I F g) (o : Outcome) (end : RunEnd) → IsSameSystem old new → HasEnded may (plan_of new) o end → HasEnded may (plan_of old) o end
+  ended_same old new o end same h = subst (λ (p : Plan). HasEnded may p o end) (same_plan old new same) h
+
+  -- the plan of a driver is that of its parts
+  pub ended_of : (d : Driver S I F g) (ps : List (BlockParts S I F g)) (o : Outcome) (end : RunEnd) → map behaviours_of d.blocks.items ≡ ps → HasEnded may (plan_of d) o end
+      → HasEnded may (plan_of_parts d.checked d.routes ps d.budget) o end
+  ended_of d ps o end e h =
+      let rules : map (λ w. block_rules (behaviours_of w)) d.blocks.items ≡ map block_rules ps = sym (map_map block_rules behaviours_of d.blocks.items) ∙ ap (map block_rules) e in
+      subst (λ (r : List (List Rules)). HasEnded may (record { structure = d.checked; routes = d.routes; rules = r; budget = d.budget }) o end) rules h
+
+  pub ended_bound : (b : Bound S I F g) (s : Structure) (rows : List Row) (ps : List (BlockParts S I F g)) (budget : ℕ) (o : Outcome) (end : RunEnd) → s ≡ structure_of b → rows ≡ routes_of b → ps ≡ blocks_of b
+      → HasEnded may (plan_of_parts s rows ps budget) o end → HasEnded may (plan_of_bound b budget) o end
+  ended_bound b s rows ps budget o end e f h ended =
+      subst (λ (x : Structure). HasEnded may (plan_of_parts x (routes_of b) (blocks_of b) budget) o end) e
+      (subst (λ (x : List Row). HasEnded may (plan_of_parts s x (blocks_of b) budget) o end) f (subst (λ (x : List (BlockParts S I F g)). HasEnded may (plan_of_parts s rows x budget) o end) h ended))

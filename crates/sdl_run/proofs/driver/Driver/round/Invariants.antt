@@ -1,0 +1,9 @@
+use Rattle.sdl_run.specs.Drivers.{site_of, plan_of, IsDriving, IsSameSystem, HasGone}
+use Rattle.sdl_run.proofs.driver.Driver.round.Given as goal
+
+abbrev pub invariant-loop-number : goal.invariant-loop-number
+invariant-loop-number g l = record {
+  driving : IsDriving g.S.Agents.may l.self;
+  same : IsSameSystem l.fn.self l.self;
+  gone : HasGone (plan_of l.fn.self) (site_of l.fn.self) (site_of l.self) l.did l.number;
+}

@@ -1,0 +1,12 @@
+use Rattle.sdl_run.specs.Drivers.{site_of, plan_of, IsDriving, IsSameSystem}
+use Rattle.sdl_run.specs.Measure.{work_left}
+use Rattle.sdl_run.proofs.driver.Driver.settle.Given as goal
+
+abbrev pub invariant-loop-worker : goal.invariant-loop-worker
+invariant-loop-worker g l = record {
+  driving : IsDriving g.S.Agents.may l.self;
+  same : IsSameSystem l.fn.self l.self;
+}
+
+abbrev pub decreases-loop-worker : goal.decreases-loop-worker
+decreases-loop-worker g l = work_left (plan_of l.fn.self) (site_of l.self)

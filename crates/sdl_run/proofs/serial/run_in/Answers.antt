@@ -1,0 +1,39 @@
+use Rattle.std.proofs.Common.{◌+◌, map, length, sym, ◌∙◌, arith}
+use Rattle.sdl_transition.specs.Rules.{block_rules}
+use Rattle.sdl_instances.specs.Core.{IsBoundIn, signals_of, sets_of}
+use Rattle.sdl_block.specs.Workers.{behaviours_of}
+use Rattle.sdl_run.specs.Closings.{outcome_in}
+use Rattle.sdl_run.proofs.Begins.{room_for}
+use Rattle.sdl_run.proofs.Closes.{system_kept}
+use Rattle.sdl_run.proofs.Fresh.{all_same, parts_count, driving, ended_of}
+use Rattle.sdl_run.proofs.serial.run_in.Goals as goal
+
+pub parts_are_bound-requires : goal.parts_are_bound-requires
+parts_are_bound-requires g c = system_kept g.S.Agents.may c.args.checked c.args.routes c.args.blocks.items c.as_slice.result.now c.as_slice.ensures.value c.requires.system
+
+pub start_blocks-requires-clause-bound : goal.start_blocks-requires-clause-bound
+start_blocks-requires-clause-bound g c =
+    all_same (λ p. IsBoundIn (signals_of c.args.checked) (sets_of c.args.checked) (block_rules p) p.block) c.as_slice.result.now c.args.blocks.items c.as_slice.ensures.value c.parts_are_bound.ensures.bound
+
+pub drive-requires-clause-driving : goal.drive-requires-clause-driving
+drive-requires-clause-driving g c =
+    let system = system_kept g.S.Agents.may c.args.checked c.args.routes c.args.blocks.items (map behaviours_of c.in-Ok.blocks.items) c.in-Ok.ensures.parts c.requires.system in
+    driving g.S.Agents.may (record { checked = c.args.checked; routes = c.args.routes; blocks = c.in-Ok.blocks; forwarders = c.args.space.forwarders; board = c.args.space.board; budget = c.args.budget })
+    c.in-Ok.ensures.new system c.requires.space.forwarders c.requires.space.board c.requires.space.empty c.as_slice.result.now (c.as_slice.ensures.value ∙ sym c.in-Ok.ensures.parts)
+    c.structure.ensures.is_structure c.len.ensures.table c.requires.closed c.parts_are_bound.ensures.allowed c.parts_are_bound.ensures.indexed
+
+pub drive-requires-clause-system : goal.drive-requires-clause-system
+drive-requires-clause-system g c = system_kept g.S.Agents.may c.args.checked c.args.routes c.args.blocks.items (map behaviours_of c.in-Ok.blocks.items) c.in-Ok.ensures.parts c.requires.system
+
+pub gather-parts-requires-clause-room : goal.gather-parts-requires-clause-room
+gather-parts-requires-clause-room g c =
+    let count = parts_count behaviours_of c.in-Err.workers.items c.in-Err.refused c.in-Err.rest.items c.args.blocks.items c.in-Err.ensures.back in
+    room_for c.args.space.room.parts (length c.in-Err.workers.items + (length c.in-Err.rest.items + 1)) (length c.args.blocks.items) (omega (arith, count)) c.requires.space.room.parts
+
+pub of_blocks-requires : goal.of_blocks-requires
+of_blocks-requires g c = system_kept g.S.Agents.may c.args.checked c.args.routes c.args.blocks.items c.gather-parts.result.items (c.gather-parts.ensures ∙ c.in-Err.ensures.back) c.requires.system
+
+pub returns-in-Ok-clause-ended : goal.returns-in-Ok-clause-ended
+returns-in-Ok-clause-ended g c =
+    ended_of g.S.Agents.may (record { checked = c.args.checked; routes = c.args.routes; blocks = c.in-Ok.blocks; forwarders = c.args.space.forwarders; board = c.args.space.board; budget = c.args.budget })
+    c.args.blocks.items (outcome_in c.drive.result) c.drive.result.end c.in-Ok.ensures.parts c.drive.ensures.ended

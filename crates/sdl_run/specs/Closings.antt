@@ -1,0 +1,58 @@
+-- What a contract sees of a closing, and of the lists that become one.
+use Rattle.std.specs.Prelude.{◌≡◌, ℕ, ◌+◌, ◌≤◌, List, [], map, Option, None, Some, Bool, Vec, vec_len, vec_capacity, if◌then◌else◌}
+use Rattle.sdl_transition.specs.declared.binding.Bound.{Bound}
+use Rattle.sdl_transition.specs.Bound.{structure_of, routes_of, blocks_of}
+use Rattle.sdl_transition.specs.Rules.{block_rules}
+use Rattle.sdl_forward.specs.Boards.{lists_of}
+use Rattle.sdl_block.specs.declared.worker.Hand.{Hand}
+use Rattle.sdl_run.specs.declared.end.RunEnd.{RunEnd}
+use Rattle.sdl_run.specs.declared.end.RunEnd.TheVariants as run_end
+use Rattle.sdl_run.specs.declared.closing.Closing.{Closing}
+use Rattle.sdl_run.specs.declared.closing.Room.{Room}
+use Rattle.sdl_run.specs.declared.driver.Driver.{Driver}
+use Rattle.sdl_block.specs.Workers.{behaviours_of}
+use Rattle.sdl_run.specs.Plan.{Plan}
+use Rattle.sdl_run.specs.Outcome.{Held, Outcome}
+
+-- the plan of a bound system with this budget
+abbrev pub plan_of_bound : {S I : Type 0} {F : I → Type 0} {g : _} → Bound S I F g → ℕ → Plan
+plan_of_bound b budget = record { structure = structure_of b; routes = routes_of b; rules = map block_rules (blocks_of b); budget = budget }
+
+abbrev pub items_in : {X Z : Type 0} → Vec X Z → List X
+items_in v = v.items
+
+abbrev pub held_in : Hand → Held
+held_in h = record { kept = h.kept; outgoing = h.outgoing.items }
+
+-- what a closing shows of its run
+abbrev pub outcome_in : {S I : Type 0} {F : I → Type 0} {g : _} → Closing S I F g → Outcome
+outcome_in c =
+    record {
+      logs = map items_in c.logs.items;
+      env_sent = [];
+      env_origins = [];
+      env_received = [];
+      hands = map held_in c.hands.items;
+      rests = lists_of c.rests.items;
+    }
+
+-- it is the system that was handed in
+abbrev pub IsSameBound : {S I : Type 0} {F : I → Type 0} {g : _} → Bound S I F g → Bound S I F g → Type 0
+IsSameBound old new = (structure_of new ≡ structure_of old) × (routes_of new ≡ routes_of old) × (blocks_of new ≡ blocks_of old)
+
+-- there is room for so many blocks and hands more
+pub record HasRoom {S I : Type 0} {F : I → Type 0} {g : _} (more_blocks more_hands : ℕ) (r : Room S I F g) : Type 0 where
+  pub parts : vec_len r.parts + more_blocks ≤ vec_capacity r.parts
+  pub logs : vec_len r.logs + more_blocks ≤ vec_capacity r.logs
+  pub hands : vec_len r.hands + more_hands ≤ vec_capacity r.hands
+
+-- The end of a run, from the worker that was refused memory, the least block whose budget is used, and whether nothing is
+-- left.
+abbrev pub end_by : Option ℕ → Option ℕ → Bool → RunEnd
+end_by (Some w) spent quiet = run_end.Memory w
+end_by None None quiet = run_end.Quiet
+end_by None (Some b) quiet = if quiet then run_end.Quiet else run_end.Spent (record { 0 = b })
+
+-- the system is the driver's
+abbrev pub IsSystemOf : {S I : Type 0} {F : I → Type 0} {g : _} → Driver S I F g → Bound S I F g → Type 0
+IsSystemOf d b = (structure_of b ≡ d.checked) × (routes_of b ≡ d.routes) × (blocks_of b ≡ map behaviours_of d.blocks.items)

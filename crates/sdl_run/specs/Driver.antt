@@ -1,0 +1,137 @@
+-- The driver of one thread: what it has in hand between two steps, and what each step does to that.
+use Rattle.std.specs.Prelude.{◌≡◌, ℕ, List, [], ◌∷◌, ◌++◌, None, Some, map, length, slice_get, slice_set, if◌then◌else◌}
+use Rattle.std.specs.Option.{option_to_list}
+use Rattle.std.specs.List.{AllByRecursion}
+use Rattle.sdl_signal.specs.declared.values.Item.{Item}
+use Rattle.sdl_routes.specs.declared.parts.Hop.{Hop}
+use Rattle.sdl_routes.specs.declared.parts.Station.{Station}
+use Rattle.sdl_routes.specs.declared.parts.Station.TheVariants.{Line, Outlet}
+use Rattle.sdl_transition.specs.declared.step.Frame.{Frame}
+use Rattle.sdl_transition.specs.declared.step.Step.{Step}
+use Rattle.sdl_instances.specs.Machine.{State}
+use Rattle.sdl_instances.specs.Run.{arrived, sent}
+use Rattle.sdl_instances.specs.Core.{Core, IsSound, signals_of, sets_of}
+use Rattle.sdl_forward.specs.Boards.{same_hop, waiting, IsBoardOf}
+use Rattle.sdl_forward.specs.declared.forwarder.Forwarded.{Forwarded}
+use Rattle.sdl_forward.specs.Forwards.{Forwarding}
+use Rattle.sdl_forward.specs.Forwards as hands
+use Rattle.sdl_block.specs.declared.worker.Stepped.{Stepped}
+use Rattle.sdl_run.specs.declared.worker.Worker.{Worker}
+use Rattle.sdl_run.specs.declared.worker.Worker.TheVariants.{Block, Environment, Forwarder}
+use Rattle.sdl_run.specs.Stations.{IsAgent}
+use Rattle.sdl_run.specs.Books.{Books, InOrder, standing}
+use Rattle.sdl_run.specs.Plan.{Plan, blocks_in, lines_of, system_at, ways_of, MayTravel}
+use Rattle.sdl_block.specs.Work.{Working, StepsAs, IsAtRest}
+use Rattle.sdl_run.specs.Outcome.{Held, Outcome}
+
+-- the blocks at work, the forwarders, and the board
+pub record Site : Type 0 where
+  pub blocks : List Working
+  pub forwarders : List Forwarding
+  pub board : List (Station × List Item)
+
+-- what a block has; nothing for another worker
+abbrev pub of_block : (Working → List Item) → List Working → Worker → List Item
+of_block f ws (Block b) = elim (slice_get ws b.0) [ None ↦ [] | Some w ↦ f w ]
+of_block f ws Environment = []
+of_block f ws (Forwarder h) = []
+
+-- what the forwarder of the path holds
+abbrev pub held_at : List Forwarding → Hop → List Item
+held_at [] h = []
+held_at (f ∷ fs) h = if same_hop f.hop h then option_to_list f.held else held_at fs h
+
+abbrev pub kept_by : Site → Worker → List Item
+kept_by site (Block b) = of_block (λ w. option_to_list w.kept) site.blocks (Block b)
+kept_by site Environment = []
+kept_by site (Forwarder h) = held_at site.forwarders h
+
+-- the books between two steps
+abbrev pub site_books : Site → Books
+site_books site =
+    record {
+      sent = of_block (λ w. sent w.core.log) site.blocks;
+      arrived = of_block (λ w. arrived w.core.log) site.blocks;
+      kept = kept_by site;
+      outgoing = of_block (λ w. w.outgoing) site.blocks;
+      rest = waiting site.board;
+    }
+
+abbrev pub block_hand : Working → Held
+block_hand w = record { kept = w.kept; outgoing = w.outgoing }
+
+abbrev pub empty_hand : Held
+empty_hand = record { kept = None; outgoing = [] }
+
+abbrev pub forwarder_hand : Forwarding → Held
+forwarder_hand f = record { kept = f.held; outgoing = [] }
+
+-- what a run of a closed system leaves that stops here
+abbrev pub outcome_of : Site → Outcome
+outcome_of site =
+    record {
+      logs = map (λ w. w.core.log) site.blocks;
+      env_sent = [];
+      env_origins = [];
+      env_received = [];
+      hands = map block_hand site.blocks ++ empty_hand ∷ map forwarder_hand site.forwarders;
+      rests = site.board;
+    }
+
+-- and the states in which its blocks stop
+abbrev pub finals_of : Site → List State
+finals_of site = map (λ w. w.core.state) site.blocks
+
+-- a round went by in which no worker could do anything
+pub record IsIdle (site : Site) : Type 0 where
+  pub blocks : (n : ℕ) (w : Working) → slice_get site.blocks n ≡ Some w → IsAtRest w site.board
+  pub forwarders : (k : ℕ) (f : Forwarding) → slice_get site.forwarders k ≡ Some f → (f.held ≡ None) × (waiting site.board (Line f.hop) ≡ [])
+  pub outlet : waiting site.board Outlet ≡ []
+
+module _ (may : ℕ → Frame → Step → Type 0) (plan : Plan) where
+  -- the core of block n
+  pub record IsCoreAt (n : ℕ) (c : Core) : Type 0 where
+    pub block : c.block ≡ record { 0 = n }
+    pub signals : c.signals ≡ signals_of plan.structure
+    pub sets : c.sets ≡ sets_of plan.structure
+    pub budget : c.budget ≡ plan.budget
+    pub sound : IsSound may (system_at plan n) c
+
+  -- What holds between two steps: each block is sound, each path has its forwarder, the routes are in order, and what is on
+  -- its way may travel.
+  pub record IsAtWork (site : Site) : Type 0 where
+    pub blocks : length site.blocks ≡ blocks_in plan
+    pub cores : (n : ℕ) (w : Working) → slice_get site.blocks n ≡ Some w → IsCoreAt n w.core
+    pub forwarders : map (λ f. f.hop) site.forwarders ≡ lines_of plan
+    pub board : IsBoardOf plan.routes site.board
+    pub order : InOrder (ways_of plan) (site_books site)
+    pub waiting_legal : (s : Station) → AllByRecursion (MayTravel plan) (standing (site_books site) s)
+    pub outgoing_legal : (w : Worker) → IsAgent w → AllByRecursion (MayTravel plan) ((site_books site).outgoing w)
+
+  -- at the start no event has happened, nothing is held, and every queue is empty
+  pub record IsFresh (site : Site) : Type 0 where
+    pub blocks : length site.blocks ≡ blocks_in plan
+    pub cores : (n : ℕ) (w : Working) → slice_get site.blocks n ≡ Some w → IsCoreAt n w.core × (w.core.log ≡ []) × (w.kept ≡ None) × (w.outgoing ≡ [])
+    pub forwarders : map (λ f. f.hop) site.forwarders ≡ lines_of plan
+    pub held : AllByRecursion (λ (f : Forwarding). f.held ≡ None) site.forwarders
+    pub board : IsBoardOf plan.routes site.board
+    pub empty : (s : Station) → waiting site.board s ≡ []
+
+  -- block n makes a step
+  pub record BlockSteps (n : ℕ) (answer : Stepped) (old new : Site) : Type 0 where
+    pub was : Working
+    pub is : Working
+    pub before : slice_get old.blocks n ≡ Some was
+    pub step : StepsAs may (system_at plan n) was old.board answer is new.board
+    pub after : new.blocks ≡ slice_set old.blocks n is
+    pub forwarders : new.forwarders ≡ old.forwarders
+
+-- forwarder k makes a step
+pub record ForwarderSteps (plan : Plan) (k : ℕ) (answer : Forwarded) (old new : Site) : Type 0 where
+  pub was : Forwarding
+  pub is : Forwarding
+  pub before : slice_get old.forwarders k ≡ Some was
+  pub step : hands.Forwards plan.routes was old.board answer is new.board
+  pub board : IsBoardOf plan.routes new.board
+  pub after : new.forwarders ≡ slice_set old.forwarders k is
+  pub blocks : new.blocks ≡ old.blocks

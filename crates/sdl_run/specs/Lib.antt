@@ -1,0 +1,14 @@
+pub mod Stations
+pub mod Books
+pub mod Steps
+pub mod Causes
+pub mod Plan
+pub mod Outcome
+pub mod Ends
+pub mod Driver
+pub mod Measure
+pub mod Ring
+pub mod Drivers
+pub mod Closings
+pub mod Starting
+pub mod Serial

@@ -1,0 +1,62 @@
+-- What stands before the first step of a run, and what comes back where it did not start.
+use Rattle.std.specs.Prelude.{◌≡◌, ℕ, ◌+◌, ◌≤◌, List, [], map, length, vec_len, vec_capacity}
+use Rattle.sdl_structure.specs.Structure.{Structure}
+use Rattle.sdl_routes.specs.declared.parts.Row.{Row}
+use Rattle.sdl_routes.specs.declared.parts.Station.{Station}
+use Rattle.sdl_transition.specs.declared.step.Frame.{Frame}
+use Rattle.sdl_transition.specs.declared.step.Step.{Step}
+use Rattle.sdl_transition.specs.declared.parts.BlockParts.{BlockParts}
+use Rattle.sdl_transition.specs.declared.binding.Bound.{Bound}
+use Rattle.sdl_transition.specs.Bound.{structure_of, routes_of, blocks_of, IsBound}
+use Rattle.sdl_transition.specs.Rules.{block_rules}
+use Rattle.sdl_instances.specs.Core.{Core, IsSound, signals_of, sets_of}
+use Rattle.sdl_instances.specs.Run.{initial}
+use Rattle.sdl_forward.specs.Boards.{waiting, IsBoardOf}
+use Rattle.sdl_block.specs.declared.worker.BlockWorker.{BlockWorker}
+use Rattle.sdl_block.specs.Work.{with_core}
+use Rattle.sdl_block.specs.Workers.{worker_of, behaviours_of, system_around}
+use Rattle.sdl_run.specs.declared.closing.StartFault.{StartFault}
+use Rattle.sdl_run.specs.declared.closing.StartFault.TheVariants as fault
+use Rattle.sdl_run.specs.declared.serial.Space.{Space}
+use Rattle.sdl_run.specs.Closings.{IsSameBound, HasRoom}
+use Rattle.sdl_run.specs.Plan.{Plan, lines_from}
+use Rattle.sdl_run.specs.Starting.{idle_at}
+
+-- the first core of a block with these parts
+abbrev pub first_core : {S I : Type 0} {F : I → Type 0} {g : _} → Structure → ℕ → BlockParts S I F g → Core
+first_core s budget p =
+    record {
+      block = p.block;
+      signals = signals_of s;
+      sets = sets_of s;
+      state = initial (block_rules p) (sets_of s) p.block;
+      log = [];
+      budget = budget;
+    }
+
+-- a worker that has done nothing
+pub record IsNew {S I : Type 0} {F : I → Type 0} {g : _} (may : ℕ → Frame → Step → Type 0) (s : Structure) (budget : ℕ) (w : BlockWorker S I F g) : Type 0 where
+  pub worker : worker_of w ≡ with_core (first_core s budget (behaviours_of w))
+  pub sound : (routes : List Row) → IsSound may (system_around w routes) (worker_of w).core
+
+-- there is all that a run of so many blocks needs beside them
+pub record IsSpace {S I : Type 0} {F : I → Type 0} {g : _} (s : Structure) (routes : List Row) (blocks : ℕ) (space : Space S I F g) : Type 0 where
+  pub board : IsBoardOf routes space.board
+  pub empty : (t : Station) → waiting space.board t ≡ []
+  pub forwarders : space.forwarders.items ≡ map idle_at (lines_from 0 s.channels)
+  pub room : HasRoom blocks (blocks + (length space.forwarders.items + 1)) space.room
+  pub room_empty : (space.room.parts.items ≡ []) × (space.room.logs.items ≡ []) × (space.room.hands.items ≡ [])
+  pub workers : space.workers.items ≡ []
+  pub workers_room : vec_len space.workers + blocks ≤ vec_capacity space.workers
+
+-- the plan of a system of these parts
+abbrev pub plan_of_parts : {S I : Type 0} {F : I → Type 0} {g : _} → Structure → List Row → List (BlockParts S I F g) → ℕ → Plan
+plan_of_parts s routes blocks budget = record { structure = s; routes = routes; rules = map block_rules blocks; budget = budget }
+
+-- it is the system of these parts
+abbrev pub IsBoundOf : {S I : Type 0} {F : I → Type 0} {g : _} → Structure → List Row → List (BlockParts S I F g) → Bound S I F g → Type 0
+IsBoundOf s routes blocks b = (structure_of b ≡ s) × (routes_of b ≡ routes) × (blocks_of b ≡ blocks)
+
+-- where a run did not start, the system comes back as it was handed in
+abbrev pub IsBackIn : {S I : Type 0} {F : I → Type 0} {g : _} → (ℕ → Frame → Step → Type 0) → Bound S I F g → StartFault S I F g → Type 0
+IsBackIn may bound (fault.Memory b) = IsSameBound bound b × IsBound may b

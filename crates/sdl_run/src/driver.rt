@@ -1,0 +1,231 @@
+//! The driver of a run on one thread.
+ghost use Rattle.std.specs.Prelude.{◌≡◌, ◌+◌, ◌<◌, ◌≤◌, [], length, map, MatchOption, MatchBool};
+ghost use Rattle.sdl_transition.specs.Bound.{AreOneSystem};
+ghost use Rattle.sdl_block.specs.Workers.{behaviours_of};
+ghost use Rattle.sdl_run.specs.Closings.{HasRoom, IsSystemOf, outcome_in};
+ghost use Rattle.sdl_run.specs.Ends.{HasEnded};
+ghost use Rattle.sdl_run.specs.Plan.{workers_of};
+ghost use Rattle.sdl_run.specs.Driver.{BlockSteps, ForwarderSteps, IsIdle};
+ghost use Rattle.sdl_run.specs.Drivers.{site_of, plan_of, IsDriving, IsSameSystem, StepAnswers, RoundAnswers, NoneSpent, FirstSpent, AllDone, SomeUndone, AllLeft, SomeLeft};
+
+use crate::closing::{Closing, Room, end_of, take_blocks, take_forwarders};
+use arrayvec::ArrayVec;
+use sdl_block::{BlockWorker, Hand, Stepped};
+use sdl_forward::{Board, Forwarded, Forwarder};
+use sdl_queue::Rest;
+use sdl_routes::{Routes, Station};
+use sdl_structure::Checked;
+use sdl_transition::{Agents, Bound};
+
+/// All workers of a run, with the board between them, and the system that they carry out. The environment's worker of a
+/// closed system does nothing.
+#[derive(Drop)]
+pub struct Driver<S> {
+    pub(crate) checked: Checked,
+    pub(crate) routes: Routes,
+    pub(crate) blocks: Vec<BlockWorker<S>>,
+    pub(crate) forwarders: Vec<Forwarder>,
+    pub(crate) board: Board,
+    pub(crate) budget: u32,
+}
+
+/// What a round of all workers did.
+pub enum Round {
+    /// Some worker did something.
+    Did,
+    /// No worker could do anything.
+    Idle,
+    /// Memory was refused to the worker of this number.
+    Refused(u32),
+}
+
+impl<S: Agents> Driver<S> {
+    /// How many workers there are: the blocks, the environment and the forwarders.
+    fn workers(&self) -> u32
+        requires { IsDriving S.may self.now }
+        ensures count { result ≡ length (workers_of (plan_of self.now)) }
+        ensures few { result ≤ 145 }
+        ensures some { 0 < result }
+    {
+        (self.blocks.len() + 1 + self.forwarders.len()) as u32
+    }
+
+    /// Lets a block make a step.
+    fn step_block(&mut self, block: usize, pick: u32) -> Stepped
+        requires driving { IsDriving S.may self.old }
+        requires within { block < length self.old.blocks.items }
+        ensures step { BlockSteps S.may (plan_of self.old) block result (site_of self.old) (site_of self.new) }
+        ensures same { IsSameSystem self.old self.new }
+    {
+        let worker = &mut self.blocks[block];
+        worker.step_serial(&self.routes, &mut self.board, pick)
+    }
+
+    /// Lets a forwarder make a step.
+    fn step_forwarder(&mut self, forwarder: usize) -> Forwarded
+        requires driving { IsDriving S.may self.old }
+        requires within { forwarder < length self.old.forwarders.items }
+        ensures step { ForwarderSteps (plan_of self.old) forwarder result (site_of self.old) (site_of self.new) }
+        ensures same { IsSameSystem self.old self.new }
+    {
+        let worker = &mut self.forwarders[forwarder];
+        worker.step_serial(&self.routes, &mut self.board)
+    }
+
+    /// Lets the worker of this number make a step. The environment's worker of a closed system does nothing.
+    fn step(&mut self, number: u32, pick: u32) -> Stepped
+        requires driving { IsDriving S.may self.old }
+        requires within { number < length (workers_of (plan_of self.old)) }
+        ensures driving { IsDriving S.may self.new }
+        ensures same { IsSameSystem self.old self.new }
+        ensures answer { StepAnswers (plan_of self.old) number result (site_of self.old) (site_of self.new) }
+    {
+        let number = number as usize;
+        let blocks = self.blocks.len();
+        if number < blocks {
+            return self.step_block(number, pick);
+        }
+        if number == blocks {
+            return Stepped::Idle;
+        }
+        match self.step_forwarder(number - blocks - 1) {
+            Forwarded::Moved => Stepped::Did,
+            Forwarded::Idle => Stepped::Idle,
+            Forwarded::Held => Stepped::Memory,
+        }
+    }
+
+    /// Lets all workers make a step, by number, until one is refused memory.
+    fn round(&mut self) -> Round
+        requires driving { IsDriving S.may self.old }
+        ensures driving { IsDriving S.may self.new }
+        ensures same { IsSameSystem self.old self.new }
+        ensures answer { RoundAnswers (plan_of self.old) result (site_of self.old) (site_of self.new) }
+    {
+        let mut did = false;
+        for number in 0..self.workers() {
+            match self.step(number, 0) {
+                Stepped::Did => did = true,
+                Stepped::Idle => {}
+                Stepped::Memory => return Round::Refused(number),
+            }
+        }
+        if did { Round::Did } else { Round::Idle }
+    }
+
+    /// Lets all workers take turns until a round does nothing, or the worker that is answered is refused memory.
+    fn settle(&mut self) -> Option<u32>
+        requires driving { IsDriving S.may self.old }
+        ensures driving { IsDriving S.may self.new }
+        ensures same { IsSameSystem self.old self.new }
+        ensures answer { MatchOption result (IsIdle (site_of self.new)) (λ w. w < length (workers_of (plan_of self.old))) }
+    {
+        loop {
+            match self.round() {
+                Round::Did => {}
+                Round::Idle => return None,
+                Round::Refused(worker) => return Some(worker),
+            }
+        }
+    }
+
+    /// Carries out the schedule, number by number, and then settles the rest. `None` where no memory was refused.
+    pub fn run(&mut self, schedule: &[u32]) -> Option<u32>
+        requires driving { IsDriving S.may self.old }
+        ensures driving { IsDriving S.may self.new }
+        ensures same { IsSameSystem self.old self.new }
+        ensures answer { MatchOption result (IsIdle (site_of self.new)) (λ w. w < length (workers_of (plan_of self.old))) }
+    {
+        let workers = self.workers();
+        for number in schedule {
+            match self.step(*number % workers, *number / workers) {
+                Stepped::Did => {}
+                Stepped::Idle => {}
+                Stepped::Memory => return Some(*number % workers),
+            }
+        }
+        self.settle()
+    }
+
+    /// The least block whose budget is used.
+    fn first_spent(&self) -> Option<u32>
+        requires { IsDriving S.may self.now }
+        ensures { MatchOption result (NoneSpent (plan_of self.now) (site_of self.now).blocks) (FirstSpent (plan_of self.now) (site_of self.now).blocks) }
+    {
+        for (number, block) in self.blocks.iter().enumerate() {
+            if block.made() == self.budget {
+                return Some(number as u32);
+            }
+        }
+        None
+    }
+
+    /// Whether no instance of any block is ready.
+    fn are_settled(&self) -> bool
+        ensures { MatchBool result (AllDone (site_of self.now).blocks) (SomeUndone (site_of self.now).blocks) }
+    {
+        for block in self.blocks.iter() {
+            if !block.is_settled() {
+                return false;
+            }
+        }
+        true
+    }
+}
+
+impl<S: Agents> Driver<S> {
+    /// Takes the driver apart where the run stops. The worker is the one that was refused memory.
+    pub fn close(self, room: Room<S>, refused: Option<u32>) -> Closing<S>
+        requires driving { IsDriving S.may self }
+        requires system { AreOneSystem S.may self.checked self.routes (map behaviours_of self.blocks.items) }
+        requires room { HasRoom (length self.blocks.items) (length self.blocks.items + (length self.forwarders.items + 1)) room }
+        requires empty { (room.parts.items ≡ []) × (room.logs.items ≡ []) × (room.hands.items ≡ []) }
+        requires refused { MatchOption refused (IsIdle (site_of self)) (λ w. w < length (workers_of (plan_of self))) }
+        ensures ended { HasEnded S.may (plan_of self) (outcome_in result) result.end }
+        ensures bound { IsSystemOf self result.bound }
+    {
+        let spent = self.first_spent();
+        let settled = self.are_settled();
+        let Driver {
+            checked,
+            routes,
+            blocks,
+            forwarders,
+            board,
+            budget: _,
+        } = self;
+        let mut room = room;
+        take_blocks(&mut room, blocks);
+        room.take_hand(Hand {
+            kept: None,
+            outgoing: ArrayVec::new(),
+        });
+        take_forwarders(&mut room, forwarders);
+        let rests = board.into_rests();
+        let quiet = if settled {
+            is_all_empty(rests.as_slice())
+        } else {
+            false
+        };
+        let Room { parts, logs, hands } = room;
+        Closing {
+            bound: Bound::of_blocks(checked, routes, parts),
+            logs,
+            hands,
+            rests,
+            end: end_of(refused, spent, quiet),
+        }
+    }
+}
+
+/// Whether nothing is left at any station.
+fn is_all_empty(rests: &[(Station, Rest)]) -> bool
+    ensures { MatchBool result (AllLeft rests.now) (SomeLeft rests.now) }
+{
+    for rest in rests {
+        if rest.1.len() != 0 {
+            return false;
+        }
+    }
+    true
+}
