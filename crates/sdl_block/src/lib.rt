@@ -4,7 +4,7 @@
 mod putting;
 pub mod worker;
 
-pub use worker::{BlockWorker, Hand, Stepped};
+pub use worker::{BlockWorker, Hand, Refused, Stepped, answer_of};
 
 #[cfg(test)]
 mod tests;

@@ -12,7 +12,7 @@ use sdl_signal::Item;
 impl Hand {
     /// Puts the outgoing items, from the front, each at the first station of its route, and says whether there was one.
     /// A refusal leaves that item and those behind it in hand.
-    pub(crate) fn put_out(&mut self, routes: &Routes, board: &mut Board) -> Result<bool, Refused>
+    pub fn put_out(&mut self, routes: &Routes, board: &mut Board) -> Result<bool, Refused>
         requires routed { AreRouted routes.now self.old.outgoing.items }
         requires board { IsBoardOf routes.now board.old }
         ensures put { PutsOut routes.now self.old.outgoing.items board.old result self.new.outgoing.items board.new }

@@ -39,10 +39,10 @@ pub enum Stepped {
 
 /// The end of a step: memory was refused, or an item may not arrive.
 #[derive(Clone, Copy, Debug, PartialEq, Eq)]
-pub(crate) struct Refused;
+pub struct Refused;
 
 /// What a step answers that did something or not, or was refused.
-fn answer_of(tried: Result<bool, Refused>) -> Stepped
+pub fn answer_of(tried: Result<bool, Refused>) -> Stepped
     ensures { result ≡ phases.answer_of tried }
 {
     match tried {

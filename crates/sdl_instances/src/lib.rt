@@ -6,7 +6,7 @@ mod arriving;
 pub mod block;
 pub mod bounds;
 pub mod choice;
-mod copies;
+pub mod copies;
 pub mod event;
 mod first;
 pub mod instance;

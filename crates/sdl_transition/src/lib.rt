@@ -13,7 +13,7 @@ mod probes;
 mod rules;
 mod stages;
 pub mod step;
-mod systems;
+pub mod systems;
 #[cfg(test)]
 mod tests;
 pub mod transition;

@@ -5,10 +5,10 @@ ghost use Rattle.sdl_transition.specs.Offers.{IsFrameOf, Conforms};
 ghost use Rattle.sdl_transition.specs.Transitions.{IsAllowed, IsAllowedRow, IsAllowedBehaviour};
 ghost use Rattle.sdl_transition.specs.Tables.{EchoMay, RelayMay, IsStartOffer, IsForwardOffer, IsPingFrame};
 
-pub(crate) mod offers;
-pub(crate) mod ring;
-pub(crate) mod spawn;
-pub(crate) mod steps;
+pub mod offers;
+pub mod ring;
+pub mod spawn;
+pub mod steps;
 
 use crate::agents::Agents;
 use crate::behaviour::{Behaviour, Row};
@@ -24,22 +24,24 @@ use std::alloc::{AllocError, Global};
 use std::thread;
 use std::thread::Threads;
 
+/// The agents of Echo.
 #[derive(Drop)]
-pub(crate) struct Echo;
+pub struct Echo;
 
 impl Agents for Echo {
     ghost may = { EchoMay };
 }
 
+/// The agents of Relay.
 #[derive(Drop)]
-pub(crate) struct Relay;
+pub struct Relay;
 
 impl Agents for Relay {
     ghost may = { RelayMay };
 }
 
 /// The offer of a start without an output.
-fn start_offer(sets: u32) -> Offer
+pub fn start_offer(sets: u32) -> Offer
     ensures { IsStartOffer sets result }
 {
     let mut nexts = ArrayVec::new();
@@ -57,7 +59,7 @@ fn start_offer(sets: u32) -> Offer
 }
 
 /// The offer of a row in idle for one signal, with an output of another.
-fn forward_offer(sets: u32, from: SignalId, to: SignalId) -> Offer
+pub fn forward_offer(sets: u32, from: SignalId, to: SignalId) -> Offer
     ensures { IsForwardOffer sets from.0 to.0 result }
 {
     let mut outputs = ArrayVec::new();

@@ -9,13 +9,13 @@ use arrayvec::ArrayVec;
 use sdl_routes::Via;
 use sdl_signal::{SetId, SignalId, Sort, StateId};
 
-pub(crate) fn no_sorts() -> ArrayVec<Sort, 4>
+pub fn no_sorts() -> ArrayVec<Sort, 4>
     ensures { result.items ≡ [] }
 {
     ArrayVec::new()
 }
 
-pub(crate) fn one_integer() -> ArrayVec<Sort, 4>
+pub fn one_integer() -> ArrayVec<Sort, 4>
     ensures { result.items ≡ sort.Integer ∷ [] }
 {
     let mut sorts = ArrayVec::new();
@@ -23,7 +23,7 @@ pub(crate) fn one_integer() -> ArrayVec<Sort, 4>
     sorts
 }
 
-pub(crate) fn one_pid() -> ArrayVec<Sort, 4>
+pub fn one_pid() -> ArrayVec<Sort, 4>
     ensures { result.items ≡ sort.Pid ∷ [] }
 {
     let mut sorts = ArrayVec::new();
@@ -31,7 +31,7 @@ pub(crate) fn one_pid() -> ArrayVec<Sort, 4>
     sorts
 }
 
-pub(crate) fn pid_and_integer() -> ArrayVec<Sort, 4>
+pub fn pid_and_integer() -> ArrayVec<Sort, 4>
     ensures { result.items ≡ sort.Pid ∷ sort.Integer ∷ [] }
 {
     let mut sorts = one_pid();
@@ -40,7 +40,7 @@ pub(crate) fn pid_and_integer() -> ArrayVec<Sort, 4>
 }
 
 /// One output of the signal, by any way.
-pub(crate) fn one_output(id: SignalId, sorts: ArrayVec<Sort, 4>) -> ArrayVec<OfferedOutput, 16>
+pub fn one_output(id: SignalId, sorts: ArrayVec<Sort, 4>) -> ArrayVec<OfferedOutput, 16>
     ensures { result.items ≡ record { signal = record { id = id; sorts = sorts }; via = via.Any } ∷ [] }
 {
     let mut outputs = ArrayVec::new();
@@ -51,7 +51,7 @@ pub(crate) fn one_output(id: SignalId, sorts: ArrayVec<Sort, 4>) -> ArrayVec<Off
     outputs
 }
 
-pub(crate) fn one_create(set: SetId) -> ArrayVec<SetId, 8>
+pub fn one_create(set: SetId) -> ArrayVec<SetId, 8>
     ensures { result.items ≡ set ∷ [] }
 {
     let mut creates = ArrayVec::new();
@@ -60,14 +60,14 @@ pub(crate) fn one_create(set: SetId) -> ArrayVec<SetId, 8>
 }
 
 /// The signal of a row.
-pub(crate) fn on(id: SignalId, sorts: ArrayVec<Sort, 4>) -> Option<SignalSorts>
+pub fn on(id: SignalId, sorts: ArrayVec<Sort, 4>) -> Option<SignalSorts>
     ensures { result ≡ Some (record { id = id; sorts = sorts }) }
 {
     Some(SignalSorts { id, sorts })
 }
 
 /// The offer of a start, or of a row in idle for the signal.
-pub(crate) fn idle_offer(
+pub fn idle_offer(
     sets: u32,
     signal: Option<SignalSorts>,
     outputs: ArrayVec<OfferedOutput, 16>,

@@ -11,10 +11,12 @@ use arrayvec::ArrayVec;
 use sdl_signal::{SignalId, Value};
 use std::alloc::{AllocError, Global};
 
-const TOK: SignalId = SignalId(0);
+/// The token.
+pub const TOK: SignalId = SignalId(0);
 
+/// The agents of Ring.
 #[derive(Drop)]
-pub(crate) struct Ring;
+pub struct Ring;
 
 impl Agents for Ring {
     ghost may = { RingMay };
@@ -28,14 +30,14 @@ fn next(n: i64) -> i64
 }
 
 /// The first token.
-fn first() -> Step
+pub fn first() -> Step
     ensures { LeadsToIdle (output_integer 0 (pos 0)) result }
 {
     send_integer(TOK, 0)
 }
 
 /// The token goes on with the number that follows.
-fn pass_on(frame: &Frame) -> Step
+pub fn pass_on(frame: &Frame) -> Step
     ensures { LeadsToIdle (passed_on (values_of frame.now.signal)) result }
 {
     match values(frame) {

@@ -1,5 +1,5 @@
 //! Spawn: a Boss that makes Kids, kills them and answers their queries.
-ghost use Rattle.std.specs.Prelude.{[]};
+ghost use Rattle.std.specs.Prelude.{[], ℕ};
 ghost use Rattle.sdl_transition.specs.Tables.{SpawnMay, LeadsToIdle, Stops, KeepsTo, IsKillOffer, IsReplyOffer, values_of, made, killed, replied, born, answered};
 
 use crate::agents::Agents;
@@ -14,35 +14,37 @@ use arrayvec::ArrayVec;
 use sdl_signal::{SetId, SignalId, Value};
 use std::alloc::{AllocError, Global};
 
-const MAKE: SignalId = SignalId(0);
+pub const MAKE: SignalId = SignalId(0);
 
-const ASK: SignalId = SignalId(1);
+pub const ASK: SignalId = SignalId(1);
 
-const KILL: SignalId = SignalId(2);
+pub const KILL: SignalId = SignalId(2);
 
-const HELLO: SignalId = SignalId(3);
+pub const HELLO: SignalId = SignalId(3);
 
-const DIE: SignalId = SignalId(4);
+pub const DIE: SignalId = SignalId(4);
 
-const QUERY: SignalId = SignalId(5);
+pub const QUERY: SignalId = SignalId(5);
 
-const REPLY: SignalId = SignalId(6);
+pub const REPLY: SignalId = SignalId(6);
 
-const BORN: SignalId = SignalId(7);
+pub const BORN: SignalId = SignalId(7);
 
-const ANSWER: SignalId = SignalId(8);
+pub const ANSWER: SignalId = SignalId(8);
 
-const KID: SetId = SetId(1);
+/// The set of the Kids.
+pub const KID: SetId = SetId(1);
 
+/// The agents of Spawn.
 #[derive(Drop)]
-pub(crate) struct Spawn;
+pub struct Spawn;
 
 impl Agents for Spawn {
     ghost may = { SpawnMay };
 }
 
 /// A create of a Kid, and `hello` to it.
-fn make() -> Step
+pub fn make() -> Step
     ensures { LeadsToIdle made result }
 {
     let mut actions = ArrayVec::new();
@@ -63,22 +65,23 @@ fn send_die(values: &[Value]) -> Step
 }
 
 /// `die` to the instance that the signal names.
-fn kill(frame: &Frame) -> Step
+pub fn kill(frame: &Frame) -> Step
     ensures step { LeadsToIdle (killed (values_of frame.now.signal)) result }
-    ensures conforms { KeepsTo IsKillOffer frame.now result }
+    ensures conforms { (sets : ℕ) → KeepsTo (IsKillOffer sets) frame.now result }
 {
     send_die(values(frame))
 }
 
-fn kill_offer() -> Offer
-    ensures { IsKillOffer result }
+/// The offer of the row for `kill`, in a system of so many sets.
+pub fn kill_offer(sets: u32) -> Offer
+    ensures { IsKillOffer sets result }
 {
     let outputs = one_output(DIE, no_sorts());
-    idle_offer(2, on(KILL, one_pid()), outputs, ArrayVec::new())
+    idle_offer(sets, on(KILL, one_pid()), outputs, ArrayVec::new())
 }
 
 /// `reply` to the sender, with its Integer.
-fn reply(frame: &Frame) -> Step
+pub fn reply(frame: &Frame) -> Step
     ensures { LeadsToIdle (replied (values_of frame.now.signal)) result }
 {
     let mut actions = ArrayVec::new();
@@ -91,7 +94,7 @@ fn reply(frame: &Frame) -> Step
 }
 
 /// `born` with the Kid's own Pid.
-fn tell_birth(frame: &Frame) -> Step
+pub fn tell_birth(frame: &Frame) -> Step
     ensures { LeadsToIdle (born frame.now.self_pid) result }
 {
     let mut params = ArrayVec::new();
@@ -102,9 +105,9 @@ fn tell_birth(frame: &Frame) -> Step
 }
 
 /// `answer` with the Kid's own Pid and the Integer of the reply.
-fn tell_answer(frame: &Frame) -> Step
+pub fn tell_answer(frame: &Frame) -> Step
     ensures step { LeadsToIdle (answered frame.now.self_pid (values_of frame.now.signal)) result }
-    ensures conforms { KeepsTo IsReplyOffer frame.now result }
+    ensures conforms { (sets : ℕ) → KeepsTo (IsReplyOffer sets) frame.now result }
 {
     let mut actions = ArrayVec::new();
     if let [Value::Integer(n)] = values(frame) {
@@ -116,14 +119,16 @@ fn tell_answer(frame: &Frame) -> Step
     idle(actions)
 }
 
-fn reply_offer() -> Offer
-    ensures { IsReplyOffer result }
+/// The offer of the row for `reply`, in a system of so many sets.
+pub fn reply_offer(sets: u32) -> Offer
+    ensures { IsReplyOffer sets result }
 {
     let outputs = one_output(ANSWER, pid_and_integer());
-    idle_offer(2, on(REPLY, one_integer()), outputs, ArrayVec::new())
+    idle_offer(sets, on(REPLY, one_integer()), outputs, ArrayVec::new())
 }
 
-fn stop() -> Step
+/// The step of a stop.
+pub fn stop() -> Step
     ensures { Stops result }
 {
     Step {
@@ -154,7 +159,7 @@ pub(crate) fn store_make(alloc: Global) -> Result<u32, AllocError> {
 
 pub(crate) fn store_kill(alloc: Global) -> Result<u32, AllocError> {
     let run: Run = Box::new(alloc, |frame: &Frame| kill(frame))?;
-    let transition: Transition<Spawn> = Transition::store(2, kill_offer(), run);
+    let transition: Transition<Spawn> = Transition::store(2, kill_offer(2), run);
     Ok(transition.number)
 }
 
@@ -196,7 +201,7 @@ pub(crate) fn store_hello(alloc: Global) -> Result<u32, AllocError> {
 
 pub(crate) fn store_reply(alloc: Global) -> Result<u32, AllocError> {
     let run: Run = Box::new(alloc, |frame: &Frame| tell_answer(frame))?;
-    let transition: Transition<Spawn> = Transition::store(6, reply_offer(), run);
+    let transition: Transition<Spawn> = Transition::store(6, reply_offer(2), run);
     Ok(transition.number)
 }
 

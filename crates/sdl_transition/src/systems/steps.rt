@@ -8,7 +8,7 @@ use sdl_routes::Via;
 use sdl_signal::{Signal, SignalId, StateId, Value};
 
 /// The step that does these actions.
-pub(crate) fn idle(actions: ArrayVec<Action, 8>) -> Step
+pub fn idle(actions: ArrayVec<Action, 8>) -> Step
     ensures { LeadsToIdle actions.items result }
 {
     Step {
@@ -19,7 +19,7 @@ pub(crate) fn idle(actions: ArrayVec<Action, 8>) -> Step
 }
 
 /// The values of the signal consumed.
-pub(crate) fn values(frame: &Frame) -> &[Value]
+pub fn values(frame: &Frame) -> &[Value]
     ensures { result.now ≡ values_of frame.now.signal }
 {
     match &frame.signal {
@@ -29,7 +29,7 @@ pub(crate) fn values(frame: &Frame) -> &[Value]
 }
 
 /// An output by any way.
-pub(crate) fn send(id: SignalId, params: ArrayVec<Value, 4>, dest: Dest) -> Action
+pub fn send(id: SignalId, params: ArrayVec<Value, 4>, dest: Dest) -> Action
     ensures { result ≡ output id.0 params.items dest }
 {
     Action::Output {
@@ -40,7 +40,7 @@ pub(crate) fn send(id: SignalId, params: ArrayVec<Value, 4>, dest: Dest) -> Acti
 }
 
 /// The step with one output, of one Integer, to anywhere.
-pub(crate) fn send_integer(id: SignalId, n: i64) -> Step
+pub fn send_integer(id: SignalId, n: i64) -> Step
     ensures { LeadsToIdle (output_integer id.0 n) result }
 {
     let mut params = ArrayVec::new();
@@ -51,7 +51,7 @@ pub(crate) fn send_integer(id: SignalId, n: i64) -> Step
 }
 
 /// An output of the other signal with the Integer of the signal consumed.
-pub(crate) fn forward(frame: &Frame, to: SignalId) -> Step
+pub fn forward(frame: &Frame, to: SignalId) -> Step
     ensures { LeadsToIdle (forwarded to.0 frame.now.signal) result }
 {
     match values(frame) {
