@@ -4,7 +4,7 @@ ghost use Rattle.sdl_signal.specs.declared.values.Pid.{Pid};
 ghost use Rattle.sdl_forward.specs.Boards.{IsBoardOf};
 ghost use Rattle.sdl_instances.specs.Core.{IsSound, IsLegalIn, IsReady};
 ghost use Rattle.sdl_instances.specs.Cores.{core_of, parts_of, CanFire};
-ghost use Rattle.sdl_instances.specs.Run.{turns};
+ghost use Rattle.sdl_instances.specs.Run.{turns, waiting};
 ghost use Rattle.sdl_block.specs.Work.{with_core, StepsAs};
 ghost use Rattle.sdl_block.specs.Phases.{TakesFrom, Admits, LetsIn, Turns, StepsTo, PutsFirst, IsEmptyAfter};
 ghost use Rattle.sdl_block.specs.Phases as phases;
@@ -203,6 +203,13 @@ impl<S: Agents> BlockWorker<S> {
         ensures { result ≡ turns (worker_of self.now).core.log }
     {
         self.core.made()
+    }
+
+    /// The number of signals in all ports. No memory is taken.
+    pub fn left_in_ports(&self) -> u64
+        ensures { result ≡ waiting (worker_of self.now).core.state.living }
+    {
+        self.core.left_in_ports()
     }
 
     /// The core of the block, and what it has in hand. No memory is taken.
