@@ -164,12 +164,12 @@ sorted id sorts = record { id = record { 0 = id }; sorts = record { items = sort
 abbrev pub offered : ℕ → List Sort → OfferedOutput
 offered id sorts = record { signal = sorted id sorts; via = via.Any }
 
--- the offers of Spawn for `kill` and `reply`, in a system of so many sets
-abbrev pub IsKillOffer : ℕ → Offer → Type 0
-IsKillOffer sets = IsIdleOffer sets (Some (sorted 2 (sort.Pid ∷ []))) (offered 4 [] ∷ []) []
+-- the offers of Spawn for `kill` and `reply`, in a system of any number of sets
+abbrev pub IsKillOffer : Offer → Type 0
+IsKillOffer offer = IsIdleOffer offer.sets (Some (sorted 2 (sort.Pid ∷ []))) (offered 4 [] ∷ []) [] offer
 
-abbrev pub IsReplyOffer : ℕ → Offer → Type 0
-IsReplyOffer sets = IsIdleOffer sets (Some (sorted 6 (sort.Integer ∷ []))) (offered 8 (sort.Pid ∷ sort.Integer ∷ []) ∷ []) []
+abbrev pub IsReplyOffer : Offer → Type 0
+IsReplyOffer offer = IsIdleOffer offer.sets (Some (sorted 6 (sort.Integer ∷ []))) (offered 8 (sort.Pid ∷ sort.Integer ∷ []) ∷ []) [] offer
 
 -- the step conforms to each such offer of which the frame is
 abbrev pub KeepsTo : (Offer → Type 0) → Frame → Step → Type 0

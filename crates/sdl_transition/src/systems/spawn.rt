@@ -1,5 +1,5 @@
 //! Spawn: a Boss that makes Kids, kills them and answers their queries.
-ghost use Rattle.std.specs.Prelude.{[], ℕ};
+ghost use Rattle.std.specs.Prelude.{◌≡◌, []};
 ghost use Rattle.sdl_transition.specs.Tables.{SpawnMay, LeadsToIdle, Stops, KeepsTo, IsKillOffer, IsReplyOffer, values_of, made, killed, replied, born, answered};
 
 use crate::agents::Agents;
@@ -67,14 +67,15 @@ fn send_die(values: &[Value]) -> Step
 /// `die` to the instance that the signal names.
 pub fn kill(frame: &Frame) -> Step
     ensures step { LeadsToIdle (killed (values_of frame.now.signal)) result }
-    ensures conforms { (sets : ℕ) → KeepsTo (IsKillOffer sets) frame.now result }
+    ensures conforms { KeepsTo IsKillOffer frame.now result }
 {
     send_die(values(frame))
 }
 
 /// The offer of the row for `kill`, in a system of so many sets.
 pub fn kill_offer(sets: u32) -> Offer
-    ensures { IsKillOffer sets result }
+    ensures offer { IsKillOffer result }
+    ensures sets { result.sets ≡ sets }
 {
     let outputs = one_output(DIE, no_sorts());
     idle_offer(sets, on(KILL, one_pid()), outputs, ArrayVec::new())
@@ -107,7 +108,7 @@ pub fn tell_birth(frame: &Frame) -> Step
 /// `answer` with the Kid's own Pid and the Integer of the reply.
 pub fn tell_answer(frame: &Frame) -> Step
     ensures step { LeadsToIdle (answered frame.now.self_pid (values_of frame.now.signal)) result }
-    ensures conforms { (sets : ℕ) → KeepsTo (IsReplyOffer sets) frame.now result }
+    ensures conforms { KeepsTo IsReplyOffer frame.now result }
 {
     let mut actions = ArrayVec::new();
     if let [Value::Integer(n)] = values(frame) {
@@ -121,7 +122,8 @@ pub fn tell_answer(frame: &Frame) -> Step
 
 /// The offer of the row for `reply`, in a system of so many sets.
 pub fn reply_offer(sets: u32) -> Offer
-    ensures { IsReplyOffer sets result }
+    ensures offer { IsReplyOffer result }
+    ensures sets { result.sets ≡ sets }
 {
     let outputs = one_output(ANSWER, pid_and_integer());
     idle_offer(sets, on(REPLY, one_integer()), outputs, ArrayVec::new())

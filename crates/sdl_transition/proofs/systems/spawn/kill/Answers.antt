@@ -5,5 +5,5 @@ use Rattle.sdl_transition.proofs.Conforming.{killed_conforms}
 use Rattle.sdl_transition.proofs.systems.spawn.kill.Goals as goal
 
 pub returns-clause-conforms : goal.returns-clause-conforms
-returns-clause-conforms c = λ sets offer o f.
-    killed_conforms offer c.args.frame.now c.send_die.result sets (sorted 2 (sort.Pid ∷ [])) o f (rw c.values.ensures at c.send_die.ensures)
+returns-clause-conforms c = λ offer o f.
+    killed_conforms offer c.args.frame.now c.send_die.result offer.sets (sorted 2 (sort.Pid ∷ [])) o f (rw c.values.ensures at c.send_die.ensures)
