@@ -83,3 +83,8 @@ IsEnvLine names (env.Ended end) = ⊤
 abbrev pub Counts : Reading → Reading → EnvRead → Type 0
 Counts old new (env.Line l) = (new.carried ≡ old.carried + 1) × (new.carried ≤ most_lines)
 Counts old new (env.Ended end) = new.carried ≡ old.carried
+
+-- a reading ends by itself: only the run that reads can make it stop short
+abbrev pub EndsItself : EnvRead → Type 0
+EndsItself (env.Ended (ends.Stopped n)) = ⊥
+EndsItself _ = ⊤

@@ -1,7 +1,7 @@
 //! The environment's reading of an input: its lines, read as signals, up to the end, a fault or the limit.
 ghost use Rattle.std.specs.Prelude.{◌≡◌, ℕ, List, [], Option};
 ghost use Rattle.sdl_signal.specs.declared.values.EnvLine.{EnvLine};
-ghost use Rattle.sdl_signal.specs.Environment.{Counts, GoesOn, HasCarried, IsEnvLine};
+ghost use Rattle.sdl_signal.specs.Environment.{Counts, EndsItself, GoesOn, HasCarried, IsEnvLine};
 
 use crate::ends::InputEnd;
 use crate::naming::Names;
@@ -56,6 +56,7 @@ impl EnvReader {
     pub fn next<R: Read>(&mut self, names: &Names, input: &mut R) -> EnvRead
         ensures line { IsEnvLine names.now result }
         ensures count { Counts self.old self.new result }
+        ensures end { EndsItself result }
         // Whatever was carried out of an input so far, the answer goes on from it.
         ensures reading { (start : Option (List ℕ)) (carried : List EnvLine) → HasCarried names.now start (R.remaining input.old) self.old carried
             → GoesOn names.now start (R.remaining input.new) self.new carried result }
