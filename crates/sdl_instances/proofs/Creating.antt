@@ -1,5 +1,6 @@
 -- What is done at one place among the living instances.
-use Rattle.std.proofs.Common.{◌≡◌, ℕ, zero, suc, ◌+◌, ◌<◌, ◌≤◌, List, [], ◌∷◌, ◌++◌, Option, Some, All, refl, ap, sym, ◌∙◌, subst, unwrap_or, is_some, true≢false, length, get_or, slice_get, slice_set, slice_index, arith}
+use Rattle.std.proofs.Common.{Bool, true, false, nat_le, if◌then◌else◌, ◌≡◌, ℕ, zero, suc, ◌+◌, ◌<◌, ◌≤◌, List, [], ◌∷◌, ◌++◌, Option, Some, All, refl, ap, sym, ◌∙◌, subst, unwrap_or, is_some, true≢false, length, get_or, slice_get, slice_set, slice_index, arith}
+use Rattle.std.proofs.lemmas.Bool.{leb-true}
 use Rattle.std.proofs.lemmas.List.Elements.{All-weaker}
 use Rattle.sdl_signal.specs.declared.ids.SetId.{SetId}
 use Rattle.sdl_signal.specs.declared.values.Pid.{Pid}
@@ -82,3 +83,11 @@ pub get_any : (xs : List ℕ) (k a b : ℕ) → k < length xs → get_or xs k a 
 get_any [] k a b h = absurd (omega (arith, h))
 get_any (x ∷ xs) zero a b h = refl
 get_any (x ∷ xs) (suc k) a b h = get_any xs k a b (omega (arith, h))
+
+-- where an instance can be created there is room for its place among those of its set
+births_by : (n m b : ℕ) (c : Bool) → nat_le n m ≡ c → 0 < (if c then b else 0) → (n ≤ m) × (0 < b)
+births_by n m b true is h = (leb-true n m is, h)
+births_by n m b false is h = absurd (omega (arith, h))
+
+pub can_bear : (n m b : ℕ) → 0 < (if nat_le n m then b else 0) → (n ≤ m) × (0 < b)
+can_bear n m b h = births_by n m b (nat_le n m) refl h

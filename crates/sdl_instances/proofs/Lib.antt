@@ -10,8 +10,9 @@ pub mod Rows
 pub mod WrongBodies
 pub mod Readiness
 mod ReadyPlaces
+mod SetPlaces
 mod Creating
-mod Choosing
+pub mod Choosing
 mod Acting
 pub mod Conforming
 pub mod Frames

@@ -1,10 +1,8 @@
 -- The places of the ready instances, and how they change with the instances.
-use Rattle.std.proofs.Common.{◌≡◌, ℕ, zero, suc, ◌+◌, ◌-◌, ◌<◌, ◌≤◌, Bool, true, false, if◌then◌else◌, List, [], ◌∷◌, ◌++◌, Some, All, refl, ap, sym, ◌∙◌, subst, true≢false, is_some, unwrap_or, length, map, take, drop, insert, remove, get_or, slice_get, slice_set, append_assoc, append-nil, arith}
+use Rattle.std.proofs.Common.{◌≡◌, ℕ, zero, suc, ◌+◌, ◌<◌, ◌≤◌, Bool, true, false, List, [], ◌∷◌, ◌++◌, Some, All, refl, ap, sym, ◌∙◌, subst, true≢false, is_some, unwrap_or, length, take, drop, insert, remove, get_or, slice_get, slice_set, append_assoc, append-nil, arith}
 use Rattle.std.specs.List.{AllByRecursion}
 use Rattle.std.specs.List.Sorted.{IsBinarySearchResult}
 use Rattle.std.proofs.Common.{nat_cmp, Ok, Err}
-use Rattle.std.proofs.lemmas.Bool.{le-ltb, lt-ltb}
-use Rattle.std.proofs.lemmas.List.{map-append}
 use Rattle.std.proofs.lemmas.List.Elements.{All-weaker, recursion_from_All}
 use Rattle.indexmap.specs.IndexMap.{insert_entry}
 use Rattle.std.proofs.Math.Seq.{take-suc}
@@ -18,7 +16,7 @@ use Rattle.sdl_signal.specs.declared.values.Pid.{Pid}
 use Rattle.sdl_instances.specs.Record.{Record}
 use Rattle.sdl_instances.proofs.Pids.{same, same-is}
 use Rattle.sdl_instances.proofs.Initial.{insert_new}
-use Rattle.sdl_instances.specs.Ready.{is_ready, at_if, ready_places, lowered}
+use Rattle.sdl_instances.specs.Ready.{is_ready, at_if, ready_places}
 
 -- every number is below, or above
 abbrev pub AreBelow : ℕ → List ℕ → Type 0
@@ -68,17 +66,6 @@ split_set (x ∷ es) n zero q e t h is =
 split_set (x ∷ es) n (suc k) q e t h is =
     ap (λ l. at_if n (is_ready x.1) ++ l) (split_set es (n + 1) k q e t h (omega (arith, is)))
     ∙ sym (append_assoc (at_if n (is_ready x.1)) (ready_places (n + 1) (take k es)) (at_if q (is_ready t.1) ++ ready_places (q + 1) (drop (suc k) es)))
-
--- and without it
-split_remove : (es : List (Pid × Record)) (n k q : ℕ) (e : Pid × Record) → slice_get es k ≡ Some e → q ≡ n + k
-    → ready_places n (remove es k) ≡ ready_places n (take k es) ++ ready_places q (drop (suc k) es)
-split_remove [] n k q e h is = absurd (true≢false (sym (ap is_some h)))
-split_remove (x ∷ es) n zero q e h is =
-    let here : n ≡ q = omega (arith, is) in
-    ap (λ (m : ℕ). ready_places m es) here
-split_remove (x ∷ es) n (suc k) q e h is =
-    ap (λ l. at_if n (is_ready x.1) ++ l) (split_remove es (n + 1) k q e h (omega (arith, is)))
-    ∙ sym (append_assoc (at_if n (is_ready x.1)) (ready_places (n + 1) (take k es)) (ready_places q (drop (suc k) es)))
 
 -- with one more at the end
 pub one_more : (es : List (Pid × Record)) (n q : ℕ) (e : Pid × Record) → q ≡ n + length es → ready_places n (es ++ e ∷ []) ≡ ready_places n es ++ at_if q (is_ready e.1)
@@ -240,49 +227,6 @@ module _ (es : List (Pid × Record)) (k : ℕ) (e t : Pid × Record) (at : slice
   -- as ready as before
   pub same_readiness : is_ready t.1 ≡ is_ready e.1 → old ≡ ready_places 0 (slice_set es k t)
   same_readiness same = was (is_ready e.1) refl ∙ will (is_ready e.1) same
-
--- once the one at k is gone, the later ones are lower
-lower_below : (xs : List ℕ) (k : ℕ) → AreBelow k xs → map (lowered k) xs ≡ xs
-lower_below [] k h = refl
-lower_below (x ∷ xs) k h =
-    ap (λ b. (if b then x - 1 else x) ∷ map (lowered k) xs) (le-ltb k x (let l : x < k = h.0 in omega (arith, l))) ∙ ap (λ l. x ∷ l) (lower_below xs k h.1)
-
-lower_one : (k n : ℕ) → k ≤ n → lowered k (n + 1) ≡ n
-lower_one k n h =
-    let less : n + 1 - 1 ≡ n = omega arith in
-    ap (λ b. if b then n + 1 - 1 else n + 1) (lt-ltb k (n + 1) (omega (arith, h))) ∙ less
-
-lower_if : (b : Bool) (k n : ℕ) → k ≤ n → map (lowered k) (at_if (n + 1) b) ≡ at_if n b
-lower_if true k n h = ap (λ m. m ∷ []) (lower_one k n h)
-lower_if false k n h = refl
-
-lower_above : (es : List (Pid × Record)) (k n : ℕ) → k ≤ n → map (lowered k) (ready_places (n + 1) es) ≡ ready_places n es
-lower_above [] k n h = refl
-lower_above (e ∷ es) k n h =
-    map-append (lowered k) (at_if (n + 1) (is_ready e.1)) (ready_places (n + 1 + 1) es)
-    ∙ ap (λ l. l ++ map (lowered k) (ready_places (n + 1 + 1) es)) (lower_if (is_ready e.1) k n h)
-    ∙ ap (λ l. at_if n (is_ready e.1) ++ l) (lower_above es k (n + 1) (omega (arith, h)))
-
-pub lower_rest : (es : List (Pid × Record)) (k : ℕ) (e : Pid × Record) → slice_get es k ≡ Some e → is_ready e.1 ≡ false → map (lowered k) (ready_places 0 es) ≡ ready_places 0 (remove es k)
-lower_rest es k e at never =
-    let xs = ready_places 0 (take k es) in
-    let ys = ready_places (k + 1) (drop (suc k) es) in
-    ap (map (lowered k)) (split es 0 k k e at (omega arith) ∙ ap (λ (b : Bool). xs ++ (at_if k b ++ ys)) never)
-    ∙ map-append (lowered k) xs ys
-    ∙ ap (λ l. l ++ map (lowered k) ys) (lower_below xs k (are_below es 0 k k (omega arith)))
-    ∙ ap (λ l. xs ++ l) (lower_above (drop (suc k) es) k k (omega arith))
-    ∙ sym (split_remove es 0 k k e at (omega arith))
-
-module _ {X : Type 0} where
-  pub get_set : (es : List X) (k : ℕ) (e t : X) → slice_get es k ≡ Some e → slice_get (slice_set es k t) k ≡ Some t
-  get_set [] k e t h = absurd (true≢false (sym (ap is_some h)))
-  get_set (x ∷ es) zero e t h = refl
-  get_set (x ∷ es) (suc k) e t h = get_set es k e t h
-
-  pub remove_set : (es : List X) (k : ℕ) (e t : X) → slice_get es k ≡ Some e → remove (slice_set es k t) k ≡ remove es k
-  remove_set [] k e t h = absurd (true≢false (sym (ap is_some h)))
-  remove_set (x ∷ es) zero e t h = refl
-  remove_set (x ∷ es) (suc k) e t h = ap (λ l. x ∷ l) (remove_set es k e t h)
 
 -- an entry with a Pid that none has goes last
 not_same : (p q : Pid) (b : Bool) → same p q ≡ b → (p ≡ q → ⊥) → b ≡ false

@@ -82,7 +82,7 @@ fitting_at w m (r ∷ rows) fs (suc k) x h at =
     ]
 
 -- the route at the pick fits
-at_pick_fits : (routes : List Row) (pick : ℕ) (w : Wish) (n : RouteId) → IsChoice routes w pick (Some n) → FitsAt routes w n
+pub at_pick_fits : (routes : List Row) (pick : ℕ) (w : Wish) (n : RouteId) → IsChoice routes w pick (Some n) → FitsAt routes w n
 at_pick_fits routes pick w n (fitting, are, at) =
     let f = fitting_at w 0 routes fitting (pick % length fitting) n.0 are (sym at) in
     let is : f.0 ≡ n.0 = let e = f.2 in omega (arith, e) in

@@ -1,5 +1,5 @@
 -- What a contract sees of the living instances of a block, and what is done at one place among them.
-use Rattle.std.specs.Prelude.{◌≡◌, ℕ, ◌+◌, ◌<◌, ◌≤◌, ◌^◌, List, [], ◌∷◌, ◌++◌, Option, None, Some, true, ⊤, is_some, length, slice_get, slice_set, slice_index, remove, option_map, unwrap_or, All}
+use Rattle.std.specs.Prelude.{nat_le, if◌then◌else◌, ◌≡◌, ℕ, ◌+◌, ◌<◌, ◌≤◌, ◌^◌, List, [], ◌∷◌, ◌++◌, Option, None, Some, true, ⊤, is_some, length, slice_get, slice_set, slice_index, remove, option_map, unwrap_or, All}
 use Rattle.std.specs.List.{flat_map, AllByRecursion}
 use Rattle.sdl_signal.specs.declared.ids.SetId.{SetId}
 use Rattle.sdl_signal.specs.declared.ids.RouteId.{RouteId}
@@ -34,9 +34,9 @@ use Rattle.sdl_instances.specs.Core.{HasSerial}
 abbrev pub state_of : Living → State
 state_of l = record { living = l.instances.entries; last = l.last.items }
 
--- how many instances can be created without taking memory
+-- how many instances of the sets can be created without taking memory
 abbrev pub births_of : Living → ℕ
-births_of l = l.instances.births
+births_of l = if nat_le (length l.last.items) l.instances.sets then l.instances.births else 0
 
 -- p stands at this place with the record r
 abbrev pub StandsAt : State → ℕ → Pid → Record → Type 0

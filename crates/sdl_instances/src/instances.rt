@@ -1,36 +1,40 @@
 //! The living instances by their places, and which of them are ready.
-ghost use Rattle.std.specs.Prelude.{◌≡◌, ℕ, ◌+◌, ◌<◌, ◌≤◌, ◌++◌, ◌∷◌, [], List, Some, All, OnOk, OnErr, IfOk, length, map, slice_get, slice_set, remove, true, false, vec_capacity};
-ghost use Rattle.std.specs.Map.{values_of};
+ghost use Rattle.std.specs.Prelude.{◌≡◌, ℕ, ◌+◌, ◌<◌, ◌≤◌, ◌++◌, ◌∷◌, [], List, Some, All, OnOk, OnErr, IfOk, IfSome, length, count_by, take, slice_get, slice_set, remove, true, false, vec_capacity};
+ghost use Rattle.std.specs.Map.{keys_of, values_of};
 ghost use Rattle.sdl_signal.specs.declared.values.Pid.{Pid};
+ghost use Rattle.sdl_signal.specs.declared.values.Pid.TheVariants as pid;
 ghost use Rattle.sdl_signal.specs.declared.values.Item.{Item};
 ghost use Rattle.sdl_instances.specs.Record.{Record};
-ghost use Rattle.sdl_instances.specs.Machine.{consumed};
-ghost use Rattle.sdl_instances.specs.Ready.{is_ready, ready_places, lowered};
+ghost use Rattle.sdl_instances.specs.Machine.{consumed, is_of};
+ghost use Rattle.sdl_instances.specs.Ready.{AreBySet, is_ready, ready_places};
 
+use crate::by_set::{PlacesBySet, leave};
 use crate::instance::Instance;
 use arrayvec::ArrayVec;
 use indexmap::IndexMap;
-use sdl_signal::{Item, Pid, StateId, Value};
+use sdl_signal::{Item, Pid, SetId, StateId, Value};
 use std::alloc::{AllocError, Global};
 use std::marker::Model;
 
-/// The living instances of a block in the order of their creation, and the places of those that are ready.
+/// The living instances of a block in the order of their creation, the places of those that are ready, and the places of
+/// those of each set.
 #[derive(Drop)]
 pub struct Instances {
     map: IndexMap<Pid, Instance>,
     ready: Vec<usize>,
+    by_set: PlacesBySet,
 }
 
 impl Model for Instances {
     ghost use Rattle.std.specs.Prelude.{◌≡◌, ◌-◌, min, length, vec_capacity};
     ghost use Rattle.indexmap.specs.IndexMap.{spare};
-    ghost use Rattle.sdl_instances.specs.Ready.{Listed, ready_places};
+    ghost use Rattle.sdl_instances.specs.Ready.{Listed, AreBySet, ready_places};
 
     ghost Value = { Listed };
 
-    ghost view = { λ i. record { entries = i.map.entries; births = min (spare i.map) (vec_capacity i.ready - length i.map.entries) } };
+    ghost view = { λ i. record { entries = i.map.entries; births = min (spare i.map) (min (vec_capacity i.ready - length i.map.entries) i.by_set.room); sets = length i.by_set.lists } };
 
-    ghost invariant = { λ i. i.ready.items ≡ ready_places 0 i.map.entries };
+    ghost invariant = { λ i. (i.ready.items ≡ ready_places 0 i.map.entries) × AreBySet i.by_set.lists i.map.entries };
 }
 
 /// The places of the ready instances.
@@ -52,6 +56,43 @@ fn places_of_ready(
         }
     }
     Ok(ready)
+}
+
+/// Adds the place of the instance to those of its set.
+fn add_by_set(
+    alloc: Global,
+    by_set: &mut PlacesBySet,
+    pid: Pid,
+    place: usize,
+) -> Result<(), AllocError>
+    ensures { OnOk result ((es : List (Pid × Record)) (r : Record) → place ≡ length es → AreBySet by_set.old.lists es → AreBySet by_set.new.lists (es ++ (pid, r) ∷ [])) }
+{
+    match pid {
+        Pid::Inst(set, _) => {
+            by_set.make_room(alloc, set.0 as usize + 1)?;
+            by_set.add(set, place);
+            Ok(())
+        }
+        Pid::Null => Ok(()),
+        Pid::Env => Ok(()),
+    }
+}
+
+/// The places of the instances of each set.
+fn places_by_set(
+    alloc: Global,
+    instances: &IndexMap<Pid, Instance>,
+) -> Result<PlacesBySet, AllocError>
+    ensures { IfOk result (λ b. AreBySet b.lists instances.now.entries) }
+{
+    let mut by_set = PlacesBySet::new(alloc);
+    for place in 0..instances.len() {
+        match instances.get_index(place) {
+            Some((pid, _)) => add_by_set(alloc, &mut by_set, *pid, place)?,
+            None => unreachable!(),
+        }
+    }
+    Ok(by_set)
 }
 
 /// Notes that the instance at this place is ready.
@@ -77,38 +118,25 @@ fn forget(ready: &mut Vec<usize>, place: usize)
     }
 }
 
-/// The place, once the one at `gone` is gone.
-fn lowered(place: usize, gone: usize) -> usize
-    ensures { result ≡ lowered gone place }
-{
-    if gone < place { place - 1 } else { place }
-}
-
-/// Lowers the places after this one by 1.
-fn lower(ready: &mut Vec<usize>, gone: usize)
-    ensures { ready.new.items ≡ map (lowered gone) ready.old.items }
-{
-    for place in ready.iter_mut() {
-        *place = lowered(*place, gone);
-    }
-}
-
 impl Instances {
     /// The instances of the map.
     pub fn of_map(alloc: Global, map: IndexMap<Pid, Instance>) -> Result<Instances, AllocError>
         ensures { IfOk result (λ i. i.entries ≡ map.entries) }
     {
         let ready = places_of_ready(alloc, &map)?;
-        Ok(Instances { map, ready })
+        let by_set = places_by_set(alloc, &map)?;
+        Ok(Instances { map, ready, by_set })
     }
 
-    /// Takes room for as many instances as a turn can create. A refusal changes no instance.
-    pub fn make_room(&mut self) -> Result<(), AllocError>
+    /// Takes room for as many instances as a turn can create, of so many sets. A refusal changes no instance.
+    pub fn make_room(&mut self, alloc: Global, sets: usize) -> Result<(), AllocError>
         ensures same { self.new.entries ≡ self.old.entries }
         ensures room { OnOk result (8 ≤ self.new.births) }
+        ensures sets { OnOk result (sets ≤ self.new.sets) }
     {
         self.map.reserve(8)?;
-        self.ready.reserve(self.map.len() - self.ready.len() + 8)
+        self.ready.reserve(self.map.len() - self.ready.len() + 8)?;
+        self.by_set.make_room(alloc, sets)
     }
 
     /// The instances by their Pids.
@@ -130,6 +158,23 @@ impl Instances {
         ensures { result.now ≡ ready_places 0 self.now.entries }
     {
         self.ready.as_slice()
+    }
+
+    /// How many instances of the set there are.
+    pub fn number_of(&self, set: SetId) -> usize
+        ensures { result ≡ count_by (is_of set) (keys_of self.now.entries) }
+    {
+        self.by_set.of_set(set).len()
+    }
+
+    /// The place of the instance of the set before which stand k others.
+    pub fn place_of(&self, set: SetId, k: usize) -> usize
+        requires { k < count_by (is_of set) (keys_of self.now.entries) }
+        ensures within { result < length self.now.entries }
+        ensures member { IfSome (slice_get (keys_of self.now.entries) result) (λ p. is_of set p ≡ true) }
+        ensures others { count_by (is_of set) (take result (keys_of self.now.entries)) ≡ k }
+    {
+        self.by_set.of_set(set)[k]
     }
 
     /// The instance at this place.
@@ -166,7 +211,7 @@ impl Instances {
         requires within { place < length self.old.entries }
         requires front { (p : Pid) (r : Record) → slice_get self.old.entries place ≡ Some (p, r) → 0 < length r.port }
         ensures consumed { (p : Pid) (r : Record) → slice_get self.old.entries place ≡ Some (p, r) → (rest : List Item) × (r.port ≡ result ∷ rest) × (self.new.entries ≡ slice_set self.old.entries place (p, consumed r result rest)) }
-        ensures births { self.new.births ≡ self.old.births }
+        ensures births { (self.new.births ≡ self.old.births) × (self.new.sets ≡ self.old.sets) }
     {
         let (_, instance) = self.map.pair_mut(place);
         let item = instance.consume();
@@ -180,7 +225,7 @@ impl Instances {
     pub fn set_offspring(&mut self, place: usize, offspring: Pid)
         requires { place < length self.old.entries }
         ensures entries { (p : Pid) (r : Record) → slice_get self.old.entries place ≡ Some (p, r) → self.new.entries ≡ slice_set self.old.entries place (p, record r { offspring = offspring }) }
-        ensures births { self.new.births ≡ self.old.births }
+        ensures births { (self.new.births ≡ self.old.births) × (self.new.sets ≡ self.old.sets) }
     {
         let (_, instance) = self.map.pair_mut(place);
         instance.set_offspring(offspring);
@@ -198,19 +243,23 @@ impl Instances {
         }
     }
 
-    /// Adds an instance.
-    pub fn add(&mut self, pid: Pid, instance: Instance)
+    /// Adds an instance of the set, with this serial number.
+    pub fn add(&mut self, set: SetId, serial: u32, instance: Instance)
+        requires set { set.0 < self.old.sets }
         requires room { 0 < self.old.births }
-        requires absent { All (λ (e : Pid × Record). pid ≡ e.0 → ⊥) self.old.entries }
-        ensures entries { self.new.entries ≡ self.old.entries ++ (pid, instance) ∷ [] }
+        requires absent { All (λ (e : Pid × Record). pid.Inst set serial ≡ e.0 → ⊥) self.old.entries }
+        ensures entries { self.new.entries ≡ self.old.entries ++ (pid.Inst set serial, instance) ∷ [] }
         ensures births { self.old.births ≤ self.new.births + 1 }
+        ensures sets { self.new.sets ≡ self.old.sets }
     {
+        let pid = Pid::Inst(set, serial);
         let place = self.map.len();
         let is_ready = instance.is_ready();
         match self.map.insert(pid, instance) {
             Ok(_) => {}
             Err(_) => unreachable!(),
         }
+        self.by_set.add(set, place);
         if is_ready {
             match self.ready.push(place) {
                 Ok(()) => {}
@@ -225,8 +274,8 @@ impl Instances {
         ensures value { slice_get self.old.entries place ≡ Some result }
         ensures entries { self.new.entries ≡ remove self.old.entries place }
     {
-        forget(&mut self.ready, place);
-        lower(&mut self.ready, place);
+        leave(&mut self.ready, place);
+        self.by_set.leave(place);
         match self.map.shift_remove_index(place) {
             Some(gone) => gone,
             None => unreachable!(),

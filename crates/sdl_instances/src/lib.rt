@@ -5,6 +5,7 @@ mod actions;
 mod arriving;
 pub mod block;
 pub mod bounds;
+mod by_set;
 pub mod choice;
 pub mod copies;
 pub mod event;

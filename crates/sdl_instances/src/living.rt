@@ -6,7 +6,6 @@ ghost use Rattle.sdl_instances.specs.Record.{Record};
 ghost use Rattle.sdl_instances.specs.Machine.{consumed};
 ghost use Rattle.sdl_instances.specs.Living.{state_of, births_of, StandsAt, HaveSerials, written, born, next_of, next_frame, CreatesAt, FinishesAt, OutputsAs};
 
-use crate::choice::number_of;
 use crate::copies::{copied_item, copied_values};
 use crate::event::Done;
 use crate::first::numbers_at;
@@ -35,7 +34,7 @@ impl Living {
         ensures same { state_of self.new ≡ state_of self.old }
         ensures room { OnOk result (8 ≤ births_of self.new) }
     {
-        self.instances.make_room()
+        self.instances.make_room(self.alloc, self.last.len())
     }
 
     /// The Pid of the instance at this place.
@@ -95,11 +94,10 @@ impl Living {
         ensures births { births_of self.old < births_of self.new + 2 }
     {
         let serial = self.last[set.0 as usize] + 1;
-        let pid = Pid::Inst(set, serial);
         let instance = Instance::new(self.alloc, copied_values(vars.as_slice()), parent);
-        self.instances.add(pid, instance);
+        self.instances.add(set, serial, instance);
         self.last[set.0 as usize] = serial;
-        pid
+        Pid::Inst(set, serial)
     }
 
     /// Lets the instance at this place create one of the set. Where the set has as many as it may have, none is made, and
@@ -121,9 +119,7 @@ impl Living {
     {
         let creator = self.pid(place);
         let numbers = numbers_at(sets, set.0 as usize);
-        let made = if number_of(self.instances.map().keys().as_slice(), set)
-            < numbers.maximum as usize
-        {
+        let made = if self.instances.number_of(set) < numbers.maximum as usize {
             self.bear(set, vars, creator)
         } else {
             Pid::Null

@@ -13,7 +13,6 @@ ghost use Rattle.sdl_instances.specs.Run.{turns, waiting, initial};
 ghost use Rattle.sdl_transition.specs.Rules.{block_rules};
 ghost use Rattle.sdl_instances.specs.declared.event.Arrival.TheVariants as arrival;
 
-use crate::choice::{number_of, place_of};
 use crate::copies::copied_item;
 use crate::event::{Arrival, Cause, Event};
 use crate::first::{first_living, first_serials, numbers_of_sets, sorts_of};
@@ -177,13 +176,12 @@ impl Table {
             },
             None => {
                 let set = end_of(routes, item.route);
-                let keys = self.living.instances.map().keys().as_slice();
-                let living = number_of(keys, set);
+                let living = self.living.instances.number_of(set);
                 if living == 0 {
                     self.discard(Cause::NoInstance, item)?;
                     return Ok(Arrival::Discarded(Cause::NoInstance));
                 }
-                let place = place_of(keys, set, pick as usize % living);
+                let place = self.living.instances.place_of(set, pick as usize % living);
                 Ok(Arrival::Entered(self.enter(place, item)?))
             }
         }

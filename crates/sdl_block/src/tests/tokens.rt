@@ -1,7 +1,7 @@
 //! Tokens of Ring, as items.
 use arrayvec::ArrayVec;
 use sdl_routes::{Hop, Station};
-use sdl_signal::{ChannelId, Item, Origin, Pid, RouteId, SetId, Signal, SignalId, Value};
+use sdl_signal::{BlockId, ChannelId, Item, Origin, Pid, RouteId, SetId, Signal, SignalId, Value};
 
 /// The route from X to Y, and the route back.
 pub const THERE: u32 = 0;
@@ -30,6 +30,18 @@ pub fn out_of_q() -> Station {
         channel: ChannelId(2),
         back: true,
     })
+}
+
+/// The path before the inlet of P, and that inlet.
+pub fn before_p() -> Station {
+    Station::Line(Hop {
+        channel: ChannelId(1),
+        back: false,
+    })
+}
+
+pub fn inlet_of_p() -> Station {
+    Station::Inlet(BlockId(0))
 }
 
 /// The token as an item.

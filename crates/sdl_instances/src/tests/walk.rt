@@ -6,10 +6,13 @@ ghost use Rattle.sdl_instances.specs.Cores.{CanFire, core_of, parts_of, system_i
 use super::acts::{Arriving, On, Saw, Shown, answer_of, arrive, quiet, turn};
 use super::spawn::{ASK, DIE, HELLO, MAKE, boss, kid};
 use super::stop::Stop;
+use super::stored::{BOSS, KID};
 use crate::block::BlockCore;
+use crate::choice::{number_of, place_of};
 use crate::event::{Arrival, Cause, Done, Event};
+use crate::instances::Instances;
 use sdl_routes::Routes;
-use sdl_signal::{Pid, SignalId, Value};
+use sdl_signal::{Pid, SetId, SignalId, Value};
 use sdl_transition::Agents;
 use std::alloc::Global;
 use std::process::Abort;
@@ -185,6 +188,23 @@ fn compare(rt: &impl Abort, log: &[Event], known: &Known) {
     assert_eq!(rt; ever, now);
 }
 
+/// The instances of the set are counted, and each is found, as by a scan.
+fn compare_set(rt: &impl Abort, instances: &Instances, set: SetId) {
+    let pids = instances.map().keys().as_slice();
+    let count = number_of(pids, set);
+    assert_eq!(rt; instances.number_of(set), count);
+    for k in 0..count {
+        assert_eq!(rt; instances.place_of(set, k), place_of(pids, set, k));
+    }
+}
+
+/// The Bosses, the Kids, and a set that the structure does not have.
+fn compare_sets(rt: &impl Abort, instances: &Instances) {
+    compare_set(rt, instances, BOSS);
+    compare_set(rt, instances, KID);
+    compare_set(rt, instances, SetId(2));
+}
+
 /// A step of the walk.
 fn walk_on<S: Agents>(
     rt: &impl Abort,
@@ -234,6 +254,7 @@ pub fn walk<S: Agents>(
         walk_on(rt, core, routes, &mut known, most, choice)?;
         if step % 64 == 0 {
             compare(rt, core.log().as_slice(), &known);
+            compare_sets(rt, &core.table.living.instances);
         }
     }
     assert!(rt; known.living.is_empty());

@@ -1,6 +1,6 @@
 use Rattle.std.proofs.Common.{ap}
 use Rattle.sdl_transition.specs.Rules.{block_rules}
-use Rattle.sdl_block.proofs.Systems.{sound_there}
+use Rattle.sdl_instances.proofs.Systems.{sound_there}
 use Rattle.sdl_block.proofs.worker.BlockWorker.let_one_arrive.Goals as goal
 
 pub admit-requires : goal.admit-requires

@@ -8,6 +8,7 @@ use Rattle.sdl_instances.proofs.Places.{set_value_at-is}
 use Rattle.sdl_instances.proofs.Creating.{value_same}
 use Rattle.sdl_instances.proofs.Readiness.{waiting_ready}
 use Rattle.sdl_instances.proofs.ReadyPlaces.{same_readiness, wrote}
+use Rattle.sdl_instances.proofs.SetPlaces.{by_set_value}
 use Rattle.sdl_instances.proofs.instances.Instances.consume.Goals as goal
 
 pub invariant_of-self : goal.invariant_of-self
@@ -17,9 +18,11 @@ invariant_of-self c =
     let v = c.pair_mut-instance.result.1.now in
     let place = c.args.place in
     let found : slice_get es place ≡ Some (k, v) = c.pair_mut-instance.ensures.value in
-    let w = c.consume-item.new.self in
-    c.forget.ensures.items es (k, v) (k, w) found (sym c.is_ready.ensures ∙ c.if-not-is_ready.true) c.self.invariant
-    ∙ ap (ready_places 0) (sym (set_value_at-is es place (k, v) w found))
+    let w = c.consume-item.new.self in (
+      c.forget.ensures.items es (k, v) (k, w) found (sym c.is_ready.ensures ∙ c.if-not-is_ready.true) c.self.invariant.0
+          ∙ ap (ready_places 0) (sym (set_value_at-is es place (k, v) w found)),
+      by_set_value c.self.inside.by_set.lists es place k v w found c.self.invariant.1,
+    )
 
 pub invariant_of-self-else-not-is_ready : goal.invariant_of-self-else-not-is_ready
 invariant_of-self-else-not-is_ready c =
@@ -28,9 +31,11 @@ invariant_of-self-else-not-is_ready c =
     let v = c.pair_mut-instance.result.1.now in
     let place = c.args.place in
     let found : slice_get es place ≡ Some (k, v) = c.pair_mut-instance.ensures.value in
-    let w = c.consume-item.new.self in
-    same_readiness es place (k, v) (k, w) found c.self.inside.ready.items c.self.invariant (sym c.is_ready.ensures ∙ c.if-not-is_ready.false ∙ sym (waiting_ready v c.consume-item.result c.consume-item.ensures.0 c.consume-item.ensures.1))
-    ∙ ap (ready_places 0) (sym (set_value_at-is es place (k, v) w found))
+    let w = c.consume-item.new.self in (
+      same_readiness es place (k, v) (k, w) found c.self.inside.ready.items c.self.invariant.0 (sym c.is_ready.ensures ∙ c.if-not-is_ready.false ∙ sym (waiting_ready v c.consume-item.result c.consume-item.ensures.0 c.consume-item.ensures.1))
+          ∙ ap (ready_places 0) (sym (set_value_at-is es place (k, v) w found)),
+      by_set_value c.self.inside.by_set.lists es place k v w found c.self.invariant.1,
+    )
 
 pub returns-then-not-is_ready-clause-consumed : goal.returns-then-not-is_ready-clause-consumed
 returns-then-not-is_ready-clause-consumed c p r at =
@@ -53,7 +58,7 @@ returns-then-not-is_ready-clause-consumed c p r at =
 pub returns-then-not-is_ready-clause-births : goal.returns-then-not-is_ready-clause-births
 returns-then-not-is_ready-clause-births c =
     let es = c.self.inside.map.entries in
-    rw (c.forget.ensures.capacity, length-set_value_at es c.args.place c.consume-item.new.self) (ap (λ (l : Listed). l.births) c.self.view_is)
+    (rw (c.forget.ensures.capacity, length-set_value_at es c.args.place c.consume-item.new.self) (ap (λ (l : Listed). l.births) c.self.view_is), ap (λ (l : Listed). l.sets) c.self.view_is)
 
 pub returns-else-not-is_ready-clause-consumed : goal.returns-else-not-is_ready-clause-consumed
 returns-else-not-is_ready-clause-consumed c p r at =
@@ -76,4 +81,4 @@ returns-else-not-is_ready-clause-consumed c p r at =
 pub returns-else-not-is_ready-clause-births : goal.returns-else-not-is_ready-clause-births
 returns-else-not-is_ready-clause-births c =
     let es = c.self.inside.map.entries in
-    rw (length-set_value_at es c.args.place c.consume-item.new.self) (ap (λ (l : Listed). l.births) c.self.view_is)
+    (rw (length-set_value_at es c.args.place c.consume-item.new.self) (ap (λ (l : Listed). l.births) c.self.view_is), ap (λ (l : Listed). l.sets) c.self.view_is)

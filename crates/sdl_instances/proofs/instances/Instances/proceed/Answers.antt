@@ -4,6 +4,7 @@ use Rattle.sdl_instances.specs.Ready.{Listed, ready_places}
 use Rattle.sdl_instances.proofs.Places.{set_value_at-is}
 use Rattle.sdl_instances.proofs.Readiness.{proceeds_ready}
 use Rattle.sdl_instances.proofs.ReadyPlaces.{same_readiness, wrote}
+use Rattle.sdl_instances.proofs.SetPlaces.{by_set_value}
 use Rattle.sdl_instances.proofs.instances.Instances.proceed.Goals as goal
 
 pub invariant_of-self : goal.invariant_of-self
@@ -13,9 +14,11 @@ invariant_of-self c =
     let v = c.pair_mut-instance.result.1.now in
     let place = c.args.place in
     let found : slice_get es place ≡ Some (k, v) = c.pair_mut-instance.ensures.value in
-    let w = c.proceed.new.self in
-    c.forget.ensures.items es (k, v) (k, w) found (sym c.is_ready.ensures ∙ c.if-not-is_ready.true) c.self.invariant
-    ∙ ap (ready_places 0) (sym (set_value_at-is es place (k, v) w found))
+    let w = c.proceed.new.self in (
+      c.forget.ensures.items es (k, v) (k, w) found (sym c.is_ready.ensures ∙ c.if-not-is_ready.true) c.self.invariant.0
+          ∙ ap (ready_places 0) (sym (set_value_at-is es place (k, v) w found)),
+      by_set_value c.self.inside.by_set.lists es place k v w found c.self.invariant.1,
+    )
 
 pub invariant_of-self-else-not-is_ready : goal.invariant_of-self-else-not-is_ready
 invariant_of-self-else-not-is_ready c =
@@ -24,9 +27,11 @@ invariant_of-self-else-not-is_ready c =
     let v = c.pair_mut-instance.result.1.now in
     let place = c.args.place in
     let found : slice_get es place ≡ Some (k, v) = c.pair_mut-instance.ensures.value in
-    let w = c.proceed.new.self in
-    same_readiness es place (k, v) (k, w) found c.self.inside.ready.items c.self.invariant (let ready = sym c.is_ready.ensures ∙ c.if-not-is_ready.false in ready ∙ sym (proceeds_ready v w c.args.state c.args.vars.now.items c.proceed.ensures ready))
-    ∙ ap (ready_places 0) (sym (set_value_at-is es place (k, v) w found))
+    let w = c.proceed.new.self in (
+      same_readiness es place (k, v) (k, w) found c.self.inside.ready.items c.self.invariant.0 (let ready = sym c.is_ready.ensures ∙ c.if-not-is_ready.false in ready ∙ sym (proceeds_ready v w c.args.state c.args.vars.now.items c.proceed.ensures ready))
+          ∙ ap (ready_places 0) (sym (set_value_at-is es place (k, v) w found)),
+      by_set_value c.self.inside.by_set.lists es place k v w found c.self.invariant.1,
+    )
 
 pub returns-then-not-is_ready : goal.returns-then-not-is_ready
 returns-then-not-is_ready c p r at =

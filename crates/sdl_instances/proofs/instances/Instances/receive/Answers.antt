@@ -1,11 +1,12 @@
-use Rattle.std.proofs.Common.{◌≡◌, ◌++◌, ◌∷◌, [], List, Some, slice_get, ap, sym, ◌∙◌}
+use Rattle.std.proofs.Common.{◌≡◌, ◌++◌, ◌∷◌, [], List, Some, slice_get, ap, sym, subst, ◌∙◌}
 use Rattle.indexmap.specs.Layout.{set_value_at}
 use Rattle.sdl_signal.specs.declared.values.Pid.{Pid}
 use Rattle.sdl_instances.specs.Record.{Record}
-use Rattle.sdl_instances.specs.Ready.{Listed, ready_places}
+use Rattle.sdl_instances.specs.Ready.{Listed, AreBySet, ready_places}
 use Rattle.sdl_instances.proofs.Places.{set_value_at-is, set_value_at-same}
 use Rattle.sdl_instances.proofs.Readiness.{received_ready}
 use Rattle.sdl_instances.proofs.ReadyPlaces.{wrote}
+use Rattle.sdl_instances.proofs.SetPlaces.{by_set_value}
 use Rattle.sdl_instances.proofs.instances.Instances.receive.Goals as goal
 
 pub invariant_of-self-in-Err : goal.invariant_of-self-in-Err
@@ -15,7 +16,10 @@ invariant_of-self-in-Err c =
     let v = c.pair_mut-instance.result.1.now in
     let place = c.args.place in
     let found : slice_get es place ≡ Some (k, v) = c.pair_mut-instance.ensures.value in
-    c.reserve.ensures.items ∙ c.self.invariant ∙ ap (ready_places 0) (sym (ap (λ (x : Record). set_value_at es place x) c.in-Err.ensures.err ∙ set_value_at-same es place (k, v) found))
+    let same = sym (ap (λ (x : Record). set_value_at es place x) c.in-Err.ensures.err ∙ set_value_at-same es place (k, v) found) in (
+      c.reserve.ensures.items ∙ c.self.invariant.0 ∙ ap (ready_places 0) same,
+      subst (AreBySet c.self.inside.by_set.lists) same c.self.invariant.1,
+    )
 
 pub returns-in-Err-clause-err : goal.returns-in-Err-clause-err
 returns-in-Err-clause-err c =
@@ -33,9 +37,11 @@ invariant_of-self-in-Ok c =
     let v = c.pair_mut-instance.result.1.now in
     let place = c.args.place in
     let found : slice_get es place ≡ Some (k, v) = c.pair_mut-instance.ensures.value in
-    let w = c.receive.new.self in
-    c.note.ensures es (k, v) (k, w) found (received_ready v w c.args.item c.in-Ok.ensures.ok) (c.reserve.ensures.items ∙ c.self.invariant)
-    ∙ ap (ready_places 0) (sym (set_value_at-is es place (k, v) w found))
+    let w = c.receive.new.self in (
+      c.note.ensures es (k, v) (k, w) found (received_ready v w c.args.item c.in-Ok.ensures.ok) (c.reserve.ensures.items ∙ c.self.invariant.0)
+          ∙ ap (ready_places 0) (sym (set_value_at-is es place (k, v) w found)),
+      by_set_value c.self.inside.by_set.lists es place k v w found c.self.invariant.1,
+    )
 
 pub returns-in-Ok-clause-ok : goal.returns-in-Ok-clause-ok
 returns-in-Ok-clause-ok c =

@@ -4,6 +4,7 @@ use Rattle.sdl_instances.specs.Record.{Record}
 use Rattle.sdl_instances.specs.Ready.{Listed, is_ready, ready_places}
 use Rattle.sdl_instances.proofs.Places.{set_value_at-is}
 use Rattle.sdl_instances.proofs.ReadyPlaces.{same_readiness, wrote}
+use Rattle.sdl_instances.proofs.SetPlaces.{by_set_value}
 use Rattle.sdl_instances.proofs.instances.Instances.set_offspring.Goals as goal
 
 pub invariant_of-self : goal.invariant_of-self
@@ -13,9 +14,11 @@ invariant_of-self c =
     let v = c.pair_mut-instance.result.1.now in
     let place = c.args.place in
     let found : slice_get es place ≡ Some (k, v) = c.pair_mut-instance.ensures.value in
-    let w = c.set_offspring.new.self in
-    same_readiness es place (k, v) (k, w) found c.self.inside.ready.items c.self.invariant (ap is_ready c.set_offspring.ensures)
-    ∙ ap (ready_places 0) (sym (set_value_at-is es place (k, v) w found))
+    let w = c.set_offspring.new.self in (
+      same_readiness es place (k, v) (k, w) found c.self.inside.ready.items c.self.invariant.0 (ap is_ready c.set_offspring.ensures)
+          ∙ ap (ready_places 0) (sym (set_value_at-is es place (k, v) w found)),
+      by_set_value c.self.inside.by_set.lists es place k v w found c.self.invariant.1,
+    )
 
 pub returns-clause-entries : goal.returns-clause-entries
 returns-clause-entries c p r at =
@@ -31,4 +34,4 @@ returns-clause-entries c p r at =
 pub returns-clause-births : goal.returns-clause-births
 returns-clause-births c =
     let es = c.self.inside.map.entries in
-    rw (length-set_value_at es c.args.place c.set_offspring.new.self) (ap (λ (l : Listed). l.births) c.self.view_is)
+    (rw (length-set_value_at es c.args.place c.set_offspring.new.self) (ap (λ (l : Listed). l.births) c.self.view_is), ap (λ (l : Listed). l.sets) c.self.view_is)

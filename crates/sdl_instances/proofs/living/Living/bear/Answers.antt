@@ -1,12 +1,14 @@
-use Rattle.std.proofs.Common.{ap, ◌∙◌}
+use Rattle.std.proofs.Common.{ap, length, ◌∙◌, arith}
 use Rattle.sdl_instances.specs.Machine.{newborn}
-use Rattle.sdl_instances.proofs.Creating.{born_is, fresh, get_any}
+use Rattle.sdl_instances.proofs.Creating.{born_is, can_bear, fresh, get_any}
 use Rattle.sdl_instances.proofs.living.Living.bear.Goals as goal
 
 pub add-requires : goal.add-requires
 add-requires c =
     let serial = c.index.ensures ∙ get_any c.args.self.now.last.items c.args.set.0 c.index.result.now 0 c.requires.set in
-    record { room = c.requires.room; absent = fresh c.args.self.now.last.items c.args.set c.index.result.now c.args.self.now.instances.entries serial c.requires.serials }
+    let can = can_bear (length c.args.self.now.last.items) c.args.self.now.instances.sets c.args.self.now.instances.births c.requires.room in
+    let within = c.requires.set in
+    record { set = omega (arith, can.0, within); room = can.1; absent = fresh c.args.self.now.last.items c.args.set c.index.result.now c.args.self.now.instances.entries serial c.requires.serials }
 
 pub returns-clause-born : goal.returns-clause-born
 returns-clause-born c =

@@ -1,8 +1,7 @@
-use Rattle.std.proofs.Common.{ap, ◌≡◌, ◌∙◌, subst, count_by, List, arith}
-use Rattle.std.specs.Map.{keys_of}
+use Rattle.std.proofs.Common.{ap, ◌≡◌, ◌∙◌, subst, List, arith}
 use Rattle.sdl_signal.specs.declared.values.Pid.{Pid}
 use Rattle.sdl_instances.specs.Record.{Record}
-use Rattle.sdl_instances.specs.Machine.{State, is_of, number_living}
+use Rattle.sdl_instances.specs.Machine.{State, number_living}
 use Rattle.sdl_instances.specs.Living.{state_of, written, StandsAt}
 use Rattle.sdl_instances.proofs.Creating.{creates_one, creates_none}
 use Rattle.sdl_instances.proofs.living.Living.create.Goals as goal
@@ -18,7 +17,7 @@ returns-clause-creates c p r at =
     let new : State = record { living = c.set_offspring.new.self.entries; last = mid.last } in
     let after = λ (q : Pid) (v : Record) (here : StandsAt mid place q v). ap (λ (l : List (Pid × Record)). record { living = l; last = mid.last }) (c.set_offspring.ensures.entries q v here) in
     let counted : c.number_of.result ≡ number_living c.args.set old =
-    c.number_of.ensures ∙ ap (count_by (is_of c.args.set)) (c.as_slice.ensures ∙ c.keys.ensures.rest ∙ ap keys_of c.map.ensures) in
+    c.number_of.ensures in
     elim c.if-number_of-numbers.branch [
       | then-number_of-numbers w ↦
           creates_one c.args.sets.now place p r c.args.set c.args.vars.now.items old mid made c.pid-creator.result d new

@@ -2,11 +2,11 @@ use Rattle.std.proofs.Common.{ℕ, ◌<◌, length, slice_set, get_or, ap, ◌�
 use Rattle.sdl_instances.specs.Ready.{lowered}
 use Rattle.std.proofs.lemmas.List.Edits.{map_over_more}
 use Rattle.sdl_instances.proofs.Creating.{get_any}
-use Rattle.sdl_instances.proofs.instances.lower.Goals as goal
+use Rattle.sdl_instances.proofs.by_set.lower.Goals as goal
 
 pub loop-place-preserved : goal.loop-place-preserved
 loop-place-preserved c =
-    let old = c.args.ready.now.items in
+    let old = c.args.places.now.items in
     let items = c.loop-place.place-items in
     let i = c.loop-place.place-index in
     let x = get_or items i 0 in
