@@ -12,7 +12,7 @@ use Rattle.sdl_run.specs.declared.worker.Worker.{Worker}
 use Rattle.sdl_run.specs.Stations.{Ways, Leads, AreWays, IsWay, Among, first, next, place}
 use Rattle.sdl_run.specs.Books.{Books, InOrder, NoOther, of_route}
 use Rattle.sdl_run.specs.Steps.{is_station, bound_for}
-use Rattle.sdl_run.proofs.Tests.{same_station_is, same_station_itself}
+use Rattle.sdl_run.proofs.Comparisons.{same_station_is, same_station_itself}
 use Rattle.sdl_run.proofs.Lists.{all_weaker, all_every, filter_within}
 use Rattle.sdl_run.proofs.Way.{ends_at}
 

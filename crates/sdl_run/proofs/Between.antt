@@ -20,51 +20,69 @@ use Rattle.sdl_run.specs.declared.worker.Worker.{Worker}
 use Rattle.sdl_run.specs.declared.worker.Worker.TheVariants.{Block, Environment, Forwarder}
 use Rattle.sdl_run.specs.Stations.{Among, taker, place}
 use Rattle.sdl_run.specs.Books.{standing, left, of_route}
-use Rattle.sdl_run.specs.Plan.{Plan, IsPlan, MayTravel, ways_of, system_at}
+use Rattle.sdl_run.specs.Plan.{Plan, IsPlan, MayTravel, blocks_in, ways_of, system_at}
 use Rattle.sdl_block.specs.Work.{Working, StepsAs}
-use Rattle.sdl_run.specs.Driver.{Site, site_books, of_block, held_at, IsAtWork, IsFresh, BlockSteps, ForwarderSteps}
+use Rattle.sdl_run.specs.Driver.{Site, site_books, of_agent, held_at, IsAtWork, IsFresh, BlockSteps, EnvironmentSteps, ForwarderSteps}
+use Rattle.sdl_run.specs.declared.environment_output.EnvOut.{EnvOut}
+use Rattle.sdl_run.specs.EnvironmentWork.{EnvWorking, env_sent, env_origins, AreCounted, ComesIn, EnvStepsAs}
 use Rattle.sdl_run.proofs.Lists.{set_same}
 use Rattle.sdl_run.proofs.BlockStep.{block_keeps}
 use Rattle.sdl_run.proofs.Forwarding.{moves_keep, holds_keep}
+use Rattle.sdl_run.proofs.StepEnvironment.{env_starts, env_keeps}
 
-unfoldable site : List Working → List Forwarding → List (Station × List Item) → Site
-site blocks forwarders board = record { blocks = blocks; forwarders = forwarders; board = board }
+unfoldable site : List Working → EnvWorking → List Forwarding → List (Station × List Item) → Site
+site blocks environment forwarders board = record { blocks = blocks; environment = environment; forwarders = forwarders; board = board }
 
 -- sites of equal parts are equal
-pub site_is : (x y : Site) → y.blocks ≡ x.blocks → y.forwarders ≡ x.forwarders → y.board ≡ x.board → x ≡ y
+pub site_is : (x y : Site) → y.blocks ≡ x.blocks → y.environment ≡ x.environment → y.forwarders ≡ x.forwarders → y.board ≡ x.board → x ≡ y
 unfolding site
-site_is x y e f g =
-    ap (λ (b : List Working). site b x.forwarders x.board) (sym e) ∙ (ap (λ (w : List Forwarding). site y.blocks w x.board) (sym f) ∙ ap (λ (b : List (Station × List Item)). site y.blocks y.forwarders b) (sym g))
+site_is x y e h f g =
+    ap (λ (b : List Working). site b x.environment x.forwarders x.board) (sym e)
+    ∙ (ap (λ (w : EnvWorking). site y.blocks w x.forwarders x.board) (sym h)
+    ∙ (ap (λ (w : List Forwarding). site y.blocks y.environment w x.board) (sym f) ∙ ap (λ (b : List (Station × List Item)). site y.blocks y.environment y.forwarders b) (sym g)))
 
 module _ (may : ℕ → Frame → Step → Type 0) (plan : Plan) (ok : IsPlan plan) where
   block_answer : (n : ℕ) (answer : Stepped) (old new : Site) (was is : Working) → IsAtWork may plan old → slice_get old.blocks n ≡ Some was
-      → new.blocks ≡ set old.blocks n is → new.forwarders ≡ old.forwarders → StepsAs may (system_at plan n) was old.board answer is new.board → IsAtWork may plan new
-  block_answer n stepped.Did old new was is work before after same step =
-      subst (IsAtWork may plan) (site_is (record { blocks = set old.blocks n is; forwarders = old.forwarders; board = new.board }) new after same refl)
+      → new.blocks ≡ set old.blocks n is → new.environment ≡ old.environment → new.forwarders ≡ old.forwarders → StepsAs may (system_at plan n) was old.board answer is new.board → IsAtWork may plan new
+  block_answer n stepped.Did old new was is work before after env same step =
+      subst (IsAtWork may plan) (site_is (record { blocks = set old.blocks n is; environment = old.environment; forwarders = old.forwarders; board = new.board }) new after env same refl)
       (block_keeps may plan ok old work n was is before new.board step.0)
-  block_answer n stepped.Memory old new was is work before after same step =
-      subst (IsAtWork may plan) (site_is (record { blocks = set old.blocks n is; forwarders = old.forwarders; board = new.board }) new after same refl)
+  block_answer n stepped.Memory old new was is work before after env same step =
+      subst (IsAtWork may plan) (site_is (record { blocks = set old.blocks n is; environment = old.environment; forwarders = old.forwarders; board = new.board }) new after env same refl)
       (block_keeps may plan ok old work n was is before new.board step)
-  block_answer n stepped.Idle old new was is work before after same step =
-      subst (IsAtWork may plan) (site_is old new (after ∙ (ap (set old.blocks n) step.0 ∙ set_same old.blocks n was before)) same step.1) work
+  block_answer n stepped.Idle old new was is work before after env same step =
+      subst (IsAtWork may plan) (site_is old new (after ∙ (ap (set old.blocks n) step.0 ∙ set_same old.blocks n was before)) env same step.1) work
 
   pub block_steps : (n : ℕ) (answer : Stepped) (old new : Site) → IsAtWork may plan old → BlockSteps may plan n answer old new → IsAtWork may plan new
-  block_steps n answer old new work steps = block_answer n answer old new steps.was steps.is work steps.before steps.after steps.forwarders steps.step
+  block_steps n answer old new work steps = block_answer n answer old new steps.was steps.is work steps.before steps.after steps.environment steps.forwarders steps.step
 
   forwarder_answer : (k : ℕ) (answer : Forwarded) (old new : Site) (was is : Forwarding) → IsAtWork may plan old → slice_get old.forwarders k ≡ Some was
-      → new.forwarders ≡ set old.forwarders k is → new.blocks ≡ old.blocks → IsBoardOf plan.routes new.board → hands.Forwards plan.routes was old.board answer is new.board → IsAtWork may plan new
-  forwarder_answer k forwarded.Moved old new was is work before after same board step =
-      subst (IsAtWork may plan) (site_is (record { blocks = old.blocks; forwarders = set old.forwarders k is; board = new.board }) new same after refl)
+      → new.forwarders ≡ set old.forwarders k is → new.blocks ≡ old.blocks → new.environment ≡ old.environment → IsBoardOf plan.routes new.board → hands.Forwards plan.routes was old.board answer is new.board → IsAtWork may plan new
+  forwarder_answer k forwarded.Moved old new was is work before after same env board step =
+      subst (IsAtWork may plan) (site_is (record { blocks = old.blocks; environment = old.environment; forwarders = set old.forwarders k is; board = new.board }) new same env after refl)
       (moves_keep may plan ok old work k was is before new.board board (ap (λ (f : Forwarding). f.hop) step.emptied) step)
-  forwarder_answer k forwarded.Held old new was is work before after same board step =
-      subst (IsAtWork may plan) (site_is (record { blocks = old.blocks; forwarders = set old.forwarders k is; board = new.board }) new same after refl)
+  forwarder_answer k forwarded.Held old new was is work before after same env board step =
+      subst (IsAtWork may plan) (site_is (record { blocks = old.blocks; environment = old.environment; forwarders = set old.forwarders k is; board = new.board }) new same env after refl)
       (holds_keep may plan ok old work k was is before new.board board (ap (λ (f : Forwarding). f.hop) step.held) step)
-  forwarder_answer k forwarded.Idle old new was is work before after same board step =
-      subst (IsAtWork may plan) (site_is old new same (after ∙ (ap (set old.forwarders k) step.forwarder ∙ set_same old.forwarders k was before)) step.board) work
+  forwarder_answer k forwarded.Idle old new was is work before after same env board step =
+      subst (IsAtWork may plan) (site_is old new same env (after ∙ (ap (set old.forwarders k) step.forwarder ∙ set_same old.forwarders k was before)) step.board) work
 
   pub forwarder_steps : (k : ℕ) (answer : Forwarded) (old new : Site) → IsAtWork may plan old → ForwarderSteps plan k answer old new → IsAtWork may plan new
   forwarder_steps k answer old new work steps =
-      forwarder_answer k answer old new steps.was steps.is work steps.before steps.after steps.blocks steps.board steps.step
+      forwarder_answer k answer old new steps.was steps.is work steps.before steps.after steps.blocks steps.environment steps.board steps.step
+
+  environment_answer : (answer : Stepped) (old new : Site) → IsAtWork may plan old → new.blocks ≡ old.blocks → new.forwarders ≡ old.forwarders → IsBoardOf plan.routes new.board
+      → EnvStepsAs plan.structure plan.routes (blocks_in plan) old.environment old.board answer new.environment new.board → IsAtWork may plan new
+  environment_answer stepped.Did old new work blocks forwarders board step =
+      subst (IsAtWork may plan) (site_is (record { blocks = old.blocks; environment = new.environment; forwarders = old.forwarders; board = new.board }) new blocks refl forwarders refl)
+      (env_keeps may plan ok old work new.environment new.board board step.0)
+  environment_answer stepped.Memory old new work blocks forwarders board step =
+      subst (IsAtWork may plan) (site_is (record { blocks = old.blocks; environment = new.environment; forwarders = old.forwarders; board = new.board }) new blocks refl forwarders refl)
+      (env_keeps may plan ok old work new.environment new.board board step)
+  environment_answer stepped.Idle old new work blocks forwarders board step = subst (IsAtWork may plan) (site_is old new blocks step.0 forwarders step.1) work
+
+  pub environment_steps : (answer : Stepped) (old new : Site) → IsAtWork may plan old → EnvironmentSteps plan answer old new → IsAtWork may plan new
+  environment_steps answer old new work steps = environment_answer answer old new work steps.blocks steps.forwarders steps.board steps.step
 
 -- at the start everything is empty
 flat_none : {A B : Type 0} (f : A → List B) → ((x : A) → f x ≡ []) → (xs : List A) → flat_map f xs ≡ []
@@ -75,10 +93,10 @@ of_none : (f : Working → List Item) (o : Option Working) → ((w : Working) �
 of_none f None h = refl
 of_none f (Some w) h = h w refl
 
-block_none : (f : Working → List Item) (ws : List Working) → ((n : ℕ) (w : Working) → slice_get ws n ≡ Some w → f w ≡ []) → (v : Worker) → of_block f ws v ≡ []
-block_none f ws h (Block b) = of_none f (slice_get ws b.0) (h b.0)
-block_none f ws h Environment = refl
-block_none f ws h (Forwarder k) = refl
+agent_none : (f : Working → List Item) (env : List Item) (ws : List Working) → env ≡ [] → ((n : ℕ) (w : Working) → slice_get ws n ≡ Some w → f w ≡ []) → (v : Worker) → of_agent f env ws v ≡ []
+agent_none f env ws e h (Block b) = of_none f (slice_get ws b.0) (h b.0)
+agent_none f env ws e h Environment = e
+agent_none f env ws e h (Forwarder k) = refl
 
 held_none : (fs : List Forwarding) → AllByRecursion (λ (f : Forwarding). f.held ≡ None) fs → (h : Hop) → held_at fs h ≡ []
 held_none [] none h = refl
@@ -87,16 +105,16 @@ held_none (f ∷ fs) none h =
 
 module _ (may : ℕ → Frame → Step → Type 0) (plan : Plan) (start : Site) (fresh : IsFresh may plan start) where
   no_sent : (v : Worker) → (site_books start).sent v ≡ []
-  no_sent = block_none (λ (w : Working). sent w.core.log) start.blocks (λ n w e. ap sent (fresh.cores n w e).1)
+  no_sent = agent_none (λ (w : Working). sent w.core.log) (env_sent start.environment.put) start.blocks (ap env_sent fresh.environment.put) (λ n w e. ap sent (fresh.cores n w e).1)
 
   no_arrived : (v : Worker) → (site_books start).arrived v ≡ []
-  no_arrived = block_none (λ (w : Working). arrived w.core.log) start.blocks (λ n w e. ap arrived (fresh.cores n w e).1)
+  no_arrived = agent_none (λ (w : Working). arrived w.core.log) start.environment.received start.blocks fresh.environment.received (λ n w e. ap arrived (fresh.cores n w e).1)
 
   no_outgoing : (v : Worker) → (site_books start).outgoing v ≡ []
-  no_outgoing = block_none (λ (w : Working). w.outgoing) start.blocks (λ n w e. (fresh.cores n w e).3)
+  no_outgoing = agent_none (λ (w : Working). w.outgoing) start.environment.outgoing start.blocks fresh.environment.outgoing (λ n w e. (fresh.cores n w e).3)
 
   no_kept : (v : Worker) → (site_books start).kept v ≡ []
-  no_kept (Block b) = block_none (λ (w : Working). option_to_list w.kept) start.blocks (λ n w e. ap (λ (o : Option Item). option_to_list o) (fresh.cores n w e).2) (Block b)
+  no_kept (Block b) = agent_none (λ (w : Working). option_to_list w.kept) [] start.blocks refl (λ n w e. ap (λ (o : Option Item). option_to_list o) (fresh.cores n w e).2) (Block b)
   no_kept Environment = refl
   no_kept (Forwarder h) = held_none start.forwarders fresh.held h
 
@@ -117,6 +135,9 @@ module _ (may : ℕ → Frame → Step → Type 0) (plan : Plan) (start : Site) 
       record {
         blocks = fresh.blocks;
         cores = λ n w e. (fresh.cores n w e).0;
+        environment = env_starts plan.structure plan.routes (blocks_in plan) start.environment fresh.environment;
+        coming = subst (λ (outs : List EnvOut). AllByRecursion (ComesIn plan.routes) (env_sent outs)) (sym fresh.environment.put) tt;
+        counted = subst (λ (outs : List EnvOut). AreCounted (blocks_in plan) 0 (env_origins outs)) (sym fresh.environment.put) tt;
         forwarders = fresh.forwarders;
         board = fresh.board;
         order = record {

@@ -24,9 +24,10 @@ use Rattle.sdl_run.specs.Books.{standing}
 use Rattle.sdl_run.specs.Steps.{Acts, IsQuiet, is_station, bound_for}
 use Rattle.sdl_run.specs.Plan.{Plan, IsPlan, MayTravel, system_at, ways_of}
 use Rattle.sdl_block.specs.Work.{Working, Works, beginning_at, first_station, is_at}
-use Rattle.sdl_run.specs.Driver.{Site, site_books, of_block, IsCoreAt, IsAtWork}
+use Rattle.sdl_run.specs.EnvironmentWork.{env_sent}
+use Rattle.sdl_run.specs.Driver.{Site, site_books, of_agent, IsCoreAt, IsAtWork}
 use Rattle.sdl_run.proofs.Lists.{all_front, all_end, all_append, all_filter, filter_agrees, get_set, get_set_other, length_set}
-use Rattle.sdl_run.proofs.Tests.{cases_station, cases_worker}
+use Rattle.sdl_run.proofs.Comparisons.{cases_station, cases_worker}
 use Rattle.sdl_run.proofs.Starts.{block, run_starts}
 use Rattle.sdl_run.proofs.Ways.{ways_are}
 use Rattle.sdl_run.proofs.Keeps.{acts_keeps}
@@ -35,11 +36,11 @@ first_get : (ss : List Station) → first ss ≡ slice_get ss 0
 first_get [] = refl
 first_get (s ∷ ss) = refl
 
-first_row : (o : Option Row) → first (elim o as (λ _. List Station) [ None ↦ [] | Some row ↦ row.route.stations.items ]) ≡ option_and_then (λ (row : Row). slice_get row.route.stations.items 0) o
+pub first_row : (o : Option Row) → first (elim o as (λ _. List Station) [ None ↦ [] | Some row ↦ row.route.stations.items ]) ≡ option_and_then (λ (row : Row). slice_get row.route.stations.items 0) o
 first_row None = refl
 first_row (Some row) = first_get row.route.stations.items
 
-same_at : (s : Station) (o : Option Station) → is_station s o ≡ is_at s o
+pub same_at : (s : Station) (o : Option Station) → is_station s o ≡ is_at s o
 same_at s None = refl
 same_at s (Some x) = refl
 
@@ -70,16 +71,16 @@ unfolding block
 same_block b n e = ap (λ (k : ℕ). record { 0 = k }) e
 
 -- what a list of blocks has for one of them, after that one changed
-module _ (f : Working → List Item) (ws : List Working) (n : ℕ) (was is : Working) (before : slice_get ws n ≡ Some was) where
-  pub of_block_was : of_block f ws (Block (block n)) ≡ f was
+module _ (f : Working → List Item) (env : List Item) (ws : List Working) (n : ℕ) (was is : Working) (before : slice_get ws n ≡ Some was) where
+  pub of_block_was : of_agent f env ws (Block (block n)) ≡ f was
   unfolding block
   of_block_was = ap (λ (o : Option Working). elim o as (λ _. List Item) [ None ↦ [] | Some w ↦ f w ]) before
 
-  pub of_block_is : of_block f (set ws n is) (Block (block n)) ≡ f is
+  pub of_block_is : of_agent f env (set ws n is) (Block (block n)) ≡ f is
   unfolding block
   of_block_is = ap (λ (o : Option Working). elim o as (λ _. List Item) [ None ↦ [] | Some w ↦ f w ]) (get_set ws n was is before)
 
-  pub of_block_other : (v : Worker) → v ≢ Block (block n) → of_block f (set ws n is) v ≡ of_block f ws v
+  pub of_block_other : (v : Worker) → v ≢ Block (block n) → of_agent f env (set ws n is) v ≡ of_agent f env ws v
   of_block_other (Block b) h =
       ap (λ (o : Option Working). elim o as (λ _. List Item) [ None ↦ [] | Some w ↦ f w ]) (get_set_other ws n b.0 is (λ e. h (ap Block (same_block b n e))))
   of_block_other Environment h = refl
@@ -92,7 +93,7 @@ module _ (may : ℕ → Frame → Step → Type 0) (plan : Plan) (ok : IsPlan pl
 
   -- the driver after the step
   abbrev then : Site
-  then = record { blocks = set old.blocks n is; forwarders = old.forwarders; board = board }
+  then = record { blocks = set old.blocks n is; environment = old.environment; forwarders = old.forwarders; board = board }
 
   at_block : was.core.block ≡ block n
   unfolding block
@@ -106,14 +107,14 @@ module _ (may : ℕ → Frame → Step → Type 0) (plan : Plan) (ok : IsPlan pl
 
   steps_sent : (site_books then).sent here ≡ (site_books old).sent here ++ sent works.events
   steps_sent =
-      of_block_is (λ (w : Working). sent w.core.log) old.blocks n was is before
+      of_block_is (λ (w : Working). sent w.core.log) (env_sent old.environment.put) old.blocks n was is before
       ∙ (ap sent works.log ∙ (sent_append was.core.log works.events
-      ∙ ap (λ (xs : List Item). xs ++ sent works.events) (sym (of_block_was (λ (w : Working). sent w.core.log) old.blocks n was is before))))
+      ∙ ap (λ (xs : List Item). xs ++ sent works.events) (sym (of_block_was (λ (w : Working). sent w.core.log) (env_sent old.environment.put) old.blocks n was is before))))
 
   pub steps_hand : works.put ++ (site_books then).outgoing here ≡ (site_books old).outgoing here ++ sent works.events
   steps_hand =
-      ap (λ (xs : List Item). works.put ++ xs) (of_block_is (λ (w : Working). w.outgoing) old.blocks n was is before)
-      ∙ (works.went ∙ ap (λ (xs : List Item). xs ++ sent works.events) (sym (of_block_was (λ (w : Working). w.outgoing) old.blocks n was is before)))
+      ap (λ (xs : List Item). works.put ++ xs) (of_block_is (λ (w : Working). w.outgoing) old.environment.outgoing old.blocks n was is before)
+      ∙ (works.went ∙ ap (λ (xs : List Item). xs ++ sent works.events) (sym (of_block_was (λ (w : Working). w.outgoing) old.environment.outgoing old.blocks n was is before)))
 
   at_inlet : waiting old.board (Inlet (block n)) ++ bound_for (ways_of plan) here (Inlet (block n)) works.put ≡ works.taken ++ waiting board (Inlet (block n))
   at_inlet =
@@ -122,11 +123,11 @@ module _ (may : ℕ → Frame → Step → Type 0) (plan : Plan) (ok : IsPlan pl
 
   steps_in : (site_books then).arrived here ++ standing (site_books then) (place here) ≡ ((site_books old).arrived here ++ standing (site_books old) (place here)) ++ bound_for (ways_of plan) here (place here) works.put
   steps_in =
-      let a0 = of_block_was (λ (w : Working). arrived w.core.log) old.blocks n was is before in
-      let a1 = of_block_is (λ (w : Working). arrived w.core.log) old.blocks n was is before in
+      let a0 = of_block_was (λ (w : Working). arrived w.core.log) old.environment.received old.blocks n was is before in
+      let a1 = of_block_is (λ (w : Working). arrived w.core.log) old.environment.received old.blocks n was is before in
       let a2 = ap arrived works.log ∙ arrived_append was.core.log works.events in
-      let k0 = of_block_was (λ (w : Working). option_to_list w.kept) old.blocks n was is before in
-      let k1 = of_block_is (λ (w : Working). option_to_list w.kept) old.blocks n was is before in
+      let k0 = of_block_was (λ (w : Working). option_to_list w.kept) [] old.blocks n was is before in
+      let k1 = of_block_is (λ (w : Working). option_to_list w.kept) [] old.blocks n was is before in
       let e = lets_in_from (arrived was.core.log) (arrived works.events) (option_to_list was.kept) (option_to_list is.kept) works.taken (waiting old.board (Inlet (block n))) (waiting board (Inlet (block n)))
       (bound_for (ways_of plan) here (Inlet (block n)) works.put) works.came at_inlet in
       cc
@@ -134,7 +135,7 @@ module _ (may : ℕ → Frame → Step → Type 0) (plan : Plan) (ok : IsPlan pl
   -- elsewhere nothing is kept or let in
   kept_else : (s : Station) → s ≢ Inlet (block n) → (site_books then).kept (taker s) ≡ (site_books old).kept (taker s)
   kept_else (Line h) e = refl
-  kept_else (Inlet b) e = of_block_other (λ (w : Working). option_to_list w.kept) old.blocks n was is before (Block b) (λ f. e (ap place f))
+  kept_else (Inlet b) e = of_block_other (λ (w : Working). option_to_list w.kept) [] old.blocks n was is before (Block b) (λ f. e (ap place f))
   kept_else Outlet e = refl
 
   pub steps_else : (s : Station) → s ≢ Inlet (block n) → standing (site_books then) s ≡ standing (site_books old) s ++ bound_for (ways_of plan) here s works.put
@@ -148,9 +149,9 @@ module _ (may : ℕ → Frame → Step → Type 0) (plan : Plan) (ok : IsPlan pl
   pub steps_quiet : (v : Worker) → v ≢ here → IsQuiet v (site_books old) (site_books then)
   steps_quiet v e =
       record {
-        sent = of_block_other (λ (w : Working). sent w.core.log) old.blocks n was is before v e;
-        arrived = of_block_other (λ (w : Working). arrived w.core.log) old.blocks n was is before v e;
-        outgoing = of_block_other (λ (w : Working). w.outgoing) old.blocks n was is before v e;
+        sent = of_block_other (λ (w : Working). sent w.core.log) (env_sent old.environment.put) old.blocks n was is before v e;
+        arrived = of_block_other (λ (w : Working). arrived w.core.log) old.environment.received old.blocks n was is before v e;
+        outgoing = of_block_other (λ (w : Working). w.outgoing) old.environment.outgoing old.blocks n was is before v e;
       }
 
   starts_here : AllByRecursion (λ (i : Item). (ways_of plan).start i.route.0 ≡ here) (sent works.events)
@@ -178,7 +179,7 @@ module _ (may : ℕ → Frame → Step → Type 0) (plan : Plan) (ok : IsPlan pl
   sent_legal =
       subst (AllByRecursion (MayTravel plan)) (sym works.went)
       (all_append (MayTravel plan) was.outgoing (sent works.events)
-      (subst (AllByRecursion (MayTravel plan)) (of_block_was (λ (w : Working). w.outgoing) old.blocks n was is before) (work.outgoing_legal here tt))
+      (subst (AllByRecursion (MayTravel plan)) (of_block_was (λ (w : Working). w.outgoing) old.environment.outgoing old.blocks n was is before) (work.outgoing_legal here tt))
       (recursion_from_All (MayTravel plan) (sent works.events) works.legal))
 
   put_legal : (s : Station) → AllByRecursion (MayTravel plan) (bound_for (ways_of plan) here s works.put)
@@ -195,8 +196,8 @@ module _ (may : ℕ → Frame → Step → Type 0) (plan : Plan) (ok : IsPlan pl
   -- what it had and got is what came in and what is left
   pub inlet_parts : standing (site_books old) (Inlet (block n)) ++ bound_for (ways_of plan) here (Inlet (block n)) works.put ≡ arrived works.events ++ standing (site_books then) (Inlet (block n))
   inlet_parts =
-      let k0 = of_block_was (λ (w : Working). option_to_list w.kept) old.blocks n was is before in
-      let k1 = of_block_is (λ (w : Working). option_to_list w.kept) old.blocks n was is before in
+      let k0 = of_block_was (λ (w : Working). option_to_list w.kept) [] old.blocks n was is before in
+      let k1 = of_block_is (λ (w : Working). option_to_list w.kept) [] old.blocks n was is before in
       let a0 = append_assoc (option_to_list was.kept) (waiting old.board (Inlet (block n))) (bound_for (ways_of plan) here (Inlet (block n)) works.put) in
       let a1 = append_assoc (option_to_list was.kept) works.taken (waiting board (Inlet (block n))) in
       let a2 = append_assoc (arrived works.events) (option_to_list is.kept) (waiting board (Inlet (block n))) in
@@ -215,7 +216,7 @@ module _ (may : ℕ → Frame → Step → Type 0) (plan : Plan) (ok : IsPlan pl
   legal_hand : (w : Worker) → IsAgent w → (w ≡ here) ⊎ (w ≢ here) → AllByRecursion (MayTravel plan) ((site_books then).outgoing w)
   legal_hand w a (inl e) =
       subst (λ (v : Worker). AllByRecursion (MayTravel plan) ((site_books then).outgoing v)) (sym e)
-      (subst (AllByRecursion (MayTravel plan)) (sym (of_block_is (λ (k : Working). k.outgoing) old.blocks n was is before)) (all_end (MayTravel plan) works.put is.outgoing sent_legal))
+      (subst (AllByRecursion (MayTravel plan)) (sym (of_block_is (λ (k : Working). k.outgoing) old.environment.outgoing old.blocks n was is before)) (all_end (MayTravel plan) works.put is.outgoing sent_legal))
   legal_hand w a (inr e) = subst (AllByRecursion (MayTravel plan)) (sym (steps_quiet w e).outgoing) (work.outgoing_legal w a)
 
   core_then : IsCoreAt may plan n is.core
@@ -243,6 +244,9 @@ module _ (may : ℕ → Frame → Step → Type 0) (plan : Plan) (ok : IsPlan pl
       record {
         blocks = length_set old.blocks n is ∙ work.blocks;
         cores = cores_then;
+        environment = work.environment;
+        counted = work.counted;
+        coming = work.coming;
         forwarders = work.forwarders;
         board = subst (AreAllStations plan.routes) (sym works.stations) work.board;
         order = acts_keeps (ways_of plan) here (site_books old) (site_books then) (ways_are plan ok) work.order acts;

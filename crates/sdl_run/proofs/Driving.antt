@@ -65,11 +65,11 @@ module _ {S I : Type 0} {F : I → Type 0} {g : _} (may : ℕ → Frame → Step
   legal_here =
       subst (λ (s : System). All (IsLegalIn s) (worker_of w).outgoing) system_here
       (All-from_recursion (MayTravel (plan_of d)) (worker_of w).outgoing
-      (subst (AllByRecursion (MayTravel (plan_of d))) (of_block_was (λ (k : Working). k.outgoing) (map worker_of d.blocks.items) n (worker_of w) (worker_of w) at_place) (driving.work.outgoing_legal (Block (block n)) tt)))
+      (subst (AllByRecursion (MayTravel (plan_of d))) (of_block_was (λ (k : Working). k.outgoing) d.environment.outgoing (map worker_of d.blocks.items) n (worker_of w) (worker_of w) at_place) (driving.work.outgoing_legal (Block (block n)) tt)))
 
   module _ (v : BlockWorker S I F g) (answer : Stepped) (board : List (Station × List Item)) where
     pub block_step : StepsAs may (system_around w d.routes) (worker_of w) d.board answer (worker_of v) board
-        → BlockSteps may (plan_of d) n answer (site_of d) (record { blocks = map worker_of (slice_set d.blocks.items n v); forwarders = d.forwarders.items; board = board })
+        → BlockSteps may (plan_of d) n answer (site_of d) (record { blocks = map worker_of (slice_set d.blocks.items n v); environment = d.environment; forwarders = d.forwarders.items; board = board })
     block_step step =
         record {
           was = worker_of w;
@@ -77,6 +77,7 @@ module _ {S I : Type 0} {F : I → Type 0} {g : _} (may : ℕ → Frame → Step
           before = at_place;
           step = subst (λ (s : System). StepsAs may s (worker_of w) d.board answer (worker_of v) board) (sym system_here) step;
           after = map-set worker_of d.blocks.items n v;
+          environment = refl;
           forwarders = refl;
         }
 

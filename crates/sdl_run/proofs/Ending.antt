@@ -14,7 +14,6 @@ use Rattle.sdl_instances.specs.declared.event.Event.{Event}
 use Rattle.sdl_instances.specs.Run.{IsRun, arrived, sent, turns}
 use Rattle.sdl_forward.specs.Boards.{same_hop, waiting}
 use Rattle.sdl_forward.specs.Forwards.{Forwarding}
-use Rattle.sdl_run.specs.declared.end.RunEnd.{RunEnd}
 use Rattle.sdl_run.specs.declared.worker.Worker.{Worker}
 use Rattle.sdl_run.specs.declared.worker.Worker.TheVariants.{Block, Environment, Forwarder}
 use Rattle.sdl_run.specs.Stations.{IsAgent, Among, taker}
@@ -22,12 +21,11 @@ use Rattle.sdl_run.specs.Books.{Books, InOrder, standing}
 use Rattle.sdl_run.specs.Steps.{IsStill}
 use Rattle.sdl_run.specs.Plan.{Plan, IsPlan, MayTravel, blocks_in, blocks_from, workers_of, lines_of, system_at, ways_of}
 use Rattle.sdl_run.specs.Outcome.{Held, IsComplete, IsLawful, AreRunsFrom, LeftsAreLegal, of_worker, books_of}
-use Rattle.sdl_run.specs.Ends.{EndsAs, HasEnded}
 use Rattle.sdl_block.specs.Work.{Working}
-use Rattle.sdl_run.specs.Driver.{Site, site_books, of_block, held_at, IsCoreAt, IsAtWork, outcome_of, finals_of, block_hand, empty_hand, forwarder_hand}
+use Rattle.sdl_run.specs.Driver.{Site, site_books, of_agent, held_at, IsCoreAt, IsAtWork, outcome_of, finals_of, block_hand, env_hand, forwarder_hand}
+use Rattle.sdl_run.specs.EnvironmentWork.{env_sent}
 use Rattle.sdl_run.proofs.Lists.{all_both}
 use Rattle.sdl_run.proofs.Ways.{ways_are}
-use Rattle.sdl_run.proofs.Whole.{headline}
 use Rattle.sdl_run.proofs.Keeps.{still_keeps}
 
 -- a block stands among the blocks from n on at its own place, and else behind them
@@ -69,7 +67,7 @@ module _ (plan : Plan) (site : Site) (blocks : length site.blocks ≡ blocks_in 
   counted : (w : Worker) → of_all w ≡ of_worker w (blocks_from 0 (length site.blocks) ++ Environment ∷ map Forwarder (lines_of plan)) (map f site.blocks ++ ys ∷ yss)
   counted w = ap (λ (n : ℕ). of_worker w (blocks_from 0 n ++ Environment ∷ map Forwarder (lines_of plan)) (map f site.blocks ++ ys ∷ yss)) (sym blocks)
 
-  block_has : (b : BlockId) → of_all (Block b) ≡ of_block f site.blocks (Block b)
+  block_has : (b : BlockId) → of_all (Block b) ≡ of_agent f ys site.blocks (Block b)
   block_has b =
       counted (Block b)
       ∙ (block_among f site.blocks 0 b.0 b (Environment ∷ map Forwarder (lines_of plan)) (ys ∷ yss) (omega arith)
@@ -91,11 +89,11 @@ map_append g (x ∷ xs) ys = ap (λ zs. g x ∷ zs) (map_append g xs ys)
 
 -- the hands of all workers, by one of their parts
 hands_by : (g : Held → List Item) (site : Site)
-    → map g (outcome_of site).hands ≡ map (λ (w : Working). g (block_hand w)) site.blocks ++ g empty_hand ∷ map (λ (k : Forwarding). g (forwarder_hand k)) site.forwarders
+    → map g (outcome_of site).hands ≡ map (λ (w : Working). g (block_hand w)) site.blocks ++ g (env_hand site.environment) ∷ map (λ (k : Forwarding). g (forwarder_hand k)) site.forwarders
 hands_by g site =
-    map_append g (map block_hand site.blocks) (empty_hand ∷ map forwarder_hand site.forwarders)
-    ∙ (ap (λ (xss : List (List Item)). xss ++ g empty_hand ∷ map g (map forwarder_hand site.forwarders)) (map_map g block_hand site.blocks)
-    ∙ ap (λ (xss : List (List Item)). map (λ (w : Working). g (block_hand w)) site.blocks ++ g empty_hand ∷ xss) (map_map g forwarder_hand site.forwarders))
+    map_append g (map block_hand site.blocks) (env_hand site.environment ∷ map forwarder_hand site.forwarders)
+    ∙ (ap (λ (xss : List (List Item)). xss ++ g (env_hand site.environment) ∷ map g (map forwarder_hand site.forwarders)) (map_map g block_hand site.blocks)
+    ∙ ap (λ (xss : List (List Item)). map (λ (w : Working). g (block_hand w)) site.blocks ++ g (env_hand site.environment) ∷ xss) (map_map g forwarder_hand site.forwarders))
 
 module _ (may : ℕ → Frame → Step → Type 0) (plan : Plan) (ok : IsPlan plan) (site : Site) (work : IsAtWork may plan site) where
   abbrev before : Books
@@ -104,26 +102,30 @@ module _ (may : ℕ → Frame → Step → Type 0) (plan : Plan) (ok : IsPlan pl
   abbrev after : Books
   after = books_of plan (outcome_of site)
 
-  logs_by : (f : List Event → List Item) (w : Worker) → of_worker w (workers_of plan) (map f (outcome_of site).logs ++ [] ∷ []) ≡ of_worker w (workers_of plan) (map (λ (k : Working). f k.core.log) site.blocks ++ [] ∷ [])
-  logs_by f w = ap (λ (xss : List (List Item)). of_worker w (workers_of plan) (xss ++ [] ∷ [])) (map_map f (λ (k : Working). k.core.log) site.blocks)
+  logs_by : (f : List Event → List Item) (env : List Item) (w : Worker)
+      → of_worker w (workers_of plan) (map f (outcome_of site).logs ++ env ∷ []) ≡ of_worker w (workers_of plan) (map (λ (k : Working). f k.core.log) site.blocks ++ env ∷ [])
+  logs_by f env w = ap (λ (xss : List (List Item)). of_worker w (workers_of plan) (xss ++ env ∷ [])) (map_map f (λ (k : Working). k.core.log) site.blocks)
+
+  abbrev env_put : List Item
+  env_put = env_sent site.environment.put
 
   sent_same : (w : Worker) → IsAgent w → after.sent w ≡ before.sent w
-  sent_same (Block b) a = logs_by sent (Block b) ∙ block_has plan site work.blocks (λ (k : Working). sent k.core.log) [] [] b
-  sent_same Environment a = logs_by sent Environment ∙ env_has plan site work.blocks (λ (k : Working). sent k.core.log) [] []
+  sent_same (Block b) a = logs_by sent env_put (Block b) ∙ block_has plan site work.blocks (λ (k : Working). sent k.core.log) env_put [] b
+  sent_same Environment a = logs_by sent env_put Environment ∙ env_has plan site work.blocks (λ (k : Working). sent k.core.log) env_put []
   sent_same (Forwarder h) a = absurd a
 
   arrived_same : (w : Worker) → IsAgent w → after.arrived w ≡ before.arrived w
-  arrived_same (Block b) a = logs_by arrived (Block b) ∙ block_has plan site work.blocks (λ (k : Working). arrived k.core.log) [] [] b
-  arrived_same Environment a = logs_by arrived Environment ∙ env_has plan site work.blocks (λ (k : Working). arrived k.core.log) [] []
+  arrived_same (Block b) a = logs_by arrived site.environment.received (Block b) ∙ block_has plan site work.blocks (λ (k : Working). arrived k.core.log) site.environment.received [] b
+  arrived_same Environment a = logs_by arrived site.environment.received Environment ∙ env_has plan site work.blocks (λ (k : Working). arrived k.core.log) site.environment.received []
   arrived_same (Forwarder h) a = absurd a
 
   by_hands : (g : Held → List Item) (w : Worker) → of_worker w (workers_of plan) (map g (outcome_of site).hands)
-      ≡ of_worker w (workers_of plan) (map (λ (k : Working). g (block_hand k)) site.blocks ++ g empty_hand ∷ map (λ (k : Forwarding). g (forwarder_hand k)) site.forwarders)
+      ≡ of_worker w (workers_of plan) (map (λ (k : Working). g (block_hand k)) site.blocks ++ g (env_hand site.environment) ∷ map (λ (k : Forwarding). g (forwarder_hand k)) site.forwarders)
   by_hands g w = ap (of_worker w (workers_of plan)) (hands_by g site)
 
-  outgoing_same : (w : Worker) → IsAgent w → after.outgoing w ≡ before.outgoing w
-  outgoing_same (Block b) a = by_hands (λ (h : Held). h.outgoing) (Block b) ∙ block_has plan site work.blocks (λ (k : Working). k.outgoing) [] (map (λ (k : Forwarding). []) site.forwarders) b
-  outgoing_same Environment a = by_hands (λ (h : Held). h.outgoing) Environment ∙ env_has plan site work.blocks (λ (k : Working). k.outgoing) [] (map (λ (k : Forwarding). []) site.forwarders)
+  pub outgoing_same : (w : Worker) → IsAgent w → after.outgoing w ≡ before.outgoing w
+  outgoing_same (Block b) a = by_hands (λ (h : Held). h.outgoing) (Block b) ∙ block_has plan site work.blocks (λ (k : Working). k.outgoing) site.environment.outgoing (map (λ (k : Forwarding). []) site.forwarders) b
+  outgoing_same Environment a = by_hands (λ (h : Held). h.outgoing) Environment ∙ env_has plan site work.blocks (λ (k : Working). k.outgoing) site.environment.outgoing (map (λ (k : Forwarding). []) site.forwarders)
   outgoing_same (Forwarder h) a = absurd a
 
   kept_same : (w : Worker) → after.kept w ≡ before.kept w
@@ -134,6 +136,19 @@ module _ (may : ℕ → Frame → Step → Type 0) (plan : Plan) (ok : IsPlan pl
       ∙ (forwarder_has plan site work.blocks (λ (k : Working). option_to_list k.kept) [] (map (λ (k : Forwarding). option_to_list k.held) site.forwarders) h
       ∙ (ap (λ (hs : List Hop). of_worker (Forwarder h) (map Forwarder hs) (map (λ (k : Forwarding). option_to_list k.held) site.forwarders)) (sym work.forwarders)
       ∙ forwarder_among site.forwarders h))
+
+  -- a forwarder has nothing to put but what it holds
+  none_put : (h : Hop) (hs : List Hop) (fs : List Forwarding) → of_worker (Forwarder h) (map Forwarder hs) (map (λ (k : Forwarding). []) fs) ≡ []
+  none_put h [] fs = refl
+  none_put h (k ∷ hs) [] = refl
+  none_put h (k ∷ hs) (f ∷ fs) =
+      cond_both (same_hop k h) [] (of_worker (Forwarder h) (map Forwarder hs) (map (λ (k : Forwarding). []) fs)) (λ (xs : List Item). xs ≡ []) (λ e. refl) (λ e. none_put h hs fs)
+
+  pub forwarders_put : (h : Hop) → after.outgoing (Forwarder h) ≡ []
+  forwarders_put h =
+      by_hands (λ (k : Held). k.outgoing) (Forwarder h)
+      ∙ (forwarder_has plan site work.blocks (λ (k : Working). k.outgoing) site.environment.outgoing (map (λ (k : Forwarding). []) site.forwarders) h
+      ∙ none_put h (lines_of plan) site.forwarders)
 
   standing_same : (s : Station) → standing after s ≡ standing before s
   standing_same s = ap (λ (xs : List Item). xs ++ waiting site.board s) (kept_same (taker s))
@@ -157,7 +172,7 @@ runs_from may plan k (w ∷ ws) h =
       runs_from may plan (k + 1) ws (λ n v e. subst (λ (m : ℕ). IsCoreAt may plan m v.core) (omega arith) (h (suc n) v e)),
     )
 
-within_from : (may : ℕ → Frame → Step → Type 0) (plan : Plan) (k : ℕ) (ws : List Working) → ((n : ℕ) (w : Working) → slice_get ws n ≡ Some w → IsCoreAt may plan (k + n) w.core)
+pub within_from : (may : ℕ → Frame → Step → Type 0) (plan : Plan) (k : ℕ) (ws : List Working) → ((n : ℕ) (w : Working) → slice_get ws n ≡ Some w → IsCoreAt may plan (k + n) w.core)
     → AllByRecursion (λ (log : List Event). turns log ≤ plan.budget) (map (λ (w : Working). w.core.log) ws)
 within_from may plan k [] h = tt
 within_from may plan k (w ∷ ws) h = (
@@ -170,12 +185,12 @@ count_blocks n zero = refl
 count_blocks n (suc k) = ap suc (count_blocks (n + 1) k)
 
 module _ (may : ℕ → Frame → Step → Type 0) (plan : Plan) (ok : IsPlan plan) (site : Site) (work : IsAtWork may plan site) where
-  complete : IsComplete plan (outcome_of site)
+  pub complete : IsComplete plan (outcome_of site)
   complete =
       record {
         logs = length-map site.blocks (λ (w : Working). w.core.log) ∙ work.blocks;
         hands =
-            let e1 = length-append (map block_hand site.blocks) (empty_hand ∷ map forwarder_hand site.forwarders) in
+            let e1 = length-append (map block_hand site.blocks) (env_hand site.environment ∷ map forwarder_hand site.forwarders) in
             let e2 = length-map site.blocks block_hand in
             let e3 = length-map site.forwarders forwarder_hand in
             let e4 = length-append (blocks_from 0 (blocks_in plan)) (Environment ∷ map Forwarder (lines_of plan)) in
@@ -188,25 +203,13 @@ module _ (may : ℕ → Frame → Step → Type 0) (plan : Plan) (ok : IsPlan pl
         rests = work.board;
       }
 
-  cores : (n : ℕ) (w : Working) → slice_get site.blocks n ≡ Some w → IsCoreAt may plan (0 + n) w.core
+  pub cores : (n : ℕ) (w : Working) → slice_get site.blocks n ≡ Some w → IsCoreAt may plan (0 + n) w.core
   cores n w e = subst (λ (m : ℕ). IsCoreAt may plan m w.core) (omega arith) (work.cores n w e)
 
-  lawful : IsLawful may plan (outcome_of site) (finals_of site)
-  lawful = record { runs = runs_from may plan 0 site.blocks cores; environment = tt }
+  pub lawful : IsLawful may plan (outcome_of site) (finals_of site)
+  lawful = record { runs = runs_from may plan 0 site.blocks cores; environment = work.counted }
 
-  lefts : LeftsAreLegal plan (outcome_of site)
+  pub lefts : LeftsAreLegal plan (outcome_of site)
   lefts s =
       subst (AllByRecursion (λ (i : Item). MayTravel plan i × Among s ((ways_of plan).stations i.route.0))) (sym (standing_same may plan ok site work s))
       (all_both (MayTravel plan) (λ (i : Item). Among s ((ways_of plan).stations i.route.0)) (standing (site_books site) s) (work.waiting_legal s) (work.order.in_place s))
-
-  -- where the run stops, all holds that holds of a run that has ended, once the end is known
-  pub ended : (end : RunEnd) → EndsAs plan (outcome_of site) (finals_of site) end → HasEnded may plan (outcome_of site) end
-  ended end ends =
-      record {
-        finals = finals_of site;
-        complete = complete;
-        headline = headline may plan (outcome_of site) (finals_of site) ok complete (outcome_in_order may plan ok site work) lawful;
-        ends = ends;
-        within_budget = within_from may plan 0 site.blocks cores;
-        lefts = lefts;
-      }

@@ -14,7 +14,7 @@ use Rattle.sdl_run.specs.declared.worker.Worker.TheVariants.{Forwarder}
 use Rattle.sdl_run.specs.Stations.{first, after, next}
 use Rattle.sdl_run.specs.Plan.{Plan, ways_of}
 use Rattle.sdl_run.specs.Driver.{held_at}
-use Rattle.sdl_run.proofs.Tests.{same_hop_is, same_hop_itself}
+use Rattle.sdl_run.proofs.Comparisons.{same_hop_is, same_hop_itself}
 
 first_get : (ss : List Station) → first ss ≡ slice_get ss 0
 first_get [] = refl

@@ -18,7 +18,7 @@ use Rattle.sdl_run.specs.Books.{standing}
 use Rattle.sdl_run.specs.Steps.{Forwards, IsStill, IsQuiet}
 use Rattle.sdl_run.specs.Plan.{Plan, IsPlan, MayTravel, ways_of, lines_of}
 use Rattle.sdl_run.specs.Driver.{Site, site_books, held_at, IsAtWork}
-use Rattle.sdl_run.proofs.Tests.{cases_station}
+use Rattle.sdl_run.proofs.Comparisons.{cases_station}
 use Rattle.sdl_run.proofs.Lists.{all_append, map_set}
 use Rattle.sdl_run.proofs.Ways.{ways_are}
 use Rattle.sdl_run.proofs.Keeps.{forwards_keeps, still_keeps}
@@ -29,7 +29,7 @@ module _ (may : ℕ → Frame → Step → Type 0) (plan : Plan) (ok : IsPlan pl
     (before : slice_get old.forwarders k ≡ Some was) (board : List (Station × List Item)) (complete : IsBoardOf plan.routes board) (same : is.hop ≡ was.hop) where
   -- the driver after the step
   abbrev then : Site
-  then = record { blocks = old.blocks; forwarders = set old.forwarders k is; board = board }
+  then = record { blocks = old.blocks; environment = old.environment; forwarders = set old.forwarders k is; board = board }
 
   here : IsFirstAt old.forwarders k was.hop
   here = first_at old.forwarders k was (subst EachOnce (sym work.forwarders) (lines_once 0 plan.structure.channels)) before
@@ -101,6 +101,9 @@ module _ (may : ℕ → Frame → Step → Type 0) (plan : Plan) (ok : IsPlan pl
         record {
           blocks = work.blocks;
           cores = work.cores;
+          environment = work.environment;
+          counted = work.counted;
+          coming = work.coming;
           forwarders = hops_then;
           board = complete;
           order = forwards_keeps (ways_of plan) was.hop (site_books old) (site_books then) (ways_are plan ok) work.order forwards;
@@ -124,6 +127,9 @@ module _ (may : ℕ → Frame → Step → Type 0) (plan : Plan) (ok : IsPlan pl
         record {
           blocks = work.blocks;
           cores = work.cores;
+          environment = work.environment;
+          counted = work.counted;
+          coming = work.coming;
           forwarders = hops_then;
           board = complete;
           order = still_keeps (ways_of plan) (site_books old) (site_books then) (ways_are plan ok) work.order still;

@@ -25,18 +25,22 @@ use Rattle.sdl_block.specs.Workers.{worker_of, behaviours_of, system_around}
 use Rattle.sdl_run.specs.declared.driver.Driver.{Driver}
 use Rattle.sdl_run.specs.declared.end.RunEnd.{RunEnd}
 use Rattle.sdl_run.specs.declared.closing.Room.{Room}
-use Rattle.sdl_run.specs.Closings.{HasRoom, plan_of_bound}
+use Rattle.sdl_run.specs.Closings.{HasRoom, HasReadIn, HasWrittenIn, plan_of_bound}
+use Rattle.sdl_run.specs.declared.closing.Closing.{Closing}
+use Rattle.sdl_run.specs.EnvironmentWork.{EnvWorking, HasReadSoFar, HasWrittenSoFar, IsEnvFresh}
 use Rattle.sdl_run.specs.Outcome.{Outcome}
+use Rattle.sdl_run.specs.declared.ledger.Ledger.{Ledger}
 use Rattle.sdl_run.specs.Ends.{HasEnded}
-use Rattle.sdl_run.specs.Plan.{Plan, IsClosed, lines_from, system_at}
+use Rattle.sdl_run.specs.Plan.{Plan, blocks_in, lines_from, system_at}
 use Rattle.sdl_run.specs.Driver.{IsCoreAt, IsFresh}
-use Rattle.sdl_run.specs.Drivers.{site_of, plan_of, IsDriving, IsSameSystem}
+use Rattle.sdl_run.specs.Drivers.{site_of, plan_of, IsDriving, IsSameSystem, ReadsOver, WritesOver}
 use Rattle.sdl_run.specs.Starting.{idle_at}
 use Rattle.sdl_run.specs.Serial.{IsNew, plan_of_parts}
 use Rattle.sdl_run.proofs.Lists.{all_at}
 use Rattle.sdl_run.proofs.Between.{starts_in_order}
 use Rattle.sdl_run.proofs.Drives.{map_map, same_plan}
 use Rattle.sdl_run.proofs.Driving.{system_is}
+use Rattle.sdl_run.proofs.Readings.{reads_none, writes_none}
 use Rattle.sdl_run.proofs.Rooms.{room_as}
 use Rattle.sdl_run.proofs.Starts.{block}
 
@@ -70,6 +74,9 @@ all_of_map P f xs h = λ n x less. subst P (read_map f xs n x) (h n (f x) (let a
 
 pub all_same : {X : Type 0} (P : X → Type 0) (xs ys : List X) → xs ≡ ys → All P xs → All P ys
 all_same P xs ys e h = subst (All P) e h
+
+pub env_fresh : (n m : ℕ) (w : EnvWorking) → n ≡ m → IsEnvFresh n w → IsEnvFresh m w
+env_fresh n m w e h = subst (λ (k : ℕ). IsEnvFresh k w) e h
 
 hops_of : (hs : List Hop) → map (λ (f : Forwarding). f.hop) (map idle_at hs) ≡ hs
 hops_of [] = refl
@@ -112,28 +119,28 @@ module _ {S I : Type 0} {F : I → Type 0} {g : _} (may : ℕ → Frame → Step
       subst (λ (k : Working). IsCoreAt may (plan_of d) n k.core × (k.core.log ≡ []) × (k.kept ≡ None) × (k.outgoing ≡ [])) is
       (core_new n w found fresh, ap (λ (k : Working). k.core.log) fresh.worker, ap (λ (k : Working). k.kept) fresh.worker, ap (λ (k : Working). k.outgoing) fresh.worker)
 
-  module _ (forwarders : d.forwarders.items ≡ map idle_at (lines_from 0 d.checked.channels)) (board : IsBoardOf d.routes d.board) (empty : (s : Station) → waiting d.board s ≡ []) where
+  module _ (environment : IsEnvFresh (blocks_in (plan_of d)) d.environment) (forwarders : d.forwarders.items ≡ map idle_at (lines_from 0 d.checked.channels)) (board : IsBoardOf d.routes d.board) (empty : (s : Station) → waiting d.board s ≡ []) where
     fresh : IsFresh may (plan_of d) (site_of d)
     fresh =
         record {
           blocks = length-map d.blocks.items worker_of ∙ (sym (length-map d.blocks.items behaviours_of) ∙ system.dealt.blocks_are);
           cores = cores_new;
+          environment = environment;
           forwarders = ap (map (λ (f : Forwarding). f.hop)) forwarders ∙ hops_of (lines_from 0 d.checked.channels);
           held = subst (AllByRecursion (λ (f : Forwarding). f.held ≡ None)) (sym forwarders) (none_held (lines_from 0 d.checked.channels));
           board = board;
           empty = empty;
         }
 
-    pub driving : (ps : List (BlockParts S I F g)) → ps ≡ map behaviours_of d.blocks.items → IsStructure d.checked → IsTable d.routes → IsClosed d.checked
+    pub driving : (ps : List (BlockParts S I F g)) → ps ≡ map behaviours_of d.blocks.items → IsStructure d.checked → IsTable d.routes
         → All (λ p. All (IsAllowedBehaviour may) p.behaviours.items) ps → All (λ p. IsIndexed p) ps → IsDriving may d
-    driving ps e structure table closed allowed indexed =
+    driving ps e structure table allowed indexed =
         let a = all_of_map (λ p. All (IsAllowedBehaviour may) p.behaviours.items) behaviours_of d.blocks.items (all_same (λ p. All (IsAllowedBehaviour may) p.behaviours.items) ps (map behaviours_of d.blocks.items) e allowed) in
         let i = all_of_map (λ p. IsIndexed p) behaviours_of d.blocks.items (all_same (λ p. IsIndexed p) ps (map behaviours_of d.blocks.items) e indexed) in
         record {
           plan = record { structure = structure; routes = system.routes_are; table = table };
           work = starts_in_order may (plan_of d) (site_of d) fresh;
           fire = λ n w less. record { allowed = a n w less; indexed = i n w less };
-          closed = closed;
         }
 
 module _ {S I : Type 0} {F : I → Type 0} {g : _} (may : ℕ → Frame → Step → Type 0) where
@@ -153,18 +160,44 @@ module _ {S I : Type 0} {F : I → Type 0} {g : _} (may : ℕ → Frame → Step
       ∙ (ap length was.work.forwarders ∙ (ap (λ (s : Structure). length (lines_from 0 s.channels)) (sym same.checked) ∙ (sym (ap length is.work.forwarders) ∙ length-map new.forwarders.items (λ (f : Forwarding). f.hop)))) in
       room_as r (length old.blocks.items) (length old.blocks.items + (length old.forwarders.items + 1)) (length new.blocks.items) (length new.blocks.items + (length new.forwarders.items + 1)) blocks (omega (arith, blocks, lines)) h
 
-  pub ended_same : (old new : Driver S I F g) (o : Outcome) (end : RunEnd) → IsSameSystem old new → HasEnded may (plan_of new) o end → HasEnded may (plan_of old) o end
-  ended_same old new o end same h = subst (λ (p : Plan). HasEnded may p o end) (same_plan old new same) h
+  pub ended_same : (old new : Driver S I F g) (o : Outcome) (end : RunEnd) (l : Ledger) → IsSameSystem old new → HasEnded may (plan_of new) o end l → HasEnded may (plan_of old) o end l
+  ended_same old new o end l same h = subst (λ (p : Plan). HasEnded may p o end l) (same_plan old new same) h
 
   -- the plan of a driver is that of its parts
-  pub ended_of : (d : Driver S I F g) (ps : List (BlockParts S I F g)) (o : Outcome) (end : RunEnd) → map behaviours_of d.blocks.items ≡ ps → HasEnded may (plan_of d) o end
-      → HasEnded may (plan_of_parts d.checked d.routes ps d.budget) o end
-  ended_of d ps o end e h =
+  pub ended_of : (d : Driver S I F g) (ps : List (BlockParts S I F g)) (o : Outcome) (end : RunEnd) (l : Ledger) → map behaviours_of d.blocks.items ≡ ps → HasEnded may (plan_of d) o end l
+      → HasEnded may (plan_of_parts d.checked d.routes ps d.budget) o end l
+  ended_of d ps o end l e h =
       let rules : map (λ w. block_rules (behaviours_of w)) d.blocks.items ≡ map block_rules ps = sym (map_map block_rules behaviours_of d.blocks.items) ∙ ap (map block_rules) e in
-      subst (λ (r : List (List Rules)). HasEnded may (record { structure = d.checked; routes = d.routes; rules = r; budget = d.budget }) o end) rules h
+      subst (λ (r : List (List Rules)). HasEnded may (record { structure = d.checked; routes = d.routes; rules = r; budget = d.budget }) o end l) rules h
 
-  pub ended_bound : (b : Bound S I F g) (s : Structure) (rows : List Row) (ps : List (BlockParts S I F g)) (budget : ℕ) (o : Outcome) (end : RunEnd) → s ≡ structure_of b → rows ≡ routes_of b → ps ≡ blocks_of b
-      → HasEnded may (plan_of_parts s rows ps budget) o end → HasEnded may (plan_of_bound b budget) o end
-  ended_bound b s rows ps budget o end e f h ended =
-      subst (λ (x : Structure). HasEnded may (plan_of_parts x (routes_of b) (blocks_of b) budget) o end) e
-      (subst (λ (x : List Row). HasEnded may (plan_of_parts s x (blocks_of b) budget) o end) f (subst (λ (x : List (BlockParts S I F g)). HasEnded may (plan_of_parts s rows x budget) o end) h ended))
+  pub ended_bound : (b : Bound S I F g) (s : Structure) (rows : List Row) (ps : List (BlockParts S I F g)) (budget : ℕ) (o : Outcome) (end : RunEnd) (l : Ledger) → s ≡ structure_of b → rows ≡ routes_of b → ps ≡ blocks_of b
+      → HasEnded may (plan_of_parts s rows ps budget) o end l → HasEnded may (plan_of_bound b budget) o end l
+  ended_bound b s rows ps budget o end l e f h ended =
+      subst (λ (x : Structure). HasEnded may (plan_of_parts x (routes_of b) (blocks_of b) budget) o end l) e
+      (subst (λ (x : List Row). HasEnded may (plan_of_parts s x (blocks_of b) budget) o end l) f (subst (λ (x : List (BlockParts S I F g)). HasEnded may (plan_of_parts s rows x budget) o end l) h ended))
+
+  -- a driver that has read nothing reads, in a run, all that its closing shows
+  module _ (old new : Driver S I F g) (same : IsSameSystem old new) (fresh : IsEnvFresh (blocks_in (plan_of old)) old.environment) (c : Closing S I F g) (x y : Option (List ℕ)) where
+    pub reading_same : ReadsOver (plan_of old) old.environment x new.environment y
+        → ((start now : Option (List ℕ)) → HasReadSoFar new.checked new.routes (blocks_in (plan_of new)) start now new.environment → HasReadIn (plan_of new) start now c) → HasReadIn (plan_of old) x y c
+    reading_same over ends =
+        subst (λ (p : Plan). HasReadIn p x y c) (same_plan old new same)
+        (ends x y (subst (λ (p : Plan). HasReadSoFar p.structure p.routes (blocks_in p) x y new.environment) (sym (same_plan old new same)) (over x (reads_none old.checked old.routes (blocks_in (plan_of old)) old.environment fresh x))))
+
+    pub writing_same : WritesOver (plan_of old) old.environment x new.environment y
+        → ((start now : Option (List ℕ)) → HasWrittenSoFar new.checked new.routes (blocks_in (plan_of new)) start now new.environment → HasWrittenIn (plan_of new) start now c) → HasWrittenIn (plan_of old) x y c
+    writing_same over ends =
+        subst (λ (p : Plan). HasWrittenIn p x y c) (same_plan old new same)
+        (ends x y (subst (λ (p : Plan). HasWrittenSoFar p.structure p.routes (blocks_in p) x y new.environment) (sym (same_plan old new same)) (over x (writes_none old.checked old.routes (blocks_in (plan_of old)) old.environment fresh x))))
+
+  -- the same of a bound system
+  module _ (b : Bound S I F g) (s : Structure) (rows : List Row) (ps : List (BlockParts S I F g)) (budget : ℕ) (c : Closing S I F g) (x y : Option (List ℕ)) (e : s ≡ structure_of b) (f : rows ≡ routes_of b) where
+    pub reading_bound : HasReadIn (plan_of_parts s rows ps budget) x y c → HasReadIn (plan_of_bound b budget) x y c
+    reading_bound h =
+        subst (λ (t : Structure). HasReadIn (plan_of_parts t (routes_of b) (blocks_of b) budget) x y c) e
+        (subst (λ (r : List Row). HasReadIn (plan_of_parts s r (blocks_of b) budget) x y c) f h)
+
+    pub writing_bound : HasWrittenIn (plan_of_parts s rows ps budget) x y c → HasWrittenIn (plan_of_bound b budget) x y c
+    writing_bound h =
+        subst (λ (t : Structure). HasWrittenIn (plan_of_parts t (routes_of b) (blocks_of b) budget) x y c) e
+        (subst (λ (r : List Row). HasWrittenIn (plan_of_parts s r (blocks_of b) budget) x y c) f h)

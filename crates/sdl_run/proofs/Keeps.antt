@@ -14,7 +14,7 @@ use Rattle.sdl_run.specs.declared.worker.Worker.TheVariants.{Forwarder}
 use Rattle.sdl_run.specs.Stations.{Ways, IsAgent, Leads, AreWays, IsWay, Among, Once, first, after, next, place, taker}
 use Rattle.sdl_run.specs.Books.{Books, InOrder, of_route, outs, came, left, standing}
 use Rattle.sdl_run.specs.Steps.{is_station, bound_for, IsStill, Forwards, Acts, Steps}
-use Rattle.sdl_run.proofs.Tests.{cases_station, cases_worker}
+use Rattle.sdl_run.proofs.Comparisons.{cases_station, cases_worker}
 use Rattle.sdl_run.proofs.Lists.{all_front, all_end, all_append, all_weaker, all_passes, filter_none}
 use Rattle.sdl_run.proofs.Way.{next_among, first_among, after_any, after_skip, after_itself, next_agent, line_not_place, place_taker}
 use Rattle.sdl_run.proofs.Along.{way, ways, head, first_way, back_from, route_bound, same_route, is_station_is}

@@ -47,10 +47,10 @@ short_way : (plan : Plan) → IsPlan plan → (r : ℕ) → length ((ways_of pla
 short_way plan ok r = short_row plan ok r (slice_get plan.routes r) refl
 
 -- the stations of the items' routes
-abbrev all_stations : Ways → List Item → ℕ
+abbrev pub all_stations : Ways → List Item → ℕ
 all_stations t items = sum_by (λ (i : Item). length (t.stations i.route.0)) items
 
-out_is : (t : Ways) (items : List Item) → to_go_out t items ≡ all_stations t items + length items
+pub out_is : (t : Ways) (items : List Item) → to_go_out t items ≡ all_stations t items + length items
 out_is t [] = refl
 out_is t (i ∷ items) =
     let a = sum_by-cons (λ (j : Item). length (t.stations j.route.0) + 1) i items in
@@ -58,7 +58,7 @@ out_is t (i ∷ items) =
     let c = out_is t items in
     omega arith
 
-out_short : (plan : Plan) → IsPlan plan → (items : List Item) → to_go_out (ways_of plan) items ≤ 5 * length items
+pub out_short : (plan : Plan) → IsPlan plan → (items : List Item) → to_go_out (ways_of plan) items ≤ 5 * length items
 out_short plan ok [] = omega arith
 out_short plan ok (i ∷ items) =
     let a = sum_by-cons (λ (j : Item). length ((ways_of plan).stations j.route.0) + 1) i items in
@@ -67,7 +67,7 @@ out_short plan ok (i ∷ items) =
     omega arith
 
 -- items at a station of their routes have each something to go
-at_least : (t : Ways) (s : Station) (items : List Item) → AllByRecursion (λ (i : Item). Among s (t.stations i.route.0)) items → length items ≤ to_go t s items
+pub at_least : (t : Ways) (s : Station) (items : List Item) → AllByRecursion (λ (i : Item). Among s (t.stations i.route.0)) items → length items ≤ to_go t s items
 at_least t s [] h = omega arith
 at_least t s (i ∷ items) h =
     let a = sum_by-cons (λ (j : Item). stations_from s (t.stations j.route.0)) i items in
@@ -84,7 +84,7 @@ events_are (event.Turn p t frame step did stopped ∷ es) = let a = sum_by-cons 
 
 -- each item that is put goes to one station at most
 module _ (t : Ways) (w : Worker) where
-  abbrev put_load : List Item → Worker → ℕ
+  abbrev pub put_load : List Item → Worker → ℕ
   put_load put v = to_go t (place v) (bound_for t w (place v) put)
 
   one_more : (i : Item) (put : List Item) (v : Worker)
@@ -127,7 +127,7 @@ module _ (may : ℕ → Frame → Step → Type 0) (plan : Plan) (ok : IsPlan pl
   here = Block (block n)
 
   abbrev then : Site
-  then = record { blocks = set old.blocks n is; forwarders = old.forwarders; board = board }
+  then = record { blocks = set old.blocks n is; environment = old.environment; forwarders = old.forwarders; board = board }
 
   abbrev put_at : Worker → ℕ
   put_at = put_load (ways_of plan) here works.put
@@ -136,7 +136,7 @@ module _ (may : ℕ → Frame → Step → Type 0) (plan : Plan) (ok : IsPlan pl
   abbrev fuller : Worker → ℕ
   fuller v = load plan old v + put_at v
 
-  turns_else : (v : Worker) → v ≢ here → turns_left plan.budget (set old.blocks n is) v ≡ turns_left plan.budget old.blocks v
+  turns_else : (v : Worker) → v ≢ here → turns_left plan.budget (set old.blocks n is) old.environment v ≡ turns_left plan.budget old.blocks old.environment v
   unfolding block
   turns_else (Block b) e = ap (λ (o : Option Working). elim o as (λ _. ℕ) [ None ↦ 0 | Some w ↦ plan.budget - turns w.core.log ]) (get_set_other old.blocks n b.0 is (λ f. e (ap (λ (k : ℕ). Block (block k)) f)))
   turns_else Environment e = refl
@@ -151,11 +151,11 @@ module _ (may : ℕ → Frame → Step → Type 0) (plan : Plan) (ok : IsPlan pl
       let d = turns_else v e in
       omega arith
 
-  turns_here : turns_left plan.budget old.blocks here ≡ turns_left plan.budget (set old.blocks n is) here + turns works.events
+  turns_here : turns_left plan.budget old.blocks old.environment here ≡ turns_left plan.budget (set old.blocks n is) old.environment here + turns works.events
   unfolding block
   turns_here =
-      let a : turns_left plan.budget old.blocks here ≡ plan.budget - turns was.core.log = ap (λ (o : Option Working). elim o as (λ _. ℕ) [ None ↦ 0 | Some w ↦ plan.budget - turns w.core.log ]) before in
-      let b : turns_left plan.budget (set old.blocks n is) here ≡ plan.budget - turns is.core.log = ap (λ (o : Option Working). elim o as (λ _. ℕ) [ None ↦ 0 | Some w ↦ plan.budget - turns w.core.log ]) (get_set old.blocks n was is before) in
+      let a : turns_left plan.budget old.blocks old.environment here ≡ plan.budget - turns was.core.log = ap (λ (o : Option Working). elim o as (λ _. ℕ) [ None ↦ 0 | Some w ↦ plan.budget - turns w.core.log ]) before in
+      let b : turns_left plan.budget (set old.blocks n is) old.environment here ≡ plan.budget - turns is.core.log = ap (λ (o : Option Working). elim o as (λ _. ℕ) [ None ↦ 0 | Some w ↦ plan.budget - turns w.core.log ]) (get_set old.blocks n was is before) in
       let c = ap turns works.log in
       let d = sum_by-append turn_in was.core.log works.events in
       let e = works.sound.turns_within in
@@ -168,7 +168,7 @@ module _ (may : ℕ → Frame → Step → Type 0) (plan : Plan) (ok : IsPlan pl
   came_in =
       let P = λ (i : Item). Among (place here) ((ways_of plan).stations i.route.0) in
       let all = (block_keeps may plan ok old work n was is before board works).order.let_in here tt in
-      let split = of_block_is (λ (w : Working). arrived w.core.log) old.blocks n was is before ∙ (ap arrived works.log ∙ arrived_append was.core.log works.events) in
+      let split = of_block_is (λ (w : Working). arrived w.core.log) old.environment.received old.blocks n was is before ∙ (ap arrived works.log ∙ arrived_append was.core.log works.events) in
       at_least (ways_of plan) (Inlet (block n)) (arrived works.events) (all_end P (arrived was.core.log) (arrived works.events) (subst (AllByRecursion P) split all))
 
   abbrev lower : ℕ

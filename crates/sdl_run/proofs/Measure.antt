@@ -22,7 +22,7 @@ use Rattle.sdl_run.specs.Steps.{Forwards}
 use Rattle.sdl_run.specs.Plan.{Plan, IsPlan, blocks_in, blocks_from, lines_of, workers_of, ways_of}
 use Rattle.sdl_run.specs.Driver.{Site, site_books, IsAtWork}
 use Rattle.sdl_run.specs.Measure.{stations_from, to_go, load, work_left}
-use Rattle.sdl_run.proofs.Tests.{cases_station, cases_worker, same_station_is, same_station_itself, same_worker_is, same_worker_itself}
+use Rattle.sdl_run.proofs.Comparisons.{cases_station, cases_worker, same_station_is, same_station_itself, same_worker_is, same_worker_itself}
 use Rattle.sdl_run.proofs.Lists.{all_append, all_weaker}
 use Rattle.sdl_run.proofs.Way.{first_among, after_any, after_skip, after_itself, place_taker}
 use Rattle.sdl_run.proofs.Ways.{ways_are}
@@ -168,9 +168,9 @@ among_behind x (y ∷ xs) ys m = inr (among_behind x xs ys m)
 
 module _ (may : ℕ → Frame → Step → Type 0) (plan : Plan) (ok : IsPlan plan) (old : Site) (work : IsAtWork may plan old) (k : ℕ) (was is : Forwarding)
     (before : slice_get old.forwarders k ≡ Some was) (board : List (Station × List Item)) (complete : IsBoardOf plan.routes board) (same : is.hop ≡ was.hop)
-    (step : Forwards (ways_of plan) was.hop (site_books old) (site_books (record { blocks = old.blocks; forwarders = set old.forwarders k is; board = board }))) where
+    (step : Forwards (ways_of plan) was.hop (site_books old) (site_books (record { blocks = old.blocks; environment = old.environment; forwarders = set old.forwarders k is; board = board }))) where
   abbrev then : Site
-  then = record { blocks = old.blocks; forwarders = set old.forwarders k is; board = board }
+  then = record { blocks = old.blocks; environment = old.environment; forwarders = set old.forwarders k is; board = board }
 
   abbrev here : Worker
   here = Forwarder was.hop
@@ -249,6 +249,6 @@ module _ (may : ℕ → Frame → Step → Type 0) (plan : Plan) (ok : IsPlan pl
 
 pub moves_lower : (may : ℕ → Frame → Step → Type 0) (plan : Plan) → IsPlan plan → (old : Site) → IsAtWork may plan old → (k : ℕ) (was is : Forwarding) → slice_get old.forwarders k ≡ Some was
     → (board : List (Station × List Item)) → IsBoardOf plan.routes board → is.hop ≡ was.hop → Moves plan.routes was old.board is board
-    → work_left plan (record { blocks = old.blocks; forwarders = set old.forwarders k is; board = board }) < work_left plan old
+    → work_left plan (record { blocks = old.blocks; environment = old.environment; forwarders = set old.forwarders k is; board = board }) < work_left plan old
 moves_lower may plan ok old work k was is before board complete same moves =
     step_lowers may plan ok old work k was is before board complete same (forwards may plan ok old work k was is before board complete same moves)

@@ -5,22 +5,21 @@ use Rattle.std.specs.List.{filter, AllByRecursion, Contains}
 use Rattle.std.proofs.lemmas.Bool.{cond_both, false≢true, cond-false}
 use Rattle.std.proofs.lemmas.Option.{none-some, same_Some, slice_get_cases, slice_get_within}
 use Rattle.sdl_signal.specs.declared.ids.BlockId.{BlockId}
+use Rattle.sdl_signal.specs.declared.ids.GateId.{GateId}
 use Rattle.sdl_signal.specs.declared.ids.SignalId.{SignalId}
 use Rattle.sdl_signal.specs.declared.values.Item.{Item}
 use Rattle.sdl_signal.specs.declared.values.Pid.{Pid}
 use Rattle.sdl_structure.specs.declared.parts.Channel.{Channel}
-use Rattle.sdl_structure.specs.declared.parts.Gate.{Gate}
 use Rattle.sdl_structure.specs.declared.parts.Set.{Set}
-use Rattle.sdl_structure.specs.declared.parts.Owner.TheVariants as owner
 use Rattle.sdl_structure.specs.declared.parts.Direction.TheVariants.{Forth, Back}
-use Rattle.sdl_structure.specs.Structure.{Structure, path_of, channel_at, gate_at, set_at}
+use Rattle.sdl_structure.specs.Structure.{Structure, path_of, channel_at, set_at}
 use Rattle.sdl_routes.specs.declared.parts.Hop.{Hop}
 use Rattle.sdl_routes.specs.declared.parts.Row.{Row}
 use Rattle.sdl_routes.specs.declared.parts.EndPoint.{EndPoint}
 use Rattle.sdl_routes.specs.declared.parts.EndPoint.TheVariants as ends
 use Rattle.sdl_routes.specs.declared.parts.Station.{Station}
 use Rattle.sdl_routes.specs.declared.parts.Station.TheVariants.{Line, Inlet, Outlet}
-use Rattle.sdl_routes.specs.Routes.{IsRoute, IsWalk, Carries, IsLastStation, IsEndPoint, is_delaying, hop_direction}
+use Rattle.sdl_routes.specs.Routes.{IsRoute, IsWalk, Carries, IsLastStation, is_delaying, hop_direction}
 use Rattle.sdl_instances.specs.Machine.{State}
 use Rattle.sdl_instances.specs.Run.{turns}
 use Rattle.sdl_instances.specs.Core.{IsReady}
@@ -29,11 +28,11 @@ use Rattle.sdl_transition.specs.declared.step.Step.{Step}
 use Rattle.sdl_forward.specs.Boards.{waiting}
 use Rattle.sdl_forward.specs.Forwards.{Forwarding}
 use Rattle.sdl_run.specs.Stations.{Among, taker}
-use Rattle.sdl_run.specs.Plan.{Plan, IsPlan, IsClosed, blocks_in, path_line, lines_from, lines_of, ways_of}
+use Rattle.sdl_run.specs.Plan.{Plan, IsPlan, blocks_in, path_line, lines_from, lines_of, ways_of}
 use Rattle.sdl_run.specs.Outcome.{log_at}
 use Rattle.sdl_run.specs.Ends.{IsFree, IsSettled, IsQuiet, IsSpentAt}
 use Rattle.sdl_block.specs.Work.{Working}
-use Rattle.sdl_run.specs.Driver.{Site, IsAtWork, IsIdle, site_books, outcome_of, finals_of, block_hand, empty_hand, forwarder_hand}
+use Rattle.sdl_run.specs.Driver.{Site, IsAtWork, IsIdle, site_books, outcome_of, finals_of, block_hand, env_hand, forwarder_hand}
 use Rattle.sdl_run.proofs.Lists.{all_at, all_end, all_append}
 use Rattle.sdl_run.proofs.Ways.{row_of}
 
@@ -156,17 +155,17 @@ state_here (w ∷ ws) zero s e = (w, refl, same_Some w.core.state s e)
 state_here (w ∷ ws) (suc n) s e = state_here ws n s e
 
 module _ (plan : Plan) (ok : IsPlan plan) where
-  route_at : (r : ℕ) (row : Row) → slice_get plan.routes r ≡ Some row → IsRoute plan.structure row
+  pub route_at : (r : ℕ) (row : Row) → slice_get plan.routes r ≡ Some row → IsRoute plan.structure row
   route_at r row at = all_at (IsRoute plan.structure) plan.routes r row ok.routes.sound at
 
   -- the row of a route through a station, and where the station stands in it
-  passing : (r : ℕ) (s : Station) → Among s ((ways_of plan).stations r) → (row : Row) × (slice_get plan.routes r ≡ Some row) × Among s row.route.stations.items
+  pub passing : (r : ℕ) (s : Station) → Among s ((ways_of plan).stations r) → (row : Row) × (slice_get plan.routes r ≡ Some row) × Among s row.route.stations.items
   passing r s m =
       let row = row_of plan r (unbound s ((ways_of plan).stations r) m) in
       (row.0, row.1, subst (λ (o : Option Row). Among s (elim o as (λ _. List Station) [ None ↦ [] | Some x ↦ x.route.stations.items ])) row.1 m)
 
   -- where a row's station stands: a line that is among the lines, or its last
-  station_cases : (s : Station) (row : Row) → IsRoute plan.structure row → Among s row.route.stations.items → ((h : Hop) × Among h (lines_of plan) × (s ≡ Line h)) ⊎ IsLastStation plan.structure row.route.end s
+  pub station_cases : (s : Station) (row : Row) → IsRoute plan.structure row → Among s row.route.stations.items → ((h : Hop) × Among h (lines_of plan) × (s ≡ Line h)) ⊎ IsLastStation plan.structure row.route.end s
   station_cases s row route m =
       elim (among_stations (filter (is_delaying plan.structure) row.route.hops.items) route.stations.0 s (subst (Among s) route.stations.2 m)) [
         | inl r ↦ (
@@ -200,19 +199,14 @@ module _ (plan : Plan) (ok : IsPlan plan) where
       subst (λ (c : BlockId). c.0 < blocks_in plan) (sym found.2) within
   last_inlet (ends.Environment g) b h = absurd (let e : Inlet b ≡ Outlet = h in cc)
 
-  some_gate : (gates : List Gate) (o : Option Gate) (k : ℕ) → slice_get gates k ≡ o → AllByRecursion (λ (g : Gate). g.owner ≡ owner.System → ⊥) gates → IsSomeAnd o (λ g. g.owner ≡ owner.System) → ⊥
-  some_gate gates None k at closed h = h
-  some_gate gates (Some g) k at closed h = all_at (λ (x : Gate). x.owner ≡ owner.System → ⊥) gates k g closed at h
+  -- a route through the outlet ends in the environment
+  no_set : (o : Option Set) → IsSomeAnd o (λ set. Outlet ≡ Inlet set.block) → ⊥
+  no_set None f = f
+  no_set (Some d) f = cc
 
-  last_outlet : IsClosed plan.structure → (row : Row) → IsRoute plan.structure row → (end : EndPoint) → row.route.end ≡ end → IsLastStation plan.structure end Outlet → ⊥
-  last_outlet closed row route (ends.Set t) e h = no_set (set_at plan.structure t) h
-    where
-      no_set : (o : Option Set) → IsSomeAnd o (λ set. Outlet ≡ Inlet set.block) → ⊥
-      no_set None f = f
-      no_set (Some d) f = cc
-  last_outlet closed row route (ends.Environment g) e h =
-      let at_gate = subst (IsEndPoint plan.structure row.route.end_gate) e route.end in
-      some_gate plan.structure.gates (gate_at plan.structure row.route.end_gate) row.route.end_gate.0 refl closed at_gate.1
+  pub last_outlet : (end : EndPoint) → IsLastStation plan.structure end Outlet → (gate : GateId) × (end ≡ ends.Environment gate)
+  last_outlet (ends.Set t) h = absurd (no_set (set_at plan.structure t) h)
+  last_outlet (ends.Environment g) h = (g, refl)
 
   module _ (may : ℕ → Frame → Step → Type 0) (site : Site) (work : IsAtWork may plan site) where
     waits_on_route : (s : Station) → (waiting site.board s ≡ []) ⊎ ((row : Row) × IsRoute plan.structure row × Among s row.route.stations.items)
@@ -221,16 +215,6 @@ module _ (plan : Plan) (ok : IsPlan plan) where
           | inl e ↦ inl e
           | inr r ↦ (let row = passing r.0 s r.1 in inr (row.0, route_at r.0 row.0 row.1, row.2))
         ]
-
-    -- in a closed system nothing waits at the outlet
-    pub no_outlet : IsClosed plan.structure → waiting site.board Outlet ≡ []
-    no_outlet closed = elim (waits_on_route Outlet) [
-      | inl e ↦ e
-      | inr r ↦ elim (station_cases Outlet r.0 r.1 r.2) [
-        | inl l ↦ absurd (let e = l.2 in let f : Outlet ≡ Line l.0 = e in cc)
-        | inr h ↦ absurd (last_outlet closed r.0 r.1 r.0.route.end refl h)
-      ]
-    ]
 
     module _ (idle : IsIdle site) where
       line_free : (h : Hop) → Among h (lines_of plan) → waiting site.board (Line h) ≡ []
@@ -259,9 +243,9 @@ module _ (plan : Plan) (ok : IsPlan plan) where
 
       pub hands_free : AllByRecursion IsFree (outcome_of site).hands
       hands_free =
-          all_append IsFree (map block_hand site.blocks) (empty_hand ∷ map forwarder_hand site.forwarders)
+          all_append IsFree (map block_hand site.blocks) (env_hand site.environment ∷ map forwarder_hand site.forwarders)
           (all_map IsFree block_hand site.blocks (all_from_get (λ (w : Working). IsFree (block_hand w)) site.blocks (λ n w e. let rest = idle.blocks n w e in (rest.kept, rest.outgoing))))
-          ((refl, refl), all_map IsFree forwarder_hand site.forwarders (all_from_get (λ (f : Forwarding). IsFree (forwarder_hand f)) site.forwarders (λ n f e. ((idle.forwarders n f e).0, refl))))
+          ((refl, idle.outgoing), all_map IsFree forwarder_hand site.forwarders (all_from_get (λ (f : Forwarding). IsFree (forwarder_hand f)) site.forwarders (λ n f e. ((idle.forwarders n f e).0, refl))))
 
       at_place : (n : ℕ) → n < blocks_in plan → (w : Working) × (slice_get site.blocks n ≡ Some w)
       at_place n less = elim (slice_get_cases site.blocks n).1 [

@@ -28,10 +28,10 @@ module _ {S I : Type 0} {F : I → Type 0} {g : _} where
 unfoldable pub hand : Option Item → List Item → Held
 hand kept outgoing = record { kept = kept; outgoing = outgoing }
 
-pub hand_is : (kept held : Option Item) (outgoing : List Item) → kept ≡ held → outgoing ≡ [] → hand kept outgoing ≡ hand held []
-hand_is kept held outgoing e f = ap (λ (o : Option Item). hand o outgoing) e ∙ ap (λ (xs : List Item). hand held xs) f
+pub hand_is : (kept held : Option Item) (outgoing items : List Item) → kept ≡ held → outgoing ≡ items → hand kept outgoing ≡ hand held items
+hand_is kept held outgoing items e f = ap (λ (o : Option Item). hand o outgoing) e ∙ ap (λ (xs : List Item). hand held xs) f
 
 -- a hand that holds what a forwarder held
 pub forwarder_left : (f : Forwarding) (kept : Option Item) (outgoing : List Item) → kept ≡ f.held → outgoing ≡ [] → ◌≡◌ {A = Held} (record { kept = kept; outgoing = outgoing }) (forwarder_hand f)
 unfolding hand
-forwarder_left f kept outgoing e h = hand_is kept f.held outgoing e h
+forwarder_left f kept outgoing e h = hand_is kept f.held outgoing [] e h

@@ -7,12 +7,11 @@ use Rattle.sdl_run.specs.declared.driver.Driver.{Driver}
 use Rattle.sdl_transition.specs.declared.step.Frame.{Frame}
 use Rattle.sdl_transition.specs.declared.step.Step.{Step}
 use Rattle.sdl_block.specs.declared.worker.Stepped.TheVariants as stepped
-use Rattle.sdl_run.specs.Plan.{Plan, IsPlan, IsClosed, workers_of}
+use Rattle.sdl_run.specs.Plan.{Plan, workers_of}
 use Rattle.sdl_run.specs.Driver.{Site, IsAtWork, IsIdle}
 use Rattle.sdl_run.specs.Drivers.{site_of, plan_of, IsDriving, IsSameSystem, IsIdleAt, StepAnswers, HasGone}
 use Rattle.sdl_run.specs.Measure.{work_left}
 use Rattle.sdl_run.proofs.Drives.{workers_count, same_plan}
-use Rattle.sdl_run.proofs.Quiet.{no_outlet}
 
 pub gone_none : (plan : Plan) (start : Site) → HasGone plan start start false 0
 gone_none plan start = record { less = λ e. absurd (false≢true e); idle = λ e. (refl, λ k less. absurd (omega arith)) }
@@ -44,16 +43,19 @@ module _ (plan : Plan) (start now next : Site) (n : ℕ) where
       }
 
 -- after a whole round in which no worker could do anything, nothing can be done
-pub gone_all : (may : ℕ → Frame → Step → Type 0) (plan : Plan) (start now : Site) → IsPlan plan → IsClosed plan.structure → IsAtWork may plan now → HasGone plan start now false (length (workers_of plan)) → IsIdle now
-gone_all may plan start now ok closed work gone =
+pub gone_all : (may : ℕ → Frame → Step → Type 0) (plan : Plan) (start now : Site) → IsAtWork may plan now → HasGone plan start now false (length (workers_of plan)) → IsIdle now
+gone_all may plan start now work gone =
     let same = (gone.idle refl).0 in
     let each = (gone.idle refl).1 in
     let count = workers_count may plan now work in
+    let env = (subst (λ (s : Site). IsIdleAt s (length now.blocks)) (sym same) (each (length now.blocks) (omega arith))).environment refl in
     record {
       blocks = λ n w at. let l = slice_get_within now.blocks n w at in (subst (λ (s : Site). IsIdleAt s n) (sym same) (each n (omega arith))).block w at;
       forwarders = λ k f at. let l = slice_get_within now.forwarders k f at in
           (subst (λ (s : Site). IsIdleAt s (length now.blocks + 1 + k)) (sym same) (each (length now.blocks + 1 + k) (omega arith))).forwarder k f refl at;
-      outlet = no_outlet plan ok may now work closed;
+      ended = env.0;
+      outgoing = env.1;
+      outlet = env.2;
     }
 
 module _ {S I : Type 0} {F : I → Type 0} {g : _} where
@@ -74,10 +76,10 @@ module _ {S I : Type 0} {F : I → Type 0} {g : _} where
     pub on_idle : answer ≡ stepped.Idle → (d : Bool) → d ≡ did → HasGone (plan_of start) (site_of start) (site_of next) d (n + 1)
     on_idle e d is = subst (λ (b : Bool). HasGone (plan_of start) (site_of start) (site_of next) b (n + 1)) (sym is) (gone_idle (plan_of start) (site_of start) (site_of now) (site_of next) n did gone (answered stepped.Idle e))
 
-  pub at_end : (may : ℕ → Frame → Step → Type 0) (start now : Driver S I F g) (did : Bool) (n : ℕ) → IsDriving may start → IsDriving may now → IsSameSystem start now
+  pub at_end : (may : ℕ → Frame → Step → Type 0) (start now : Driver S I F g) (did : Bool) (n : ℕ) → IsDriving may now → IsSameSystem start now
       → HasGone (plan_of start) (site_of start) (site_of now) did n → did ≡ false → n ≡ length (workers_of (plan_of start)) → IsIdle (site_of now)
-  at_end may start now did n before driving same gone none all =
-      gone_all may (plan_of start) (site_of start) (site_of now) before.plan before.closed (subst (λ (p : Plan). IsAtWork may p (site_of now)) (same_plan start now same) driving.work)
+  at_end may start now did n driving same gone none all =
+      gone_all may (plan_of start) (site_of start) (site_of now) (subst (λ (p : Plan). IsAtWork may p (site_of now)) (same_plan start now same) driving.work)
       (subst (λ (k : ℕ). HasGone (plan_of start) (site_of start) (site_of now) false k) all (subst (λ (b : Bool). HasGone (plan_of start) (site_of start) (site_of now) b n) none gone))
 
   -- less of what is left, in terms of the first plan

@@ -1,12 +1,23 @@
 -- Worked rows: what the definitions say of a run of Ring, and of wrong ones.
-use Rattle.std.proofs.Common.{◌≡◌, ℕ, zero, suc, subst, ◌<◌, Bool, true, false, cond, List, [], ◌∷◌, ◌++◌, Some, refl, ap, sym, arith, lit<, slice_get, length}
+use Rattle.std.proofs.Common.{◌≡◌, ℕ, zero, suc, subst, ◌<◌, Bool, true, false, cond, List, [], ◌∷◌, ◌++◌, Option, Some, unwrap_or, refl, ap, sym, arith, lit<, slice_get, length}
 use Rattle.std.proofs.lemmas.Bool.{cond_both}
 use Rattle.std.proofs.lemmas.Option.{none-some, same_Some}
 use Rattle.sdl_signal.specs.declared.values.Pid.{Pid}
 use Rattle.sdl_instances.specs.declared.event.Trigger.TheVariants as trigger
 use Rattle.sdl_instances.specs.Core.{IsReady}
 use Rattle.sdl_signal.specs.declared.ids.BlockId.{BlockId}
+use Rattle.std.proofs.lemmas.List.{length-append}
 use Rattle.sdl_signal.specs.declared.values.Item.{Item}
+use Rattle.sdl_signal.specs.declared.ends.InputEnd.TheVariants as input
+use Rattle.sdl_signal.specs.declared.ends.OutputEnd.TheVariants as output
+use Rattle.sdl_signal.specs.Names.{Lexicon}
+use Rattle.sdl_signal.specs.Line.{line_text}
+use Rattle.sdl_signal.specs.Bytes.{BeginsWithLines}
+use Rattle.sdl_signal.specs.Environment.{AreRead}
+use Rattle.sdl_structure.specs.Structure.{Structure, lexicon_of}
+use Rattle.sdl_routes.specs.declared.parts.Row.{Row}
+use Rattle.sdl_run.specs.declared.environment_output.EnvOut.TheVariants as env_out
+use Rattle.sdl_run.specs.EnvironmentWork.{HasReadAll, HasWritten, AreCounted, received_text, received_line, env_origins}
 use Rattle.sdl_routes.specs.declared.parts.Hop.{Hop}
 use Rattle.sdl_routes.specs.declared.parts.Station.TheVariants as station
 use Rattle.sdl_routes.specs.Routes.{IsRoute}
@@ -130,3 +141,26 @@ unsettled finals h = let e : ◌≡◌ {A = ℕ} 1 0 = ap length (h.others (bloc
 -- no logs show two signals that go round between two blocks and that nobody started
 pub no_loop : (a b : Item) → IsStamped 0 (enters a ∷ sends (trigger.Fire a) (b ∷ []) ∷ []) → IsStamped 0 (enters b ∷ sends (trigger.Fire b) (a ∷ []) ∷ []) → ⊥
 no_loop a b p q = let x = p.1.0.0 in let y = q.1.0.0 in omega arith
+
+-- an input of which nothing was read was not read whole
+unread_lines : (names : Lexicon) (lines : List (List ℕ)) (byte : ℕ) (bytes : List ℕ) → BeginsWithLines (byte ∷ bytes) lines [] → AreRead names lines [] → ⊥
+unread_lines names [] byte bytes first read = cc
+unread_lines names (line ∷ lines) byte bytes first read = read
+
+pub unread : (s : Structure) (routes : List Row) (worker byte : ℕ) (bytes : List ℕ) (now : Option (List ℕ)) → HasReadAll s routes worker (Some (byte ∷ bytes)) now [] input.Whole → ⊥
+unread s routes worker byte bytes now ([], outs, (given, consumes, (lines, first, read, few))) = unread_lines (lexicon_of s) lines byte bytes first read
+unread s routes worker byte bytes now (line ∷ lines, outs, read) = outs
+
+-- and what was received was not written whole where nothing was written
+pub unwritten : (names : Lexicon) (routes : List Row) (i : Item) (items : List Item) (start : List ℕ) → HasWritten (Some start) (Some start) (received_text names routes (i ∷ items)) output.Whole → ⊥
+unwritten names routes i items start h =
+    let text = unwrap_or (line_text names (received_line routes i)) [] in
+    let a : length start ≡ length (start ++ ((text ++ 10 ∷ []) ++ received_text names routes items)) = ap length h in
+    let b = length-append start ((text ++ 10 ∷ []) ++ received_text names routes items) in
+    let c = length-append (text ++ 10 ∷ []) (received_text names routes items) in
+    let d = length-append text (10 ∷ []) in
+    omega (arith, a, b, c, d)
+
+-- the first output of the environment has number 0
+pub misnumbered : AreCounted 2 0 (env_origins (env_out.Sent (tok 0 2 1) ∷ [])) → ⊥
+misnumbered h = let e : ◌≡◌ {A = ℕ} 1 0 = h.1 in omega arith

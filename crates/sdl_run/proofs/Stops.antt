@@ -16,7 +16,7 @@ use Rattle.sdl_run.specs.Driver.{Site, IsAtWork, IsIdle, outcome_of, finals_of}
 use Rattle.sdl_run.specs.Drivers.{NoneSpent, FirstSpent, AllDone, SomeUndone, AllLeft, SomeLeft}
 use Rattle.sdl_run.specs.Closings.{end_by}
 use Rattle.sdl_run.specs.Ends.{EndsAs, IsQuiet}
-use Rattle.sdl_run.proofs.Tests.{same_station_is, same_station_itself}
+use Rattle.sdl_run.proofs.Comparisons.{same_station_is, same_station_itself}
 use Rattle.sdl_run.proofs.Quiet.{number, get_map, quiet_end, none_spent_end, spent_end}
 
 -- no station stands before itself

@@ -9,7 +9,7 @@ use Rattle.sdl_run.specs.declared.worker.Worker.{Worker}
 use Rattle.sdl_run.specs.declared.worker.Worker.TheVariants.{Block, Environment, Forwarder}
 use Rattle.sdl_forward.specs.Boards.{same_station}
 use Rattle.sdl_run.specs.Stations.{Ways, IsAgent, Leads, AreWays, IsWay, Among, Once, first, after, next, place, taker}
-use Rattle.sdl_run.proofs.Tests.{same_station_is, same_station_itself}
+use Rattle.sdl_run.proofs.Comparisons.{same_station_is, same_station_itself}
 
 pub first_among : (ss : List Station) (s : Station) → first ss ≡ Some s → Among s ss
 first_among [] s e = cc

@@ -14,7 +14,8 @@ use Rattle.sdl_instances.specs.Run.{IsStamped, IsNumbered, all_done, origins, or
 use Rattle.sdl_run.specs.Books.{InOrder}
 use Rattle.sdl_run.specs.Causes.{IsCause}
 use Rattle.sdl_run.specs.Plan.{Plan, IsPlan, ways_of}
-use Rattle.sdl_run.specs.Outcome.{Outcome, IsComplete, IsLawful, AreRunsFrom, AreCounted, books_of, log_at, Headline}
+use Rattle.sdl_run.specs.Outcome.{Outcome, IsComplete, IsLawful, AreRunsFrom, books_of, log_at, Headline}
+use Rattle.sdl_run.specs.EnvironmentWork.{env_origins, AreCounted}
 use Rattle.sdl_run.proofs.Along.{no_other}
 use Rattle.sdl_run.proofs.Ways.{ways_are, leads_within}
 use Rattle.sdl_run.proofs.Stamps.{cause_stamp}
@@ -87,7 +88,7 @@ pub headline : (may : ℕ → Frame → Step → Type 0) (plan : Plan) (o : Outc
 headline may plan o finals ok complete order law =
     record {
       in_order = λ r less. order.in_order r (leads_within plan ok r less);
-      once = once_from may plan o.env_origins 0 o.logs finals law.runs (subst (λ (w : ℕ). AreCounted w 0 o.env_origins) (sym complete.logs ∙ omega arith) law.environment);
+      once = once_from may plan (env_origins o.env_put) 0 o.logs finals law.runs (subst (λ (w : ℕ). AreCounted w 0 (env_origins o.env_put)) (sym complete.logs ∙ omega arith) law.environment);
       lawful = law;
       no_other = no_other (ways_of plan) (books_of plan o) (ways_are plan ok) order;
       no_cycle = no_cycle o (stamped_runs may plan 0 o.logs finals law.runs);

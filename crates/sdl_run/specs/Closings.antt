@@ -8,10 +8,15 @@ use Rattle.sdl_block.specs.declared.worker.Hand.{Hand}
 use Rattle.sdl_run.specs.declared.end.RunEnd.{RunEnd}
 use Rattle.sdl_run.specs.declared.end.RunEnd.TheVariants as run_end
 use Rattle.sdl_run.specs.declared.closing.Closing.{Closing}
+use Rattle.sdl_run.specs.declared.closing.Left.{Left}
 use Rattle.sdl_run.specs.declared.closing.Room.{Room}
 use Rattle.sdl_run.specs.declared.driver.Driver.{Driver}
 use Rattle.sdl_block.specs.Workers.{behaviours_of}
-use Rattle.sdl_run.specs.Plan.{Plan}
+use Rattle.sdl_signal.specs.declared.ends.InputEnd.{InputEnd}
+use Rattle.sdl_signal.specs.declared.ends.InputEnd.TheVariants as input
+use Rattle.sdl_structure.specs.Structure.{lexicon_of}
+use Rattle.sdl_run.specs.EnvironmentWork.{HasReadAll, HasWritten, received_text}
+use Rattle.sdl_run.specs.Plan.{Plan, blocks_in}
 use Rattle.sdl_run.specs.Outcome.{Held, Outcome}
 
 -- the plan of a bound system with this budget
@@ -29,12 +34,33 @@ abbrev pub outcome_in : {S I : Type 0} {F : I → Type 0} {g : _} → Closing S 
 outcome_in c =
     record {
       logs = map items_in c.logs.items;
-      env_sent = [];
-      env_origins = [];
-      env_received = [];
+      env_put = c.env_put.items;
+      env_received = c.env_received.items;
       hands = map held_in c.hands.items;
       rests = lists_of c.rests.items;
     }
+
+-- and what the workers leave that become one
+abbrev pub outcome_left : {S I : Type 0} {F : I → Type 0} {g : _} → Left S I F g → Outcome
+outcome_left l =
+    record {
+      logs = map items_in l.logs.items;
+      env_put = l.env_put.items;
+      env_received = l.env_received.items;
+      hands = map held_in l.hands.items;
+      rests = lists_of l.rests.items;
+    }
+
+-- in a closing, all that the environment read, and all that it wrote
+abbrev pub HasReadIn : {S I : Type 0} {F : I → Type 0} {g : _} → Plan → Option (List ℕ) → Option (List ℕ) → Closing S I F g → Type 0
+HasReadIn plan start now c = HasReadAll plan.structure plan.routes (blocks_in plan) start now c.env_put.items c.input
+
+abbrev pub HasWrittenIn : {S I : Type 0} {F : I → Type 0} {g : _} → Plan → Option (List ℕ) → Option (List ℕ) → Closing S I F g → Type 0
+HasWrittenIn plan start now c = HasWritten start now (received_text (lexicon_of plan.structure) plan.routes c.env_received.items) c.output
+
+-- the reading stopped before its end only where memory was refused to a worker
+abbrev pub StopsByMemory : InputEnd → RunEnd → Type 0
+StopsByMemory reading end = (n : ℕ) → reading ≡ input.Stopped n → (w : ℕ) × (end ≡ run_end.Memory w)
 
 -- it is the system that was handed in
 abbrev pub IsSameBound : {S I : Type 0} {F : I → Type 0} {g : _} → Bound S I F g → Bound S I F g → Type 0

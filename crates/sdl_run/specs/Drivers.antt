@@ -1,7 +1,7 @@
 -- What a contract sees of a driver: its site, and the plan that it carries out.
-use Rattle.std.specs.Prelude.{◌≡◌, ℕ, ◌+◌, ◌<◌, Bool, true, false, List, [], map, length, slice_get, Some, None, All}
+use Rattle.std.specs.Prelude.{◌≡◌, ◌≢◌, ℕ, ◌+◌, ◌<◌, Bool, true, false, List, [], map, length, slice_get, Option, Some, None, All}
 use Rattle.sdl_routes.specs.declared.parts.Station.{Station}
-use Rattle.sdl_routes.specs.declared.parts.Station.TheVariants.{Line}
+use Rattle.sdl_routes.specs.declared.parts.Station.TheVariants.{Line, Outlet}
 use Rattle.sdl_queue.specs.declared.rest.Rest.{Rest}
 use Rattle.sdl_queue.specs.Rest.{left_in}
 use Rattle.sdl_transition.specs.declared.step.Frame.{Frame}
@@ -22,12 +22,13 @@ use Rattle.sdl_block.specs.Workers.{worker_of, behaviours_of}
 use Rattle.sdl_run.specs.declared.driver.Driver.{Driver}
 use Rattle.sdl_run.specs.declared.driver.Round.{Round}
 use Rattle.sdl_run.specs.declared.driver.Round.TheVariants as round
-use Rattle.sdl_run.specs.Plan.{Plan, IsPlan, IsClosed, workers_of}
+use Rattle.sdl_run.specs.Plan.{Plan, IsPlan, blocks_in, workers_of}
+use Rattle.sdl_run.specs.EnvironmentWork.{EnvWorking, HasReadSoFar, HasWrittenSoFar}
 use Rattle.sdl_run.specs.Driver.{Site, IsAtWork, IsIdle}
 use Rattle.sdl_run.specs.Measure.{work_left}
 
 abbrev pub site_of : {S I : Type 0} {F : I → Type 0} {g : _} → Driver S I F g → Site
-site_of d = record { blocks = map worker_of d.blocks.items; forwarders = d.forwarders.items; board = d.board }
+site_of d = record { blocks = map worker_of d.blocks.items; environment = d.environment; forwarders = d.forwarders.items; board = d.board }
 
 abbrev pub plan_of : {S I : Type 0} {F : I → Type 0} {g : _} → Driver S I F g → Plan
 plan_of d =
@@ -43,7 +44,6 @@ pub record IsDriving {S I : Type 0} {F : I → Type 0} {g : _} (may : ℕ → Fr
   pub plan : IsPlan (plan_of d)
   pub work : IsAtWork may (plan_of d) (site_of d)
   pub fire : All (λ w. CanFire may (behaviours_of w)) d.blocks.items
-  pub closed : IsClosed d.checked
 
 -- a driver of the same system
 pub record IsSameSystem {S I : Type 0} {F : I → Type 0} {g : _} (old new : Driver S I F g) : Type 0 where
@@ -55,6 +55,7 @@ pub record IsSameSystem {S I : Type 0} {F : I → Type 0} {g : _} (old new : Dri
 -- worker n could do nothing
 pub record IsIdleAt (site : Site) (n : ℕ) : Type 0 where
   pub block : (w : Working) → slice_get site.blocks n ≡ Some w → IsAtRest w site.board
+  pub environment : n ≡ length site.blocks → (site.environment.ended ≢ None) × (site.environment.outgoing ≡ []) × (waiting site.board Outlet ≡ [])
   pub forwarder : (k : ℕ) (f : Forwarding) → n ≡ length site.blocks + 1 + k → slice_get site.forwarders k ≡ Some f → (f.held ≡ None) × (waiting site.board (Line f.hop) ≡ [])
 
 -- what a step of worker n did, by its answer: less is left to do, or nothing changed
@@ -62,6 +63,16 @@ abbrev pub StepAnswers : Plan → ℕ → Stepped → Site → Site → Type 0
 StepAnswers plan n Did old new = work_left plan new < work_left plan old
 StepAnswers plan n Idle old new = (new ≡ old) × IsIdleAt old n
 StepAnswers plan n Memory old new = Unit {0}
+
+-- what was read so far goes over into what is read then, whatever was in the input at the start
+abbrev pub ReadsOver : Plan → EnvWorking → Option (List ℕ) → EnvWorking → Option (List ℕ) → Type 0
+ReadsOver plan old before new after =
+    (start : Option (List ℕ)) → HasReadSoFar plan.structure plan.routes (blocks_in plan) start before old → HasReadSoFar plan.structure plan.routes (blocks_in plan) start after new
+
+-- and what was written so far into what is written then
+abbrev pub WritesOver : Plan → EnvWorking → Option (List ℕ) → EnvWorking → Option (List ℕ) → Type 0
+WritesOver plan old before new after =
+    (start : Option (List ℕ)) → HasWrittenSoFar plan.structure plan.routes (blocks_in plan) start before old → HasWrittenSoFar plan.structure plan.routes (blocks_in plan) start after new
 
 -- what a step of a forwarder counts as
 abbrev pub stepped_by : Forwarded → Stepped

@@ -15,6 +15,8 @@ use Rattle.sdl_instances.specs.Core.{IsReady}
 use Rattle.sdl_forward.specs.Boards.{waiting}
 use Rattle.sdl_run.specs.declared.end.RunEnd.{RunEnd}
 use Rattle.sdl_run.specs.declared.end.RunEnd.TheVariants as run_end
+use Rattle.sdl_run.specs.declared.ledger.Ledger.{Ledger}
+use Rattle.sdl_run.specs.Counts.{IsLedgerOf, Balances, waiting_in}
 use Rattle.sdl_run.specs.Plan.{Plan, blocks_in, workers_of}
 use Rattle.sdl_run.specs.Outcome.{Outcome, Held, IsComplete, Headline, LeftsAreLegal, log_at}
 
@@ -59,11 +61,13 @@ module _ (plan : Plan) (o : Outcome) (finals : List State) where
   EndsAs (run_end.Spent b) = IsSpentAt b.0
   EndsAs (run_end.Memory w) = w < length (workers_of plan)
 
--- All that holds of a run that has ended. The blocks end in the same states in the headline and in the end.
-pub record HasEnded (may : ℕ → Frame → Step → Type 0) (plan : Plan) (o : Outcome) (end : RunEnd) : Type 0 where
+-- All that holds of a run that has ended. The blocks end in the same states in the headline, in the end and in the ledger.
+pub record HasEnded (may : ℕ → Frame → Step → Type 0) (plan : Plan) (o : Outcome) (end : RunEnd) (ledger : Ledger) : Type 0 where
   pub finals : List State
   pub complete : IsComplete plan o
   pub headline : Headline may plan o finals
   pub ends : EndsAs plan o finals end
   pub within_budget : AllByRecursion (λ (log : List Event). turns log ≤ plan.budget) o.logs
   pub lefts : LeftsAreLegal plan o
+  pub counts : IsLedgerOf o (waiting_in finals) ledger
+  pub balanced : Balances ledger

@@ -3,6 +3,8 @@ pub mod Books
 pub mod Steps
 pub mod Causes
 pub mod Plan
+pub mod EnvironmentWork
+pub mod EnvPhases
 pub mod Outcome
 pub mod Ends
 pub mod Driver
@@ -12,3 +14,4 @@ pub mod Drivers
 pub mod Closings
 pub mod Starting
 pub mod Serial
+pub mod Counts

@@ -9,6 +9,8 @@ use Rattle.sdl_run.specs.declared.worker.Worker.TheVariants.{Block, Environment,
 use Rattle.sdl_run.specs.Stations.{Ways, place}
 use Rattle.sdl_run.specs.Books.{standing}
 use Rattle.sdl_run.specs.Plan.{Plan, ways_of, workers_of}
+use Rattle.sdl_signal.specs.Environment.{most_lines}
+use Rattle.sdl_run.specs.EnvironmentWork.{EnvWorking}
 use Rattle.sdl_block.specs.Work.{Working}
 use Rattle.sdl_run.specs.Driver.{Site, site_books}
 
@@ -25,19 +27,23 @@ to_go t s items = sum_by (λ (i : Item). stations_from s (t.stations i.route.0))
 abbrev pub to_go_out : Ways → List Item → ℕ
 to_go_out t items = sum_by (λ (i : Item). length (t.stations i.route.0) + 1) items
 
--- the turns that a block may still make
-abbrev pub turns_left : ℕ → List Working → Worker → ℕ
-turns_left budget ws (Block b) = elim (slice_get ws b.0) [ None ↦ 0 | Some w ↦ budget - turns w.core.log ]
-turns_left budget ws Environment = 0
-turns_left budget ws (Forwarder h) = 0
+-- the lines that the environment may still read, and the end behind them
+abbrev pub lines_left : EnvWorking → ℕ
+lines_left w = elim w.ended [ None ↦ (most_lines - w.reading.carried) + 1 | Some end ↦ 0 ]
+
+-- the turns that a block may still make, and the readings of the environment
+abbrev pub turns_left : ℕ → List Working → EnvWorking → Worker → ℕ
+turns_left budget ws env (Block b) = elim (slice_get ws b.0) [ None ↦ 0 | Some w ↦ budget - turns w.core.log ]
+turns_left budget ws env Environment = lines_left env
+turns_left budget ws env (Forwarder h) = 0
 
 -- What one worker has before it. A turn sends at most eight items, of at most four stations each, which is 40 steps: so a
--- turn that may still be made counts 41.
+-- turn that may still be made counts 41. A line sends at most one item, and counts as much.
 abbrev pub load : Plan → Site → Worker → ℕ
 load plan site w =
     to_go (ways_of plan) (place w) (standing (site_books site) (place w))
     + to_go_out (ways_of plan) ((site_books site).outgoing w)
-    + 41 * turns_left plan.budget site.blocks w
+    + 41 * turns_left plan.budget site.blocks site.environment w
 
 abbrev pub work_left : Plan → Site → ℕ
 work_left plan site = sum_by (load plan site) (workers_of plan)

@@ -12,6 +12,8 @@ use Rattle.sdl_instances.specs.Machine.{State}
 use Rattle.sdl_instances.specs.Run.{IsRun, arrived, sent, origins}
 use Rattle.sdl_forward.specs.Boards.{waiting, IsBoardOf}
 use Rattle.sdl_run.specs.declared.worker.Worker.{Worker}
+use Rattle.sdl_run.specs.declared.environment_output.EnvOut.{EnvOut}
+use Rattle.sdl_run.specs.EnvironmentWork.{env_sent, env_origins, AreCounted}
 use Rattle.sdl_run.specs.Stations.{Among, same_worker}
 use Rattle.sdl_run.specs.Books.{Books, NoOther, outs, came, left, standing}
 use Rattle.sdl_run.specs.Causes.{IsCause}
@@ -22,12 +24,11 @@ pub record Held : Type 0 where
   pub kept : Option Item
   pub outgoing : List Item
 
--- What a run leaves: the log of each block; what the environment sent, the origins of all its outputs, and what it
--- received; what each worker holds, in the order of the workers; and what rests at each station.
+-- What a run leaves: the log of each block; the outputs of the environment, and what it received; what each worker holds,
+-- in the order of the workers; and what rests at each station.
 pub record Outcome : Type 0 where
   pub logs : List (List Event)
-  pub env_sent : List Item
-  pub env_origins : List Origin
+  pub env_put : List EnvOut
   pub env_received : List Item
   pub hands : List Held
   pub rests : List (Station × List Item)
@@ -42,7 +43,7 @@ of_worker w (v ∷ vs) (xs ∷ xss) = cond (same_worker v w) xs (of_worker w vs 
 abbrev pub books_of : Plan → Outcome → Books
 books_of plan o =
     record {
-      sent = λ w. of_worker w (workers_of plan) (map sent o.logs ++ o.env_sent ∷ []);
+      sent = λ w. of_worker w (workers_of plan) (map sent o.logs ++ env_sent o.env_put ∷ []);
       arrived = λ w. of_worker w (workers_of plan) (map arrived o.logs ++ o.env_received ∷ []);
       kept = λ w. of_worker w (workers_of plan) (map (λ (h : Held). option_to_list h.kept) o.hands);
       outgoing = λ w. of_worker w (workers_of plan) (map (λ (h : Held). h.outgoing) o.hands);
@@ -63,12 +64,7 @@ log_at (log ∷ logs) (suc n) = log_at logs n
 
 -- every output of the run, with or without a route
 abbrev pub all_origins : Outcome → List Origin
-all_origins o = flat_map origins o.logs ++ o.env_origins
-
--- the origins have this worker, and the numbers n, n + 1, n + 2 and so on
-abbrev pub AreCounted : ℕ → ℕ → List Origin → Type 0
-AreCounted worker n [] = Unit {0}
-AreCounted worker n (o ∷ more) = (o.worker ≡ worker) × (o.number ≡ n) × AreCounted worker (n + 1) more
+all_origins o = flat_map origins o.logs ++ env_origins o.env_put
 
 module _ (may : ℕ → Frame → Step → Type 0) (plan : Plan) where
   -- the logs are runs of the blocks n, n + 1, n + 2 and so on, which end in these states
@@ -82,7 +78,7 @@ module _ (may : ℕ → Frame → Step → Type 0) (plan : Plan) where
 -- each block's log is a run of its machine, and the environment's outputs are numbered as a block's are
 pub record IsLawful (may : ℕ → Frame → Step → Type 0) (plan : Plan) (o : Outcome) (finals : List State) : Type 0 where
   pub runs : AreRunsFrom may plan 0 o.logs finals
-  pub environment : AreCounted (blocks_in plan) 0 o.env_origins
+  pub environment : AreCounted (blocks_in plan) 0 (env_origins o.env_put)
 
 -- When a run has ended ..
 pub record Headline (may : ℕ → Frame → Step → Type 0) (plan : Plan) (o : Outcome) (finals : List State) : Type 0 where

@@ -1,12 +1,9 @@
 -- What does not change in a run of a whole system: its structure, its routes, the rules of each block, and the budget.
 use Rattle.std.specs.Prelude.{◌≡◌, ℕ, zero, suc, ◌+◌, Bool, true, false, List, [], ◌∷◌, ◌++◌, None, Some, map, length, slice_get, unwrap_or, if◌then◌else◌}
-use Rattle.std.specs.List.{AllByRecursion}
 use Rattle.sdl_signal.specs.declared.ids.SetId.{SetId}
 use Rattle.sdl_signal.specs.declared.ids.SignalId.{SignalId}
 use Rattle.sdl_signal.specs.declared.values.Item.{Item}
 use Rattle.sdl_structure.specs.declared.parts.Channel.{Channel}
-use Rattle.sdl_structure.specs.declared.parts.Gate.{Gate}
-use Rattle.sdl_structure.specs.declared.parts.Owner.TheVariants as owner
 use Rattle.sdl_structure.specs.Structure.{Structure, IsStructure, set_at}
 use Rattle.sdl_routes.specs.declared.parts.Hop.{Hop}
 use Rattle.sdl_routes.specs.declared.parts.Row.{Row}
@@ -102,7 +99,3 @@ pub record IsPlan (plan : Plan) : Type 0 where
   pub structure : IsStructure plan.structure
   pub routes : AreRoutesOf plan.structure plan.routes
   pub table : IsTable plan.routes
-
--- a system without gates: nothing comes from the environment, and nothing goes there
-abbrev pub IsClosed : Structure → Type 0
-IsClosed s = AllByRecursion (λ (g : Gate). g.owner ≡ owner.System → ⊥) s.gates

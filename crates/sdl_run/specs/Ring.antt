@@ -151,8 +151,7 @@ abbrev pub leaves : List Item → Outcome
 leaves waiting =
     record {
       logs = log_of_p ∷ log_of_q ∷ [];
-      env_sent = [];
-      env_origins = [];
+      env_put = [];
       env_received = [];
       hands = no_hand ∷ no_hand ∷ no_hand ∷ no_hand ∷ no_hand ∷ no_hand ∷ no_hand ∷ no_hand ∷ no_hand ∷ [];
       rests = rests waiting;

@@ -5,13 +5,15 @@ ghost use Rattle.sdl_run.specs.Closings.{HasRoom, items_in, held_in, end_by};
 ghost use Rattle.sdl_run.specs.Driver.{block_hand, forwarder_hand};
 
 use crate::end::RunEnd;
+use crate::environment_output::EnvOut;
+use crate::ledger::Ledger;
 use arrayvec::ArrayVec;
 use sdl_block::{BlockWorker, Hand};
 use sdl_forward::Forwarder;
 use sdl_instances::Event;
 use sdl_queue::Rest;
 use sdl_routes::Station;
-use sdl_signal::BlockId;
+use sdl_signal::{BlockId, InputEnd, Item, OutputEnd};
 use sdl_transition::{Agents, BlockParts, Bound};
 use std::alloc::{AllocError, Global};
 
@@ -22,12 +24,35 @@ pub struct Closing<S> {
     pub bound: Bound<S>,
     /// The log of each block, blocks by number.
     pub logs: Vec<Vec<Event>>,
+    /// What became of the lines that the environment read, in order.
+    pub env_put: Vec<EnvOut>,
+    /// What the environment received, in order.
+    pub env_received: Vec<Item>,
     /// What each worker still holds, in the order of the workers: the blocks by number, the environment, the forwarders.
     pub hands: Vec<Hand>,
     /// What is left at each station of some route: lines by channel, forth before back, then inlets by block, then the
     /// outlet.
     pub rests: Vec<(Station, Rest)>,
+    /// The count of every signal.
+    pub ledger: Ledger,
     pub end: RunEnd,
+    /// How the reading of the input ended.
+    pub input: InputEnd,
+    /// Whether all that the environment received could be written.
+    pub output: OutputEnd,
+}
+
+/// What the workers of a run and its board leave.
+#[derive(Drop)]
+pub struct Left<S> {
+    pub bound: Bound<S>,
+    pub logs: Vec<Vec<Event>>,
+    pub env_put: Vec<EnvOut>,
+    pub env_received: Vec<Item>,
+    pub hands: Vec<Hand>,
+    pub rests: Vec<(Station, Rest)>,
+    pub input: InputEnd,
+    pub output: OutputEnd,
 }
 
 /// Why a run did not start.

@@ -1,29 +1,33 @@
 //! The driver of a run on one thread.
-ghost use Rattle.std.specs.Prelude.{◌≡◌, ◌+◌, ◌<◌, ◌≤◌, [], length, map, MatchOption, MatchBool};
+ghost use Rattle.std.specs.Prelude.{◌≡◌, ℕ, List, Option, ◌+◌, ◌<◌, ◌≤◌, [], length, map, MatchOption, MatchBool};
 ghost use Rattle.sdl_transition.specs.Bound.{AreOneSystem};
 ghost use Rattle.sdl_block.specs.Workers.{behaviours_of};
-ghost use Rattle.sdl_run.specs.Closings.{HasRoom, IsSystemOf, outcome_in};
+ghost use Rattle.sdl_run.specs.Closings.{HasRoom, IsSystemOf, HasReadIn, HasWrittenIn, StopsByMemory, outcome_in, outcome_left};
+ghost use Rattle.sdl_run.specs.Counts.{waiting_in};
 ghost use Rattle.sdl_run.specs.Ends.{HasEnded};
-ghost use Rattle.sdl_run.specs.Plan.{workers_of};
-ghost use Rattle.sdl_run.specs.Driver.{BlockSteps, ForwarderSteps, IsIdle};
-ghost use Rattle.sdl_run.specs.Drivers.{site_of, plan_of, IsDriving, IsSameSystem, StepAnswers, RoundAnswers, NoneSpent, FirstSpent, AllDone, SomeUndone, AllLeft, SomeLeft};
+ghost use Rattle.sdl_run.specs.Plan.{blocks_in, workers_of};
+ghost use Rattle.sdl_run.specs.EnvironmentWork.{OwnEnd, HasReadSoFar, HasWrittenSoFar, input_end};
+ghost use Rattle.sdl_run.specs.Driver.{BlockSteps, EnvironmentSteps, ForwarderSteps, IsIdle, outcome_of, finals_of};
+ghost use Rattle.sdl_run.specs.Drivers.{site_of, plan_of, IsDriving, IsSameSystem, ReadsOver, WritesOver, StepAnswers, RoundAnswers, NoneSpent, FirstSpent, AllDone, SomeUndone, AllLeft, SomeLeft};
 
-use crate::closing::{Closing, Room, end_of, take_blocks, take_forwarders};
-use arrayvec::ArrayVec;
-use sdl_block::{BlockWorker, Hand, Stepped};
+use crate::closing::{Closing, Left, Room, end_of, take_blocks, take_forwarders};
+use crate::environment::EnvWorker;
+use crate::ledger::Ledger;
+use sdl_block::{BlockWorker, Stepped};
 use sdl_forward::{Board, Forwarded, Forwarder};
 use sdl_queue::Rest;
 use sdl_routes::{Routes, Station};
 use sdl_structure::Checked;
 use sdl_transition::{Agents, Bound};
+use std::io::{Read, Write};
 
-/// All workers of a run, with the board between them, and the system that they carry out. The environment's worker of a
-/// closed system does nothing.
+/// All workers of a run, with the board between them, and the system that they carry out.
 #[derive(Drop)]
 pub struct Driver<S> {
     pub(crate) checked: Checked,
     pub(crate) routes: Routes,
     pub(crate) blocks: Vec<BlockWorker<S>>,
+    pub(crate) environment: EnvWorker,
     pub(crate) forwarders: Vec<Forwarder>,
     pub(crate) board: Board,
     pub(crate) budget: u32,
@@ -72,13 +76,44 @@ impl<S: Agents> Driver<S> {
         worker.step_serial(&self.routes, &mut self.board)
     }
 
-    /// Lets the worker of this number make a step. The environment's worker of a closed system does nothing.
-    fn step(&mut self, number: u32, pick: u32) -> Stepped
+    /// Lets the environment make a step.
+    fn step_environment<R: Read, W: Write>(
+        &mut self,
+        pick: u32,
+        input: &mut R,
+        output: &mut W,
+    ) -> Stepped
+        requires driving { IsDriving S.may self.old }
+        ensures step { EnvironmentSteps (plan_of self.old) result (site_of self.old) (site_of self.new) }
+        ensures same { IsSameSystem self.old self.new }
+        ensures reading { ReadsOver (plan_of self.old) self.old.environment (R.remaining input.old) self.new.environment (R.remaining input.new) }
+        ensures writing { WritesOver (plan_of self.old) self.old.environment (W.contents output.old) self.new.environment (W.contents output.new) }
+    {
+        self.environment.step_serial(
+            self.checked.structure(),
+            &self.routes,
+            &mut self.board,
+            pick,
+            input,
+            output,
+        )
+    }
+
+    /// Lets the worker of this number make a step.
+    fn step<R: Read, W: Write>(
+        &mut self,
+        number: u32,
+        pick: u32,
+        input: &mut R,
+        output: &mut W,
+    ) -> Stepped
         requires driving { IsDriving S.may self.old }
         requires within { number < length (workers_of (plan_of self.old)) }
         ensures driving { IsDriving S.may self.new }
         ensures same { IsSameSystem self.old self.new }
         ensures answer { StepAnswers (plan_of self.old) number result (site_of self.old) (site_of self.new) }
+        ensures reading { ReadsOver (plan_of self.old) self.old.environment (R.remaining input.old) self.new.environment (R.remaining input.new) }
+        ensures writing { WritesOver (plan_of self.old) self.old.environment (W.contents output.old) self.new.environment (W.contents output.new) }
     {
         let number = number as usize;
         let blocks = self.blocks.len();
@@ -86,7 +121,7 @@ impl<S: Agents> Driver<S> {
             return self.step_block(number, pick);
         }
         if number == blocks {
-            return Stepped::Idle;
+            return self.step_environment(pick, input, output);
         }
         match self.step_forwarder(number - blocks - 1) {
             Forwarded::Moved => Stepped::Did,
@@ -96,15 +131,17 @@ impl<S: Agents> Driver<S> {
     }
 
     /// Lets all workers make a step, by number, until one is refused memory.
-    fn round(&mut self) -> Round
+    fn round<R: Read, W: Write>(&mut self, input: &mut R, output: &mut W) -> Round
         requires driving { IsDriving S.may self.old }
         ensures driving { IsDriving S.may self.new }
         ensures same { IsSameSystem self.old self.new }
         ensures answer { RoundAnswers (plan_of self.old) result (site_of self.old) (site_of self.new) }
+        ensures reading { ReadsOver (plan_of self.old) self.old.environment (R.remaining input.old) self.new.environment (R.remaining input.new) }
+        ensures writing { WritesOver (plan_of self.old) self.old.environment (W.contents output.old) self.new.environment (W.contents output.new) }
     {
         let mut did = false;
         for number in 0..self.workers() {
-            match self.step(number, 0) {
+            match self.step(number, 0, input, output) {
                 Stepped::Did => did = true,
                 Stepped::Idle => {}
                 Stepped::Memory => return Round::Refused(number),
@@ -114,14 +151,16 @@ impl<S: Agents> Driver<S> {
     }
 
     /// Lets all workers take turns until a round does nothing, or the worker that is answered is refused memory.
-    fn settle(&mut self) -> Option<u32>
+    fn settle<R: Read, W: Write>(&mut self, input: &mut R, output: &mut W) -> Option<u32>
         requires driving { IsDriving S.may self.old }
         ensures driving { IsDriving S.may self.new }
         ensures same { IsSameSystem self.old self.new }
         ensures answer { MatchOption result (IsIdle (site_of self.new)) (λ w. w < length (workers_of (plan_of self.old))) }
+        ensures reading { ReadsOver (plan_of self.old) self.old.environment (R.remaining input.old) self.new.environment (R.remaining input.new) }
+        ensures writing { WritesOver (plan_of self.old) self.old.environment (W.contents output.old) self.new.environment (W.contents output.new) }
     {
         loop {
-            match self.round() {
+            match self.round(input, output) {
                 Round::Did => {}
                 Round::Idle => return None,
                 Round::Refused(worker) => return Some(worker),
@@ -130,21 +169,28 @@ impl<S: Agents> Driver<S> {
     }
 
     /// Carries out the schedule, number by number, and then settles the rest. `None` where no memory was refused.
-    pub fn run(&mut self, schedule: &[u32]) -> Option<u32>
+    pub fn run<R: Read, W: Write>(
+        &mut self,
+        schedule: &[u32],
+        input: &mut R,
+        output: &mut W,
+    ) -> Option<u32>
         requires driving { IsDriving S.may self.old }
         ensures driving { IsDriving S.may self.new }
         ensures same { IsSameSystem self.old self.new }
         ensures answer { MatchOption result (IsIdle (site_of self.new)) (λ w. w < length (workers_of (plan_of self.old))) }
+        ensures reading { ReadsOver (plan_of self.old) self.old.environment (R.remaining input.old) self.new.environment (R.remaining input.new) }
+        ensures writing { WritesOver (plan_of self.old) self.old.environment (W.contents output.old) self.new.environment (W.contents output.new) }
     {
         let workers = self.workers();
         for number in schedule {
-            match self.step(*number % workers, *number / workers) {
+            match self.step(*number % workers, *number / workers, input, output) {
                 Stepped::Did => {}
                 Stepped::Idle => {}
                 Stepped::Memory => return Some(*number % workers),
             }
         }
-        self.settle()
+        self.settle(input, output)
     }
 
     /// The least block whose budget is used.
@@ -181,40 +227,101 @@ impl<S: Agents> Driver<S> {
         requires room { HasRoom (length self.blocks.items) (length self.blocks.items + (length self.forwarders.items + 1)) room }
         requires empty { (room.parts.items ≡ []) × (room.logs.items ≡ []) × (room.hands.items ≡ []) }
         requires refused { MatchOption refused (IsIdle (site_of self)) (λ w. w < length (workers_of (plan_of self))) }
-        ensures ended { HasEnded S.may (plan_of self) (outcome_in result) result.end }
+        ensures ended { HasEnded S.may (plan_of self) (outcome_in result) result.end result.ledger }
+        // What the environment has read and written by then is all that it reads and writes.
+        ensures reading { (start now : Option (List ℕ)) → HasReadSoFar self.checked self.routes (blocks_in (plan_of self)) start now self.environment → HasReadIn (plan_of self) start now result }
+        ensures writing { (start now : Option (List ℕ)) → HasWrittenSoFar self.checked self.routes (blocks_in (plan_of self)) start now self.environment → HasWrittenIn (plan_of self) start now result }
+        ensures stopped { StopsByMemory result.input result.end }
         ensures bound { IsSystemOf self result.bound }
     {
         let spent = self.first_spent();
         let settled = self.are_settled();
-        let Driver {
-            checked,
-            routes,
-            blocks,
-            forwarders,
-            board,
-            budget: _,
-        } = self;
-        let mut room = room;
-        take_blocks(&mut room, blocks);
-        room.take_hand(Hand {
-            kept: None,
-            outgoing: ArrayVec::new(),
-        });
-        take_forwarders(&mut room, forwarders);
-        let rests = board.into_rests();
+        let waiting = self.waiting();
+        let Left {
+            bound,
+            logs,
+            env_put,
+            env_received,
+            hands,
+            rests,
+            input,
+            output,
+        } = self.leave(room);
         let quiet = if settled {
             is_all_empty(rests.as_slice())
         } else {
             false
         };
-        let Room { parts, logs, hands } = room;
+        let ledger = Ledger::of(
+            logs.as_slice(),
+            env_put.as_slice(),
+            env_received.as_slice(),
+            hands.as_slice(),
+            rests.as_slice(),
+            waiting,
+        );
         Closing {
-            bound: Bound::of_blocks(checked, routes, parts),
+            bound,
             logs,
+            env_put,
+            env_received,
             hands,
             rests,
+            ledger,
             end: end_of(refused, spent, quiet),
+            input,
+            output,
         }
+    }
+
+    /// Takes the driver apart into the system and what all workers and the board leave.
+    fn leave(self, room: Room<S>) -> Left<S>
+        requires system { AreOneSystem S.may self.checked self.routes (map behaviours_of self.blocks.items) }
+        requires room { HasRoom (length self.blocks.items) (length self.blocks.items + (length self.forwarders.items + 1)) room }
+        requires empty { (room.parts.items ≡ []) × (room.logs.items ≡ []) × (room.hands.items ≡ []) }
+        ensures bound { IsSystemOf self result.bound }
+        ensures outcome { outcome_left result ≡ outcome_of (site_of self) }
+        ensures input { result.input ≡ input_end self.environment }
+        ensures own { OwnEnd self.environment.ended }
+        ensures output { result.output ≡ self.environment.output }
+    {
+        let Driver {
+            checked,
+            routes,
+            blocks,
+            environment,
+            forwarders,
+            board,
+            budget: _,
+        } = self;
+        let env = environment.into_parts();
+        let mut room = room;
+        take_blocks(&mut room, blocks);
+        room.take_hand(env.hand);
+        take_forwarders(&mut room, forwarders);
+        let Room { parts, logs, hands } = room;
+        Left {
+            bound: Bound::of_blocks(checked, routes, parts),
+            logs,
+            env_put: env.put,
+            env_received: env.received,
+            hands,
+            rests: board.into_rests(),
+            input: env.input,
+            output: env.output,
+        }
+    }
+
+    /// The number of signals in the ports of all blocks.
+    fn waiting(&self) -> u64
+        requires { IsDriving S.may self.now }
+        ensures { result ≡ waiting_in (finals_of (site_of self.now)) }
+    {
+        let mut waiting = 0;
+        for block in self.blocks.iter() {
+            waiting += block.left_in_ports();
+        }
+        waiting
     }
 }
 

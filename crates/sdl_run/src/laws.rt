@@ -3,11 +3,20 @@ ghost use Rattle.sdl_run.specs.Stations.{Ways, AreWays};
 ghost use Rattle.sdl_run.specs.Books.{Books, InOrder, outs, came, left};
 ghost use Rattle.sdl_run.specs.Steps.{Steps};
 ghost use Rattle.sdl_instances.specs.Machine.{State};
-ghost use Rattle.std.specs.Prelude.{◌≡◌, ℕ, List, [], ◌∷◌, ◌++◌, true, false};
+ghost use Rattle.std.specs.Prelude.{◌≡◌, ℕ, List, [], ◌∷◌, ◌++◌, Option, Some, true, false};
+ghost use Rattle.sdl_signal.specs.declared.ends.InputEnd.TheVariants as input;
+ghost use Rattle.sdl_signal.specs.declared.ends.OutputEnd.TheVariants as output;
+ghost use Rattle.sdl_signal.specs.Names.{Lexicon};
+ghost use Rattle.sdl_structure.specs.Structure.{Structure};
+ghost use Rattle.sdl_routes.specs.declared.parts.Row.{Row};
+ghost use Rattle.sdl_run.specs.declared.environment_output.EnvOut.TheVariants as env_out;
+ghost use Rattle.sdl_run.specs.EnvironmentWork.{HasReadAll, HasWritten, AreCounted, received_text, env_origins};
 ghost use Rattle.sdl_signal.specs.declared.values.Item.{Item};
 ghost use Rattle.sdl_instances.specs.declared.event.Trigger.TheVariants as trigger;
 ghost use Rattle.sdl_instances.specs.Run.{IsStamped};
 ghost use Rattle.sdl_run.specs.declared.end.RunEnd.{RunEnd};
+ghost use Rattle.sdl_run.specs.declared.ledger.Ledger.{Ledger};
+ghost use Rattle.sdl_run.specs.Counts.{IsLedgerOf, waiting_in};
 ghost use Rattle.sdl_run.specs.declared.worker.Worker.TheVariants.{Block, Environment, Forwarder};
 ghost use Rattle.sdl_run.specs.Ends.{EndsAs, HasEnded, IsSpentAt, IsQuiet};
 ghost use Rattle.sdl_run.specs.Driver.{Site, IsAtWork, IsFresh, outcome_of, finals_of};
@@ -32,9 +41,11 @@ pub fn starts_in_order<S: Agents>()
     ensures { (plan : Plan) (start : Site) → IsFresh S.may plan start → IsAtWork S.may plan start }
 {}
 
-/// Wherever the driver stops, all holds that holds of a run that has ended, once its end is known.
+/// Wherever the driver stops, all holds that holds of a run that has ended, once its end and its ledger
+/// are known.
 pub fn has_ended<S: Agents>()
-    ensures { (plan : Plan) (site : Site) (end : RunEnd) → IsPlan plan → IsAtWork S.may plan site → EndsAs plan (outcome_of site) (finals_of site) end → HasEnded S.may plan (outcome_of site) end }
+    ensures { (plan : Plan) (site : Site) (end : RunEnd) (ledger : Ledger) → IsPlan plan → IsAtWork S.may plan site → EndsAs plan (outcome_of site) (finals_of site) end
+        → IsLedgerOf (outcome_of site) (waiting_in (finals_of site)) ledger → HasEnded S.may plan (outcome_of site) end ledger }
 {}
 
 /// A run of Ring in which each block makes two turns ends with the least block whose budget is used. Along each route, what
@@ -48,12 +59,16 @@ pub fn ring_ends_spent()
 
 /// A lost signal breaks the order. No end names a budget that is not used, a block that is not the least, or one beside
 /// which another is not settled; and no run is quiet with a signal in an inlet. No logs show signals that go round between
-/// two blocks and that nobody started.
+/// two blocks and that nobody started. No environment has read an input whole of which it read nothing, or written whole
+/// what it received where it wrote nothing; and its outputs are numbered from 0.
 pub fn wrong_runs_are_refused()
     ensures lost { outs (ways_of (plan 2)) (books_of (plan 2) (leaves [])) 0 ≡ came (ways_of (plan 2)) (books_of (plan 2) (leaves [])) 0 ++ left (ways_of (plan 2)) (books_of (plan 2) (leaves [])) 0 → ⊥ }
     ensures unused { (finals : List State) (b : ℕ) → IsSpentAt (plan 3) (leaves (tok 2 0 1 ∷ [])) finals b → ⊥ }
     ensures not_least { (finals : List State) → IsSpentAt (plan 2) (leaves (tok 2 0 1 ∷ [])) finals 1 → ⊥ }
     ensures unsettled { (finals : List State) → IsSpentAt (plan 2) stops_early finals 0 → ⊥ }
     ensures not_quiet { (finals : List State) → IsQuiet (plan 2) (leaves (tok 2 0 1 ∷ [])) finals → ⊥ }
+    ensures unread { (s : Structure) (routes : List Row) (worker byte : ℕ) (bytes : List ℕ) (now : Option (List ℕ)) → HasReadAll s routes worker (Some (byte ∷ bytes)) now [] input.Whole → ⊥ }
+    ensures unwritten { (names : Lexicon) (routes : List Row) (i : Item) (items : List Item) (start : List ℕ) → HasWritten (Some start) (Some start) (received_text names routes (i ∷ items)) output.Whole → ⊥ }
+    ensures misnumbered { AreCounted 2 0 (env_origins (env_out.Sent (tok 0 2 1) ∷ [])) → ⊥ }
     ensures no_loop { (a b : Item) → IsStamped 0 (enters a ∷ sends (trigger.Fire a) (b ∷ []) ∷ []) → IsStamped 0 (enters b ∷ sends (trigger.Fire b) (a ∷ []) ∷ []) → ⊥ }
 {}

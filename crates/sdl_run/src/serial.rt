@@ -5,14 +5,16 @@ ghost use Rattle.sdl_transition.specs.Bound.{AreOneSystem, IsBound, structure_of
 ghost use Rattle.sdl_transition.specs.Rules.{block_rules};
 ghost use Rattle.sdl_instances.specs.Core.{IsBoundIn, signals_of, sets_of};
 ghost use Rattle.sdl_block.specs.Workers.{behaviours_of};
-ghost use Rattle.sdl_run.specs.Closings.{HasRoom, IsSameBound, IsSystemOf, outcome_in, plan_of_bound};
+ghost use Rattle.sdl_run.specs.Closings.{HasRoom, HasReadIn, HasWrittenIn, StopsByMemory, IsSameBound, IsSystemOf, outcome_in, plan_of_bound};
 ghost use Rattle.sdl_run.specs.Drivers.{plan_of, IsDriving};
 ghost use Rattle.sdl_run.specs.Ends.{HasEnded};
-ghost use Rattle.sdl_run.specs.Plan.{IsClosed};
+ghost use Rattle.sdl_run.specs.Plan.{blocks_in};
+ghost use Rattle.sdl_run.specs.EnvironmentWork.{IsEnvFresh};
 ghost use Rattle.sdl_run.specs.Serial.{IsNew, IsSpace, IsBoundOf, IsBackIn, plan_of_parts};
 
 use crate::closing::{Closing, Room, StartFault, take_first};
 use crate::driver::Driver;
+use crate::environment::EnvWorker;
 use crate::start::forwarders_of;
 use sdl_block::BlockWorker;
 use sdl_forward::{Board, Forwarder};
@@ -22,6 +24,7 @@ use sdl_routes::Routes;
 use sdl_structure::Checked;
 use sdl_transition::{Agents, BlockParts, Bound};
 use std::alloc::{AllocError, Global};
+use std::io::{Read, Write};
 
 /// What a run takes before its blocks: the board, the forwarders, the lists of its closing, and room for the blocks.
 #[derive(Drop)]
@@ -142,21 +145,31 @@ fn gather<S: Agents>(
 }
 
 /// Carries out a run whose driver stands, and takes the driver apart.
-fn drive<S: Agents>(driver: Driver<S>, room: Room<S>, schedule: &[u32]) -> Closing<S>
+fn drive<S: Agents, R: Read, W: Write>(
+    driver: Driver<S>,
+    room: Room<S>,
+    schedule: &[u32],
+    input: &mut R,
+    output: &mut W,
+) -> Closing<S>
     requires driving { IsDriving S.may driver }
+    requires fresh { IsEnvFresh (blocks_in (plan_of driver)) driver.environment }
     requires system { AreOneSystem S.may driver.checked driver.routes (map behaviours_of driver.blocks.items) }
     requires room { HasRoom (length driver.blocks.items) (length driver.blocks.items + (length driver.forwarders.items + 1)) room }
     requires empty { (room.parts.items ≡ []) × (room.logs.items ≡ []) × (room.hands.items ≡ []) }
-    ensures ended { HasEnded S.may (plan_of driver) (outcome_in result) result.end }
+    ensures ended { HasEnded S.may (plan_of driver) (outcome_in result) result.end result.ledger }
+    ensures reading { HasReadIn (plan_of driver) (R.remaining input.old) (R.remaining input.new) result }
+    ensures writing { HasWrittenIn (plan_of driver) (W.contents output.old) (W.contents output.new) result }
+    ensures stopped { StopsByMemory result.input result.end }
     ensures bound { IsSystemOf driver result.bound }
 {
     let mut driver = driver;
-    let refused = driver.run(schedule);
+    let refused = driver.run(schedule, input, output);
     driver.close(room, refused)
 }
 
 /// Runs the blocks in their space, where they all start.
-fn run_in<S: Agents>(
+fn run_in<S: Agents, R: Read, W: Write>(
     alloc: Global,
     checked: Checked,
     routes: Routes,
@@ -164,14 +177,19 @@ fn run_in<S: Agents>(
     space: Space<S>,
     budget: u32,
     schedule: &[u32],
+    input: &mut R,
+    output: &mut W,
 ) -> Result<Closing<S>, Bound<S>>
     requires budget { (1 ≤ budget) × (budget ≤ 1000000) }
     requires system { AreOneSystem S.may checked routes blocks.items }
-    requires closed { IsClosed checked }
     requires space { IsSpace checked routes (length blocks.items) space }
-    ensures ended { IfOk result (λ c. HasEnded S.may (plan_of_parts checked routes blocks.items budget) (outcome_in c) c.end) }
+    ensures ended { IfOk result (λ c. HasEnded S.may (plan_of_parts checked routes blocks.items budget) (outcome_in c) c.end c.ledger) }
+    ensures reading { IfOk result (λ c. HasReadIn (plan_of_parts checked routes blocks.items budget) (R.remaining input.old) (R.remaining input.new) c) }
+    ensures writing { IfOk result (λ c. HasWrittenIn (plan_of_parts checked routes blocks.items budget) (W.contents output.old) (W.contents output.new) c) }
+    ensures stopped { IfOk result (λ c. StopsByMemory c.input c.end) }
     ensures bound { IfOk result (λ c. IsBoundOf checked routes blocks.items c.bound) }
     ensures back { IfErr result (λ b. IsBoundOf checked routes blocks.items b × IsBound S.may b) }
+    ensures untouched { IfErr result (λ b. (input.new ≡ input.old) × (output.new ≡ output.old)) }
 {
     checked.structure();
     parts_are_bound(&checked, &routes, blocks.as_slice());
@@ -182,18 +200,22 @@ fn run_in<S: Agents>(
         room,
         workers,
     } = space;
+    let environment = EnvWorker::new(alloc, blocks.len() as u32);
     match start_blocks(alloc, &checked, budget, blocks, workers) {
         Ok(blocks) => Ok(drive(
             Driver {
                 checked,
                 routes,
                 blocks,
+                environment,
                 forwarders,
                 board,
                 budget,
             },
             room,
             schedule,
+            input,
+            output,
         )),
         Err((workers, refused, rest)) => {
             let parts = gather(room.parts, workers, refused, rest);
@@ -202,26 +224,36 @@ fn run_in<S: Agents>(
     }
 }
 
-/// Runs a closed system on one thread until it ends. Each number of the schedule lets one worker make a step, the one of
+/// Runs a system on one thread until it ends: it reads the environment's signals as lines of the input, and writes what the
+/// environment receives as lines of the output. Each number of the schedule lets one worker make a step, the one of
 /// that number modulo the workers, with the quotient as its pick; all workers then take turns until nothing is left to do,
 /// or a budget is used, or memory is refused. `budget` is the number of turns that each block may have.
 /// Where memory is refused before the first step, the system is handed back.
-pub fn run_serial<S: Agents>(
+pub fn run_serial<S: Agents, R: Read, W: Write>(
     alloc: Global,
     bound: Bound<S>,
     budget: u32,
     schedule: &[u32],
+    input: &mut R,
+    output: &mut W,
 ) -> Result<Closing<S>, StartFault<S>>
     requires bound { IsBound S.may bound }
     requires budget { (1 ≤ budget) × (budget ≤ 1000000) }
-    requires closed { IsClosed (structure_of bound) }
-    ensures ended { IfOk result (λ c. HasEnded S.may (plan_of_bound bound budget) (outcome_in c) c.end) }
+    ensures ended { IfOk result (λ c. HasEnded S.may (plan_of_bound bound budget) (outcome_in c) c.end c.ledger) }
+    // What was read of the input, with what became of each line, and how the reading ended.
+    ensures reading { IfOk result (λ c. HasReadIn (plan_of_bound bound budget) (R.remaining input.old) (R.remaining input.new) c) }
+    // What was written to the output.
+    ensures writing { IfOk result (λ c. HasWrittenIn (plan_of_bound bound budget) (W.contents output.old) (W.contents output.new) c) }
+    ensures stopped { IfOk result (λ c. StopsByMemory c.input c.end) }
     ensures bound { IfOk result (λ c. IsSameBound bound c.bound) }
     ensures back { IfErr result (λ f. IsBackIn S.may bound f) }
+    ensures untouched { IfErr result (λ f. (input.new ≡ input.old) × (output.new ≡ output.old)) }
 {
     let (checked, routes, blocks) = bound.into_blocks();
     match make_space(alloc, &checked, &routes, blocks.len()) {
-        Ok(space) => match run_in(alloc, checked, routes, blocks, space, budget, schedule) {
+        Ok(space) => match run_in(
+            alloc, checked, routes, blocks, space, budget, schedule, input, output,
+        ) {
             Ok(closing) => Ok(closing),
             Err(bound) => Err(StartFault::Memory(bound)),
         },

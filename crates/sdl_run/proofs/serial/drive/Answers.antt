@@ -1,5 +1,5 @@
 use Rattle.sdl_run.specs.Closings.{outcome_in}
-use Rattle.sdl_run.proofs.Fresh.{system_same, room_same, ended_same}
+use Rattle.sdl_run.proofs.Fresh.{system_same, room_same, ended_same, reading_same, writing_same}
 use Rattle.sdl_run.proofs.serial.drive.Goals as goal
 
 pub close-requires-clause-system : goal.close-requires-clause-system
@@ -9,4 +9,10 @@ pub close-requires-clause-room : goal.close-requires-clause-room
 close-requires-clause-room g c = room_same g.S.Agents.may c.args.driver c.run-refused.new.self c.args.room c.run-refused.ensures.same c.requires.driving c.run-refused.ensures.driving c.requires.room
 
 pub returns-clause-ended : goal.returns-clause-ended
-returns-clause-ended g c = ended_same g.S.Agents.may c.args.driver c.run-refused.new.self (outcome_in c.close.result) c.close.result.end c.run-refused.ensures.same c.close.ensures.ended
+returns-clause-ended g c = ended_same g.S.Agents.may c.args.driver c.run-refused.new.self (outcome_in c.close.result) c.close.result.end c.close.result.ledger c.run-refused.ensures.same c.close.ensures.ended
+
+pub returns-clause-reading : goal.returns-clause-reading
+returns-clause-reading g c = reading_same g.S.Agents.may c.args.driver c.run-refused.new.self c.run-refused.ensures.same c.requires.fresh c.close.result _ _ c.run-refused.ensures.reading c.close.ensures.reading
+
+pub returns-clause-writing : goal.returns-clause-writing
+returns-clause-writing g c = writing_same g.S.Agents.may c.args.driver c.run-refused.new.self c.run-refused.ensures.same c.requires.fresh c.close.result _ _ c.run-refused.ensures.writing c.close.ensures.writing

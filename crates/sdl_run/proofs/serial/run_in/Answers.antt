@@ -1,11 +1,11 @@
-use Rattle.std.proofs.Common.{◌+◌, map, length, sym, ◌∙◌, arith}
+use Rattle.std.proofs.Common.{◌≡◌, ◌+◌, map, length, sym, ◌∙◌, arith}
 use Rattle.sdl_transition.specs.Rules.{block_rules}
 use Rattle.sdl_instances.specs.Core.{IsBoundIn, signals_of, sets_of}
 use Rattle.sdl_block.specs.Workers.{behaviours_of}
 use Rattle.sdl_run.specs.Closings.{outcome_in}
 use Rattle.sdl_run.proofs.Begins.{room_for}
 use Rattle.sdl_run.proofs.Closes.{system_kept}
-use Rattle.sdl_run.proofs.Fresh.{all_same, parts_count, driving, ended_of}
+use Rattle.sdl_run.proofs.Fresh.{all_same, parts_count, env_fresh, driving, ended_of}
 use Rattle.sdl_run.proofs.serial.run_in.Goals as goal
 
 pub parts_are_bound-requires : goal.parts_are_bound-requires
@@ -17,10 +17,16 @@ start_blocks-requires-clause-bound g c =
 
 pub drive-requires-clause-driving : goal.drive-requires-clause-driving
 drive-requires-clause-driving g c =
+    let count : c.len-2.result ≡ length c.args.checked.blocks = omega (arith, c.len-2.ensures, c.requires.system.dealt.blocks_are) in
     let system = system_kept g.S.Agents.may c.args.checked c.args.routes c.args.blocks.items (map behaviours_of c.in-Ok.blocks.items) c.in-Ok.ensures.parts c.requires.system in
-    driving g.S.Agents.may (record { checked = c.args.checked; routes = c.args.routes; blocks = c.in-Ok.blocks; forwarders = c.args.space.forwarders; board = c.args.space.board; budget = c.args.budget })
-    c.in-Ok.ensures.new system c.requires.space.forwarders c.requires.space.board c.requires.space.empty c.as_slice.result.now (c.as_slice.ensures.value ∙ sym c.in-Ok.ensures.parts)
-    c.structure.ensures.is_structure c.len.ensures.table c.requires.closed c.parts_are_bound.ensures.allowed c.parts_are_bound.ensures.indexed
+    driving g.S.Agents.may (record { checked = c.args.checked; routes = c.args.routes; blocks = c.in-Ok.blocks; environment = c.new-environment.result; forwarders = c.args.space.forwarders; board = c.args.space.board; budget = c.args.budget })
+    c.in-Ok.ensures.new system (env_fresh c.len-2.result (length c.args.checked.blocks) c.new-environment.result count c.new-environment.ensures) c.requires.space.forwarders c.requires.space.board c.requires.space.empty c.as_slice.result.now (c.as_slice.ensures.value ∙ sym c.in-Ok.ensures.parts)
+    c.structure.ensures.is_structure c.len.ensures.table c.parts_are_bound.ensures.allowed c.parts_are_bound.ensures.indexed
+
+pub drive-requires-clause-fresh : goal.drive-requires-clause-fresh
+drive-requires-clause-fresh g c =
+    let count : c.len-2.result ≡ length c.args.checked.blocks = omega (arith, c.len-2.ensures, c.requires.system.dealt.blocks_are) in
+    env_fresh c.len-2.result (length c.args.checked.blocks) c.new-environment.result count c.new-environment.ensures
 
 pub drive-requires-clause-system : goal.drive-requires-clause-system
 drive-requires-clause-system g c = system_kept g.S.Agents.may c.args.checked c.args.routes c.args.blocks.items (map behaviours_of c.in-Ok.blocks.items) c.in-Ok.ensures.parts c.requires.system
@@ -35,5 +41,5 @@ of_blocks-requires g c = system_kept g.S.Agents.may c.args.checked c.args.routes
 
 pub returns-in-Ok-clause-ended : goal.returns-in-Ok-clause-ended
 returns-in-Ok-clause-ended g c =
-    ended_of g.S.Agents.may (record { checked = c.args.checked; routes = c.args.routes; blocks = c.in-Ok.blocks; forwarders = c.args.space.forwarders; board = c.args.space.board; budget = c.args.budget })
-    c.args.blocks.items (outcome_in c.drive.result) c.drive.result.end c.in-Ok.ensures.parts c.drive.ensures.ended
+    ended_of g.S.Agents.may (record { checked = c.args.checked; routes = c.args.routes; blocks = c.in-Ok.blocks; environment = c.new-environment.result; forwarders = c.args.space.forwarders; board = c.args.space.board; budget = c.args.budget })
+    c.args.blocks.items (outcome_in c.drive.result) c.drive.result.end c.drive.result.ledger c.in-Ok.ensures.parts c.drive.ensures.ended

@@ -1,10 +1,9 @@
-use Rattle.std.proofs.Common.{ℕ, ◌≡◌, ◌≢◌, ◌≤◌, ◌+◌, ◌-◌, length, arith, refl, subst}
-use Rattle.std.proofs.lemmas.Option.{slice_get_within}
+use Rattle.std.proofs.Common.{ℕ, ◌≡◌, ◌≢◌, ◌≤◌, ◌+◌, ◌-◌, length, arith, subst}
 use Rattle.std.proofs.lemmas.List.{length-map}
 use Rattle.sdl_forward.specs.declared.forwarder.Forwarded.{Forwarded}
 use Rattle.sdl_block.specs.Workers.{worker_of}
 use Rattle.sdl_run.specs.Drivers.{site_of, plan_of, StepAnswers, stepped_by}
-use Rattle.sdl_run.proofs.Drives.{workers_count, block_answers, block_drives, forwarder_answers, forwarder_drives}
+use Rattle.sdl_run.proofs.Drives.{workers_count, block_answers, block_drives, environment_answers, environment_drives, forwarder_answers, forwarder_drives, reads_still, writes_still}
 use Rattle.sdl_run.proofs.driver.Driver.step.Goals as goal
 
 place_is : (n b l : ℕ) → l ≡ b → b ≤ n → n ≢ b → n ≡ l + 1 + (n - b - 1)
@@ -17,18 +16,26 @@ pub returns-then-number-blocks-clause-answer : goal.returns-then-number-blocks-c
 returns-then-number-blocks-clause-answer g c =
     block_answers g.S.Agents.may (plan_of c.args.self.now) c.requires.driving.plan (site_of c.args.self.now) (site_of c.step_block.new.self) c.requires.driving.work c.args.number c.step_block.result c.step_block.ensures.step
 
+pub returns-then-number-blocks-clause-reading : goal.returns-then-number-blocks-clause-reading
+returns-then-number-blocks-clause-reading g c =
+    let d = c.args.self.now in
+    reads_still (plan_of d) d.environment c.step_block.new.self.environment (g.R.Read.remaining c.args.input.now) c.step_block.ensures.step.environment
+
+pub returns-then-number-blocks-clause-writing : goal.returns-then-number-blocks-clause-writing
+returns-then-number-blocks-clause-writing g c =
+    let d = c.args.self.now in
+    writes_still (plan_of d) d.environment c.step_block.new.self.environment (g.W.Write.contents c.args.output.now) c.step_block.ensures.step.environment
+
+pub returns-then-number-blocks-2-clause-driving : goal.returns-then-number-blocks-2-clause-driving
+returns-then-number-blocks-2-clause-driving g c =
+    environment_drives g.S.Agents.may c.args.self.now c.step_environment.new.self c.requires.driving c.step_environment.ensures.same c.step_environment.result c.step_environment.ensures.step
+
 pub returns-then-number-blocks-2-clause-answer : goal.returns-then-number-blocks-2-clause-answer
 returns-then-number-blocks-2-clause-answer g c =
     let d = c.args.self.now in
-    let b = length-map d.blocks.items worker_of in
-    let e = c.len-blocks.ensures in
-    let same = c.if-number-blocks-2.true in (
-      refl,
-      record {
-        block = λ w at. let l = slice_get_within (site_of d).blocks c.args.number w at in absurd (omega arith);
-        forwarder = λ k f n at. absurd (omega arith);
-      },
-    )
+    let at : c.args.number ≡ length (site_of d).blocks = omega (arith, length-map d.blocks.items worker_of, c.len-blocks.ensures, c.if-number-blocks-2.true) in
+    environment_answers g.S.Agents.may (plan_of d) c.requires.driving.plan (site_of d) (site_of c.step_environment.new.self) c.requires.driving.work c.args.number c.step_environment.result at
+    c.step_environment.ensures.step
 
 pub step_forwarder-requires-clause-within : goal.step_forwarder-requires-clause-within
 step_forwarder-requires-clause-within g c =
@@ -68,3 +75,33 @@ returns-in-Idle-clause-answer g c =
     let at = place_is c.args.number c.len-blocks.result (length (site_of d).blocks) (omega (arith, c.len-blocks.ensures, length-map d.blocks.items worker_of)) c.if-number-blocks.false c.if-number-blocks-2.false in
     subst (λ (a : Forwarded). StepAnswers (plan_of d) c.args.number (stepped_by a) (site_of d) (site_of new)) c.in-Idle.is
     (forwarder_answers g.S.Agents.may (plan_of d) c.requires.driving.plan (site_of d) (site_of new) c.requires.driving.work c.args.number (c.args.number - c.len-blocks.result - 1) c.step_forwarder.result at c.step_forwarder.ensures.step)
+
+pub returns-in-Moved-clause-reading : goal.returns-in-Moved-clause-reading
+returns-in-Moved-clause-reading g c =
+    let d = c.args.self.now in
+    reads_still (plan_of d) d.environment c.step_forwarder.new.self.environment (g.R.Read.remaining c.args.input.now) c.step_forwarder.ensures.step.environment
+
+pub returns-in-Moved-clause-writing : goal.returns-in-Moved-clause-writing
+returns-in-Moved-clause-writing g c =
+    let d = c.args.self.now in
+    writes_still (plan_of d) d.environment c.step_forwarder.new.self.environment (g.W.Write.contents c.args.output.now) c.step_forwarder.ensures.step.environment
+
+pub returns-in-Idle-clause-reading : goal.returns-in-Idle-clause-reading
+returns-in-Idle-clause-reading g c =
+    let d = c.args.self.now in
+    reads_still (plan_of d) d.environment c.step_forwarder.new.self.environment (g.R.Read.remaining c.args.input.now) c.step_forwarder.ensures.step.environment
+
+pub returns-in-Idle-clause-writing : goal.returns-in-Idle-clause-writing
+returns-in-Idle-clause-writing g c =
+    let d = c.args.self.now in
+    writes_still (plan_of d) d.environment c.step_forwarder.new.self.environment (g.W.Write.contents c.args.output.now) c.step_forwarder.ensures.step.environment
+
+pub returns-in-Held-clause-reading : goal.returns-in-Held-clause-reading
+returns-in-Held-clause-reading g c =
+    let d = c.args.self.now in
+    reads_still (plan_of d) d.environment c.step_forwarder.new.self.environment (g.R.Read.remaining c.args.input.now) c.step_forwarder.ensures.step.environment
+
+pub returns-in-Held-clause-writing : goal.returns-in-Held-clause-writing
+returns-in-Held-clause-writing g c =
+    let d = c.args.self.now in
+    writes_still (plan_of d) d.environment c.step_forwarder.new.self.environment (g.W.Write.contents c.args.output.now) c.step_forwarder.ensures.step.environment
