@@ -1,1 +1,3 @@
 pub mod Piped
+pub mod Keeping
+pub mod Words

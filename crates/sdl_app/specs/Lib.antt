@@ -1,2 +1,4 @@
 pub mod Pipe
 pub mod Arguments
+pub mod Running
+pub mod Stored

@@ -1,6 +1,9 @@
 //! How an input and an output ended, on standard error.
+use crate::names::block_name;
 use crate::program::{FAULTY, WHOLE};
+use sdl_run::RunEnd;
 use sdl_signal::{InputEnd, OutputEnd};
+use sdl_structure::Structure;
 use std::io::Write;
 
 /// The end of an output whose last bytes were flushed.
@@ -18,7 +21,8 @@ pub fn report<E: Write>(input: InputEnd, output: OutputEnd, errors: &mut E) -> u
     read.max(written)
 }
 
-fn report_input<E: Write>(end: InputEnd, errors: &mut E) -> u8 {
+/// Writes that an input had a fault, where it had one, and answers the exit status.
+pub fn report_input<E: Write>(end: InputEnd, errors: &mut E) -> u8 {
     let _ = match end {
         InputEnd::Whole | InputEnd::Stopped(_) => return WHOLE,
         InputEnd::BadLine(line, fault) => writeln!(errors, "input line {line}: {fault}"),
@@ -37,4 +41,14 @@ pub fn report_output<E: Write>(end: OutputEnd, errors: &mut E) -> u8 {
             FAULTY
         }
     }
+}
+
+/// Writes how a run ended, where it did not end quietly, and answers the exit status.
+pub fn report_end<E: Write>(structure: &Structure, end: RunEnd, errors: &mut E) -> u8 {
+    let _ = match end {
+        RunEnd::Quiet => return WHOLE,
+        RunEnd::Spent(block) => writeln!(errors, "end spent {}", block_name(structure, block)),
+        RunEnd::Memory(worker) => writeln!(errors, "end memory worker {worker}"),
+    };
+    FAULTY
 }

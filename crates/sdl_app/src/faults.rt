@@ -1,6 +1,8 @@
-//! The texts of the checker's faults.
+//! The texts of the faults of the checker and of binding.
 use crate::names::{agent_name, channel_name, end_agent_name, gate_name, set_name, signal_name};
+use crate::program::without_memory;
 use sdl_structure::{CheckFault, Direction, Side, Structure};
+use sdl_transition::BindFault;
 use std::io::{Result, Write};
 
 /// Writes the fault of the structure as one line.
@@ -65,4 +67,21 @@ fn side_text(side: Side) -> &'static str {
         Side::Outer => "outside",
         Side::Inner => "inside",
     }
+}
+
+/// Writes why behaviours could not be bound, as one line. A line that is not taken is dropped.
+pub fn write_bind_fault<E: Write>(errors: &mut E, fault: BindFault) {
+    let (text, set) = match fault {
+        BindFault::NoBehaviour(set) => ("B1 NoBehaviour", set),
+        BindFault::TwoBehaviours(set) => ("B2 TwoBehaviours", set),
+        BindFault::WrongName(set) => ("B3 WrongName", set),
+        BindFault::UndeclaredOutput(set) => ("B4 UndeclaredOutput", set),
+        BindFault::UndeclaredGate(set) => ("B5 UndeclaredGate", set),
+        BindFault::UnknownState(set) => ("B6 UnknownState", set),
+        BindFault::WrongSorts(set) => ("B7 WrongSorts", set),
+        BindFault::CreateElsewhere(set) => ("B8 CreateElsewhere", set),
+        BindFault::TwoRows(set) => ("B9 TwoRows", set),
+        BindFault::Memory => return without_memory(errors),
+    };
+    let _ = writeln!(errors, "{text} set {}", set.0);
 }

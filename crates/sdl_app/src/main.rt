@@ -1,14 +1,18 @@
 //! `sdlrun`: systems of communicating agents with the structure and signalling of SDL-2010.
 #![tactic(auto)]
 
+mod agents;
 mod arguments;
 mod ends;
 mod faults;
 mod files;
+mod ledger;
 mod names;
 mod pipe;
 mod program;
+mod running;
 mod systems;
+mod trace;
 
 use std::io::BufWriter;
 use std::process::ExitCode;

@@ -1,5 +1,5 @@
 //! The names of a structure's parts, as its file writes them.
-use sdl_signal::{ChannelId, GateId, SetId, SignalId};
+use sdl_signal::{BlockId, ChannelId, GateId, SetId, SignalId};
 use sdl_structure::{Owner, Scope, Structure};
 
 pub fn signal_name(structure: &Structure, signal: SignalId) -> &str {
@@ -12,6 +12,13 @@ pub fn signal_name(structure: &Structure, signal: SignalId) -> &str {
 pub fn set_name(structure: &Structure, set: SetId) -> &str {
     match structure.sets().get(set.0 as usize) {
         Some(set) => set.name.as_str(),
+        None => "",
+    }
+}
+
+pub fn block_name(structure: &Structure, block: BlockId) -> &str {
+    match structure.blocks().get(block.0 as usize) {
+        Some(block) => block.name.as_str(),
         None => "",
     }
 }
@@ -42,10 +49,7 @@ fn owner_name(structure: &Structure, owner: Owner) -> &str {
     match owner {
         Owner::System => "env",
         Owner::Set(set) => set_name(structure, set),
-        Owner::Block(block) => match structure.blocks().get(block.0 as usize) {
-            Some(block) => block.name.as_str(),
-            None => "",
-        },
+        Owner::Block(block) => block_name(structure, block),
     }
 }
 

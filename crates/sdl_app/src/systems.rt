@@ -1,10 +1,14 @@
 //! The commands on a structure file.
+ghost use Rattle.std.specs.Prelude.{IfSome};
+ghost use Rattle.sdl_app.specs.Running.{HasBudget, CanRun};
+
 use crate::arguments::{Command, Options};
 use crate::ends::{flushed, report_output};
 use crate::faults::write_check_fault;
 use crate::files::LONGEST_FILE;
 use crate::names::{agent_name, channel_name, gate_name, signal_name};
 use crate::program::REFUSED;
+use crate::running::{Settings, run_command};
 use sdl_routes::{Route, Routes};
 use sdl_signal::{OutputEnd, RouteId};
 use sdl_structure::{Checked, FileFault, Structure, check, read_structure};
@@ -12,37 +16,71 @@ use std::alloc::Global;
 use std::io::{Read, Result, Write};
 
 /// Carries out the command on the bytes of a structure file, and answers the exit status: the first refusal of the
-/// file, of its structure and, where routes are wanted, of their table; and else what the command prints.
+/// file, of its structure, of the table of its routes or of its agents; and else what the command prints, or how the run
+/// ended.
 pub fn run_file<H, R: Read, W: Write, E: Write>(
     _rt: &H,
     alloc: Global,
     file: &[u8],
     options: Options,
-    _input: &mut R,
+    input: &mut R,
     output: &mut W,
     errors: &mut E,
 ) -> u8 {
-    let Some(checked) = checked_file(alloc, file, errors) else {
+    let settings = Settings {
+        alloc,
+        options,
+        schedule: &[],
+    };
+    carry_out(settings, file, input, output, errors)
+}
+
+#[tactic(auto, unfolding(crate::specs::Running::CanRun))]
+/// Carries out a command on the bytes of a structure file; a run by the schedule of the settings.
+pub fn carry_out<R: Read, W: Write, E: Write>(
+    settings: Settings,
+    file: &[u8],
+    input: &mut R,
+    output: &mut W,
+    errors: &mut E,
+) -> u8 {
+    let Some(checked) = checked_file(settings.alloc, file, errors) else {
         return REFUSED;
     };
-    match options.command {
-        Command::Check => written(write_check(output, checked.structure()), output, errors),
-        Command::Routes | Command::Run => match Routes::build(alloc, &checked) {
-            Ok(routes) => written(
-                write_routes(output, checked.structure(), &routes),
-                output,
-                errors,
-            ),
-            Err(fault) => {
-                let _ = writeln!(errors, "{fault}");
-                REFUSED
-            }
-        },
+    if settings.options.command == Command::Check {
+        return written(write_check(output, checked.structure()), output, errors);
+    }
+    match Routes::build(settings.alloc, &checked) {
+        Ok(routes) => with_routes(settings, checked, routes, input, output, errors),
+        Err(fault) => {
+            let _ = writeln!(errors, "{fault}");
+            REFUSED
+        }
     }
 }
 
+/// Carries out `routes` or `run`, which need the routes.
+fn with_routes<R: Read, W: Write, E: Write>(
+    settings: Settings,
+    checked: Checked,
+    routes: Routes,
+    input: &mut R,
+    output: &mut W,
+    errors: &mut E,
+) -> u8
+    requires { CanRun checked routes }
+{
+    if settings.options.command == Command::Run {
+        return run_command(settings, checked, routes, input, output, errors);
+    }
+    let text = write_routes(output, checked.structure(), &routes);
+    written(text, output, errors)
+}
+
 /// The structure of the file, where the file keeps all rules; else the first that it breaks is written.
-fn checked_file<E: Write>(alloc: Global, file: &[u8], errors: &mut E) -> Option<Checked> {
+fn checked_file<E: Write>(alloc: Global, file: &[u8], errors: &mut E) -> Option<Checked>
+    ensures { IfSome result (λ c. HasBudget c) }
+{
     if file.len() > LONGEST_FILE {
         let _ = writeln!(errors, "file: too long");
         return None;
