@@ -1,6 +1,6 @@
 -- What a run starts from.
 use Rattle.std.specs.Prelude.{ℕ, ◌≤◌, List}
-use Rattle.sdl_structure.specs.Structure.{Structure}
+use Rattle.sdl_parts.specs.Structure.{Structure}
 use Rattle.sdl_routes.specs.declared.parts.Row.{Row}
 use Rattle.sdl_routes.specs.Routes.{AreRoutesOf}
 

@@ -3,7 +3,7 @@ use crate::names::block_name;
 use crate::program::{FAULTY, WHOLE};
 use sdl_run::RunEnd;
 use sdl_signal::{InputEnd, OutputEnd};
-use sdl_structure::Structure;
+use sdl_parts::Structure;
 use std::io::Write;
 
 /// The end of an output whose last bytes were flushed.

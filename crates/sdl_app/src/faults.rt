@@ -1,7 +1,7 @@
 //! The texts of the faults of the checker and of binding.
 use crate::names::{agent_name, channel_name, end_agent_name, gate_name, set_name, signal_name};
 use crate::program::without_memory;
-use sdl_structure::{CheckFault, Direction, Side, Structure};
+use sdl_parts::{CheckFault, Direction, Side, Structure};
 use sdl_transition::BindFault;
 use std::io::{Result, Write};
 

@@ -1,6 +1,6 @@
 //! The names of a structure's parts, as its file writes them.
 use sdl_signal::{BlockId, ChannelId, GateId, SetId, SignalId};
-use sdl_structure::{Owner, Scope, Structure};
+use sdl_parts::{Owner, Scope, Structure};
 
 pub fn signal_name(structure: &Structure, signal: SignalId) -> &str {
     match structure.signals().get(signal.0 as usize) {

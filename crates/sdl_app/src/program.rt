@@ -4,7 +4,7 @@ use crate::ends;
 use crate::files::{FileRead, read_file};
 use crate::pipe::pipe;
 use crate::systems::run_file;
-use sdl_structure::FileFault;
+use sdl_parts::FileFault;
 use std::alloc::{AllocError, Global};
 use std::env;
 use std::io::{ErrorKind, Read, Write};

@@ -15,7 +15,7 @@ use crate::trace::write_trace;
 use sdl_routes::Routes;
 use sdl_run::{Closing, StartFault, run_serial};
 use sdl_signal::OutputEnd;
-use sdl_structure::Checked;
+use sdl_parts::Checked;
 use sdl_transition::{Agents, Behaviour, Bound, bind};
 use std::alloc::Global;
 use std::io::{Read, Result, Write};

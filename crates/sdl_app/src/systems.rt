@@ -11,7 +11,7 @@ use crate::program::REFUSED;
 use crate::running::{Settings, run_command};
 use sdl_routes::{Route, Routes};
 use sdl_signal::{OutputEnd, RouteId};
-use sdl_structure::{Checked, FileFault, Structure, check, read_structure};
+use sdl_parts::{Checked, FileFault, Structure, check, read_structure};
 use std::alloc::Global;
 use std::io::{Read, Result, Write};
 

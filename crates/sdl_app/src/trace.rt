@@ -2,7 +2,7 @@
 use crate::names::{set_name, signal_name};
 use sdl_instances::{Cause, Done, Event, Trigger};
 use sdl_signal::Pid;
-use sdl_structure::Structure;
+use sdl_parts::Structure;
 use std::io::{Result, Write};
 
 /// Writes the logs of all blocks, blocks by number: a line for each event, and after the line of a turn one for each thing

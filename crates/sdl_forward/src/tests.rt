@@ -6,7 +6,7 @@ mod systems;
 use crate::{Board, Forwarded, Forwarder};
 use sdl_routes::{Hop, Routes, Station};
 use sdl_signal::{ChannelId, Item, Origin, RouteId};
-use sdl_structure::{Checked, check, read_structure};
+use sdl_parts::{Checked, check, read_structure};
 use std::alloc::Global;
 use std::marker::Model;
 use std::test::Fail;

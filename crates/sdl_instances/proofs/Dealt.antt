@@ -7,9 +7,9 @@ use Rattle.std.proofs.lemmas.Option.{slice_get-map, slice_get_within}
 use Rattle.std.proofs.lemmas.List.{length-map}
 use Rattle.sdl_signal.specs.declared.ids.BlockId.{BlockId}
 use Rattle.sdl_signal.specs.declared.ids.SetId.{SetId}
-use Rattle.sdl_structure.specs.declared.parts.Set.{Set}
-use Rattle.sdl_structure.specs.Structure.{Structure, IsStructure, HasFewInstances}
-use Rattle.sdl_structure.specs.Rules.{IsWellFormed, StartsWithin}
+use Rattle.sdl_parts.specs.declared.parts.Set.{Set}
+use Rattle.sdl_parts.specs.Structure.{Structure, IsStructure, HasFewInstances}
+use Rattle.sdl_parts.specs.Rules.{IsWellFormed, StartsWithin}
 use Rattle.sdl_transition.specs.declared.behaviour.Behaviour.{Behaviour}
 use Rattle.sdl_transition.specs.declared.faults.BindFault.{BindFault}
 use Rattle.sdl_transition.specs.declared.faults.BindFault.TheVariants.{NoBehaviour, WrongName, UnknownState, WrongSorts, CreateElsewhere}

@@ -10,9 +10,9 @@ use Rattle.sdl_signal.specs.declared.ids.SignalId.{SignalId}
 use Rattle.sdl_signal.specs.declared.values.Value.{Value}
 use Rattle.sdl_signal.specs.declared.values.Value.TheVariants as value
 use Rattle.sdl_signal.specs.declared.values.Pid.TheVariants as pid
-use Rattle.sdl_structure.specs.declared.parts.Set.{Set}
-use Rattle.sdl_structure.specs.declared.parts.SignalDecl.{SignalDecl}
-use Rattle.sdl_structure.specs.Structure.{Structure, set_at}
+use Rattle.sdl_parts.specs.declared.parts.Set.{Set}
+use Rattle.sdl_parts.specs.declared.parts.SignalDecl.{SignalDecl}
+use Rattle.sdl_parts.specs.Structure.{Structure, set_at}
 use Rattle.sdl_transition.specs.declared.behaviour.Named.{Named}
 use Rattle.sdl_transition.specs.declared.behaviour.Row.{Row}
 use Rattle.sdl_transition.specs.declared.offer.Offer.{Offer}

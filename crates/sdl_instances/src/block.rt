@@ -18,7 +18,7 @@ use crate::table::Table;
 use arrayvec::ArrayVec;
 use sdl_routes::Routes;
 use sdl_signal::{Item, StateId};
-use sdl_structure::Checked;
+use sdl_parts::Checked;
 use sdl_transition::{Agents, BlockParts, Frame};
 use std::alloc::{AllocError, Global};
 

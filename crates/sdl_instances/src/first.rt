@@ -12,7 +12,7 @@ use crate::parts::ProcessSet;
 use arrayvec::ArrayVec;
 use indexmap::IndexMap;
 use sdl_signal::{BlockId, Pid, SetId, Sort, Value};
-use sdl_structure::{Set, SignalDecl};
+use sdl_parts::{Set, SignalDecl};
 use sdl_transition::{Behaviour, BlockParts};
 use std::alloc::{AllocError, Global};
 

@@ -23,7 +23,7 @@ use crate::ready::Look;
 use arrayvec::ArrayVec;
 use sdl_routes::{EndPoint, Routes};
 use sdl_signal::{BlockId, Item, Pid, RouteId, SetId, Sort};
-use sdl_structure::Structure;
+use sdl_parts::Structure;
 use sdl_transition::BlockParts;
 use std::alloc::{AllocError, Global};
 use std::marker::Model;

@@ -2,12 +2,12 @@
 use Rattle.std.proofs.Common.{◌≡◌, ℕ, List, [], ◌∷◌, Some, None, true, false, refl, codes, arith, inl, inr, ap}
 use Rattle.arrayvec.specs.ArrayString.{ArrayString}
 use Rattle.sdl_signal.specs.declared.values.Sort.TheVariants as sort
-use Rattle.sdl_structure.specs.declared.parts.End.{End}
-use Rattle.sdl_structure.specs.declared.parts.Gate.{Gate}
-use Rattle.sdl_structure.specs.declared.parts.Owner.TheVariants as owner
-use Rattle.sdl_structure.specs.declared.parts.Scope.TheVariants as scope
-use Rattle.sdl_structure.specs.declared.parts.Side.TheVariants.{Outer, Inner}
-use Rattle.sdl_structure.specs.Structure.{Structure}
+use Rattle.sdl_parts.specs.declared.parts.End.{End}
+use Rattle.sdl_parts.specs.declared.parts.Gate.{Gate}
+use Rattle.sdl_parts.specs.declared.parts.Owner.TheVariants as owner
+use Rattle.sdl_parts.specs.declared.parts.Scope.TheVariants as scope
+use Rattle.sdl_parts.specs.declared.parts.Side.TheVariants.{Outer, Inner}
+use Rattle.sdl_parts.specs.Structure.{Structure}
 use Rattle.sdl_routes.specs.declared.parts.Hop.{Hop}
 use Rattle.sdl_routes.specs.declared.parts.Row.{Row}
 use Rattle.sdl_routes.specs.declared.parts.Source.TheVariants as source

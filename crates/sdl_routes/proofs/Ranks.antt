@@ -2,20 +2,20 @@
 use Rattle.std.proofs.Common.{◌≡◌, ◌≢◌, ℕ, zero, suc, ◌+◌, ◌<◌, ◌≤◌, true, false, List, [], ◌∷◌, ◌++◌, map, filter, length, Option, Some, None, option_map, slice_get, IsSomeAnd, IfSome, cond, refl, ap, sym, subst, arith}
 use Rattle.std.specs.List.{AllByRecursion}
 use Rattle.sdl_signal.specs.declared.ids.SignalId.{SignalId}
-use Rattle.sdl_structure.specs.declared.parts.Set.{Set}
-use Rattle.sdl_structure.specs.declared.parts.Gate.{Gate}
-use Rattle.sdl_structure.specs.declared.parts.Channel.{Channel}
-use Rattle.sdl_structure.specs.declared.parts.End.{End}
-use Rattle.sdl_structure.specs.declared.parts.Owner.{Owner}
-use Rattle.sdl_structure.specs.declared.parts.Owner.TheVariants as owner
-use Rattle.sdl_structure.specs.declared.parts.Scope.{Scope}
-use Rattle.sdl_structure.specs.declared.parts.Scope.TheVariants as scope
-use Rattle.sdl_structure.specs.declared.parts.Side.{Side}
-use Rattle.sdl_structure.specs.declared.parts.Side.TheVariants.{Outer, Inner}
-use Rattle.sdl_structure.specs.declared.parts.Direction.{Direction}
-use Rattle.sdl_structure.specs.declared.parts.Direction.TheVariants.{Forth, Back}
-use Rattle.sdl_structure.specs.Structure.{Structure, IsStructure, Path, path_of, set_at, gate_at, channel_at, other_side, JoinsAt, IsEnd, ScopeExists, SignalsExist}
-use Rattle.sdl_structure.specs.Rules.{IsWellFormed, IsBlockGate, HasEndsApart}
+use Rattle.sdl_parts.specs.declared.parts.Set.{Set}
+use Rattle.sdl_parts.specs.declared.parts.Gate.{Gate}
+use Rattle.sdl_parts.specs.declared.parts.Channel.{Channel}
+use Rattle.sdl_parts.specs.declared.parts.End.{End}
+use Rattle.sdl_parts.specs.declared.parts.Owner.{Owner}
+use Rattle.sdl_parts.specs.declared.parts.Owner.TheVariants as owner
+use Rattle.sdl_parts.specs.declared.parts.Scope.{Scope}
+use Rattle.sdl_parts.specs.declared.parts.Scope.TheVariants as scope
+use Rattle.sdl_parts.specs.declared.parts.Side.{Side}
+use Rattle.sdl_parts.specs.declared.parts.Side.TheVariants.{Outer, Inner}
+use Rattle.sdl_parts.specs.declared.parts.Direction.{Direction}
+use Rattle.sdl_parts.specs.declared.parts.Direction.TheVariants.{Forth, Back}
+use Rattle.sdl_parts.specs.Structure.{Structure, IsStructure, Path, path_of, set_at, gate_at, channel_at, other_side, JoinsAt, IsEnd, ScopeExists, SignalsExist}
+use Rattle.sdl_parts.specs.Rules.{IsWellFormed, IsBlockGate, HasEndsApart}
 use Rattle.sdl_routes.specs.declared.parts.Hop.{Hop}
 use Rattle.sdl_routes.specs.declared.parts.EndPoint.{EndPoint}
 use Rattle.sdl_routes.specs.declared.parts.EndPoint.TheVariants as ends

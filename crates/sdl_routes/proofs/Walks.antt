@@ -3,11 +3,11 @@ use Rattle.std.proofs.Common.{◌≡◌, ◌≢◌, ℕ, zero, suc, ◌+◌, ◌
 use Rattle.std.specs.List.{AllByRecursion}
 use Rattle.std.proofs.lemmas.List.{map-append, length-append}
 use Rattle.sdl_signal.specs.declared.ids.SignalId.{SignalId}
-use Rattle.sdl_structure.specs.declared.parts.Channel.{Channel}
-use Rattle.sdl_structure.specs.declared.parts.Direction.{Direction}
-use Rattle.sdl_structure.specs.declared.parts.Direction.TheVariants.{Forth, Back}
-use Rattle.sdl_structure.specs.Structure.{Structure, IsStructure, path_of, channel_at, SignalsExist}
-use Rattle.sdl_structure.specs.Rules.{IsWellFormed}
+use Rattle.sdl_parts.specs.declared.parts.Channel.{Channel}
+use Rattle.sdl_parts.specs.declared.parts.Direction.{Direction}
+use Rattle.sdl_parts.specs.declared.parts.Direction.TheVariants.{Forth, Back}
+use Rattle.sdl_parts.specs.Structure.{Structure, IsStructure, path_of, channel_at, SignalsExist}
+use Rattle.sdl_parts.specs.Rules.{IsWellFormed}
 use Rattle.sdl_routes.specs.declared.parts.Hop.{Hop}
 use Rattle.sdl_routes.specs.declared.parts.Row.{Row}
 use Rattle.sdl_routes.specs.Routes.{hop_direction, Carries, Joins, JoinsLast, IsWalk, IsRoute, AreRoutesOf, HasTooMany, hop_number, place, row_place}

@@ -1,7 +1,7 @@
 -- The routes found so far: those whose places are before a bound.
 use Rattle.std.specs.Prelude.{◌≡◌, ℕ, suc, List, [], ◌∷◌, ⊤, Contains}
 use Rattle.std.specs.List.{AllByRecursion}
-use Rattle.sdl_structure.specs.Structure.{Structure}
+use Rattle.sdl_parts.specs.Structure.{Structure}
 use Rattle.sdl_routes.specs.declared.parts.Row.{Row}
 use Rattle.sdl_routes.specs.Routes.{IsRoute, IsBefore, row_place, AreInOrder}
 

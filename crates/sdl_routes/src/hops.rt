@@ -1,12 +1,12 @@
 //! One hop: its path, what it carries, and which hop it joins.
 ghost use Rattle.std.specs.Prelude.{◌≡◌, IsTrue, ◌↔◌, option_map};
-ghost use Rattle.sdl_structure.specs.Structure.{other_side};
-ghost use Rattle.sdl_structure.specs.Rules.{IsBlockGate};
+ghost use Rattle.sdl_parts.specs.Structure.{other_side};
+ghost use Rattle.sdl_parts.specs.Rules.{IsBlockGate};
 ghost use Rattle.sdl_routes.specs.Routes.{hop_path, last_of, Carries, Joins, JoinsLast, is_delaying as is_delaying_hop};
 
 use crate::parts::Hop;
 use sdl_signal::{GateId, SignalId};
-use sdl_structure::{End, Owner, Side, Structure};
+use sdl_parts::{End, Owner, Side, Structure};
 
 /// Whether the path of the hop carries the signal.
 pub fn carries(structure: &Structure, signal: SignalId, hop: Hop) -> bool

@@ -4,7 +4,7 @@ ghost use Rattle.sdl_routes.specs.declared.parts.Row.{Row};
 ghost use Rattle.sdl_routes.specs.Routes.{IsRoute, AreRoutesOf, AreRoutesShort};
 ghost use Rattle.sdl_routes.specs.Table.{IsPlain};
 
-use sdl_structure::Checked;
+use sdl_parts::Checked;
 
 /// A route has at most three hops and four stations, and no station twice. What a table shows of its routes holds of each.
 pub fn routes_are_short(checked: &Checked)

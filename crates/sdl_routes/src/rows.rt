@@ -7,7 +7,7 @@ use crate::hops::{finish_of, is_delaying, last_hop, start_of};
 use crate::parts::{EndPoint, Hop, Route, Row, Source, Station};
 use arrayvec::ArrayVec;
 use sdl_signal::{GateId, SignalId};
-use sdl_structure::{Owner, Structure};
+use sdl_parts::{Owner, Structure};
 
 /// The gate at which the hops start.
 fn start_gate(structure: &Structure, hops: &[Hop]) -> Option<GateId>

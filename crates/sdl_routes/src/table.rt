@@ -8,7 +8,7 @@ use crate::parts::{Route, Row, Station, Wish};
 use crate::search::all_routes;
 use crate::starts::starts_of;
 use sdl_signal::RouteId;
-use sdl_structure::Checked;
+use sdl_parts::Checked;
 use std::alloc::Global;
 use std::marker::Model;
 use thiserror::Error;

@@ -3,7 +3,7 @@ mod walks;
 
 use crate::{EndPoint, Goal, Hop, RouteFault, Routes, Source, Station, Via, Wish};
 use sdl_signal::{BlockId, ChannelId, GateId, RouteId, SetId, SignalId};
-use sdl_structure::{Checked, check, read_structure};
+use sdl_parts::{Checked, check, read_structure};
 use std::alloc::{AllocError, Global};
 use std::process::Abort;
 use std::test::Fail;

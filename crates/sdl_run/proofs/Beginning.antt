@@ -3,7 +3,7 @@ use Rattle.std.proofs.Common.{ℕ, suc, ◌+◌, ◌<◌, ◌≤◌, true, false
 use Rattle.std.proofs.lemmas.Bool.{cond-true, cond-false}
 use Rattle.std.proofs.lemmas.List.{append-nil}
 use Rattle.std.proofs.lemmas.List.{drop_all}
-use Rattle.sdl_structure.specs.declared.parts.Channel.{Channel}
+use Rattle.sdl_parts.specs.declared.parts.Channel.{Channel}
 use Rattle.sdl_routes.specs.declared.parts.Hop.{Hop}
 use Rattle.sdl_forward.specs.Forwards.{Forwarding}
 use Rattle.sdl_run.specs.Plan.{path_line, lines_from}

@@ -2,7 +2,7 @@
 use Rattle.std.proofs.Common.{ℕ, suc, ◌+◌, ◌≤◌, List, [], ◌∷◌, ◌++◌, length, map, All, Vec, vec_len, vec_capacity, ◌≡◌, refl, ap, sym, ◌∙◌, subst, arith, append_assoc}
 use Rattle.std.proofs.lemmas.List.{append-nil}
 use Rattle.std.specs.List.{AllByRecursion}
-use Rattle.sdl_structure.specs.Structure.{Structure}
+use Rattle.sdl_parts.specs.Structure.{Structure}
 use Rattle.sdl_routes.specs.declared.parts.Row.{Row}
 use Rattle.sdl_transition.specs.declared.step.Frame.{Frame}
 use Rattle.sdl_transition.specs.declared.step.Step.{Step}

@@ -23,7 +23,7 @@ use Rattle.sdl_run.specs.Counts.{Fits, IsLedgerOf, waiting_in}
 use Rattle.sdl_run.specs.Ends.{EndsAs, HasEnded}
 use Rattle.sdl_run.specs.Driver.{Site, IsIdle, outcome_of, finals_of, block_hand, env_hand, forwarder_hand}
 use Rattle.sdl_run.specs.Drivers.{site_of, plan_of, IsDriving, NoneSpent, FirstSpent, AllDone, SomeUndone, AllLeft, SomeLeft}
-use Rattle.sdl_structure.specs.Structure.{Structure}
+use Rattle.sdl_parts.specs.Structure.{Structure}
 use Rattle.sdl_routes.specs.declared.parts.Row.{Row}
 use Rattle.sdl_transition.specs.declared.parts.BlockParts.{BlockParts}
 use Rattle.sdl_transition.specs.Bound.{AreOneSystem}

@@ -6,7 +6,7 @@ use Rattle.sdl_signal.specs.declared.ends.InputEnd.{InputEnd}
 use Rattle.sdl_signal.specs.declared.ends.OutputEnd.{OutputEnd}
 use Rattle.sdl_signal.specs.declared.ends.OutputEnd.TheVariants as output
 use Rattle.sdl_signal.specs.Environment.{HasCarried, HasRead}
-use Rattle.sdl_structure.specs.Structure.{Structure, lexicon_of}
+use Rattle.sdl_parts.specs.Structure.{Structure, lexicon_of}
 use Rattle.sdl_routes.specs.declared.parts.Row.{Row}
 use Rattle.sdl_routes.specs.declared.parts.Station.{Station}
 use Rattle.sdl_routes.specs.declared.parts.Station.TheVariants.{Outlet}

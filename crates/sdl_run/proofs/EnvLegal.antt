@@ -13,12 +13,12 @@ use Rattle.sdl_signal.specs.declared.environment.EnvRead.TheVariants as env
 use Rattle.sdl_signal.specs.Names.{Declared}
 use Rattle.sdl_signal.specs.Line.{line_text}
 use Rattle.sdl_signal.specs.Environment.{IsEnvLine}
-use Rattle.sdl_structure.specs.declared.parts.SignalDecl.{SignalDecl}
-use Rattle.sdl_structure.specs.declared.parts.Set.{Set}
-use Rattle.sdl_structure.specs.declared.parts.Gate.{Gate}
-use Rattle.sdl_structure.specs.declared.parts.Owner.{Owner}
-use Rattle.sdl_structure.specs.declared.parts.Owner.TheVariants as owner
-use Rattle.sdl_structure.specs.Structure.{Structure, IsStructure, AreSystemFirst, lexicon_of, system_gate_name, declared, set_at, gate_at}
+use Rattle.sdl_parts.specs.declared.parts.SignalDecl.{SignalDecl}
+use Rattle.sdl_parts.specs.declared.parts.Set.{Set}
+use Rattle.sdl_parts.specs.declared.parts.Gate.{Gate}
+use Rattle.sdl_parts.specs.declared.parts.Owner.{Owner}
+use Rattle.sdl_parts.specs.declared.parts.Owner.TheVariants as owner
+use Rattle.sdl_parts.specs.Structure.{Structure, IsStructure, AreSystemFirst, lexicon_of, system_gate_name, declared, set_at, gate_at}
 use Rattle.sdl_routes.specs.declared.parts.Row.{Row}
 use Rattle.sdl_routes.specs.declared.parts.EndPoint.{EndPoint}
 use Rattle.sdl_routes.specs.declared.parts.EndPoint.TheVariants as ends

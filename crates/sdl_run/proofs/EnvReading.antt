@@ -10,7 +10,7 @@ use Rattle.sdl_signal.specs.Names.{Lexicon}
 use Rattle.sdl_signal.specs.Source.{Source}
 use Rattle.sdl_signal.specs.Bytes.{HasNoNewline, BeginsWithLines, ended_line}
 use Rattle.sdl_signal.specs.Environment.{Reading, AreRead, HasCarried, HasCome, HasRead, GoesOn, most_lines}
-use Rattle.sdl_structure.specs.Structure.{Structure, lexicon_of}
+use Rattle.sdl_parts.specs.Structure.{Structure, lexicon_of}
 use Rattle.sdl_routes.specs.declared.parts.Row.{Row}
 use Rattle.sdl_run.specs.declared.environment_output.EnvOut.{EnvOut}
 use Rattle.sdl_run.specs.EnvironmentWork.{EnvWorking, IsOutputOf, AreOutputsOf, HasReadSoFar, HasReadAll, input_end}

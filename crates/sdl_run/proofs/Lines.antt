@@ -4,7 +4,7 @@ use Rattle.std.specs.List.{AllByRecursion}
 use Rattle.std.proofs.lemmas.Bool.{cond_both, false≢true}
 use Rattle.std.proofs.lemmas.Option.{none-some, same_Some}
 use Rattle.sdl_signal.specs.declared.ids.SignalId.{SignalId}
-use Rattle.sdl_structure.specs.declared.parts.Channel.{Channel}
+use Rattle.sdl_parts.specs.declared.parts.Channel.{Channel}
 use Rattle.sdl_routes.specs.declared.parts.Hop.{Hop}
 use Rattle.sdl_routes.specs.Routes.{EachOnce}
 use Rattle.sdl_forward.specs.Forwards.{Forwarding}

@@ -7,7 +7,7 @@ use Rattle.sdl_signal.specs.declared.ends.InputEnd.TheVariants as input
 use Rattle.sdl_signal.specs.declared.ends.OutputEnd.{OutputEnd}
 use Rattle.sdl_signal.specs.declared.values.Item.{Item}
 use Rattle.sdl_signal.specs.Environment.{HasCarried, HasRead}
-use Rattle.sdl_structure.specs.Structure.{Structure, lexicon_of}
+use Rattle.sdl_parts.specs.Structure.{Structure, lexicon_of}
 use Rattle.sdl_routes.specs.declared.parts.Row.{Row}
 use Rattle.sdl_run.specs.declared.environment_output.EnvOut.{EnvOut}
 use Rattle.sdl_run.specs.EnvironmentWork.{EnvWorking, OwnEnd, IsEnvFresh, IsEnvSound, AreOutputsOf, HasReadSoFar, HasReadAll, HasWrittenSoFar, HasWritten, received_text, input_end}

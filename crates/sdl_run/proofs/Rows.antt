@@ -14,7 +14,7 @@ use Rattle.sdl_signal.specs.Names.{Lexicon}
 use Rattle.sdl_signal.specs.Line.{line_text}
 use Rattle.sdl_signal.specs.Bytes.{BeginsWithLines}
 use Rattle.sdl_signal.specs.Environment.{AreRead}
-use Rattle.sdl_structure.specs.Structure.{Structure, lexicon_of}
+use Rattle.sdl_parts.specs.Structure.{Structure, lexicon_of}
 use Rattle.sdl_routes.specs.declared.parts.Row.{Row}
 use Rattle.sdl_run.specs.declared.environment_output.EnvOut.TheVariants as env_out
 use Rattle.sdl_run.specs.EnvironmentWork.{HasReadAll, HasWritten, AreCounted, received_text, received_line, env_origins}

@@ -7,8 +7,8 @@ use Rattle.std.specs.List.{flat_map, AllByRecursion}
 use Rattle.sdl_signal.specs.declared.ids.BlockId.{BlockId}
 use Rattle.sdl_signal.specs.declared.ids.SetId.{SetId}
 use Rattle.sdl_signal.specs.declared.values.Item.{Item}
-use Rattle.sdl_structure.specs.Structure.{Structure, set_at}
-use Rattle.sdl_structure.specs.declared.parts.Set.{Set}
+use Rattle.sdl_parts.specs.Structure.{Structure, set_at}
+use Rattle.sdl_parts.specs.declared.parts.Set.{Set}
 use Rattle.sdl_routes.specs.declared.parts.Row.{Row}
 use Rattle.sdl_transition.specs.declared.step.Frame.{Frame}
 use Rattle.sdl_transition.specs.declared.step.Step.{Step}

@@ -10,8 +10,8 @@ use Rattle.std.proofs.lemmas.List.Sums.{sum_by-cons}
 use Rattle.sdl_signal.specs.declared.ids.BlockId.{BlockId}
 use Rattle.sdl_signal.specs.declared.ids.SetId.{SetId}
 use Rattle.sdl_signal.specs.declared.values.Item.{Item}
-use Rattle.sdl_structure.specs.Structure.{Structure, set_at}
-use Rattle.sdl_structure.specs.declared.parts.Set.{Set}
+use Rattle.sdl_parts.specs.Structure.{Structure, set_at}
+use Rattle.sdl_parts.specs.declared.parts.Set.{Set}
 use Rattle.sdl_routes.specs.declared.parts.Hop.{Hop}
 use Rattle.sdl_routes.specs.declared.parts.Row.{Row}
 use Rattle.sdl_routes.specs.declared.parts.Station.{Station}

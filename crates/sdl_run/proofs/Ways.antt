@@ -3,8 +3,8 @@ use Rattle.std.proofs.Common.{ℕ, ◌<◌, List, [], ◌∷◌, ◌++◌, lengt
 use Rattle.std.proofs.lemmas.Option.{slice_get_cases}
 use Rattle.std.specs.List.{filter, AllByRecursion}
 use Rattle.std.specs.Option.{IsSomeAnd}
-use Rattle.sdl_structure.specs.Structure.{Structure, set_at}
-use Rattle.sdl_structure.specs.declared.parts.Set.{Set}
+use Rattle.sdl_parts.specs.Structure.{Structure, set_at}
+use Rattle.sdl_parts.specs.declared.parts.Set.{Set}
 use Rattle.sdl_routes.specs.declared.parts.EndPoint.{EndPoint}
 use Rattle.sdl_routes.specs.declared.parts.EndPoint.TheVariants as ends
 use Rattle.sdl_routes.specs.declared.parts.Source.{Source}

@@ -14,7 +14,7 @@ use Rattle.sdl_run.specs.declared.driver.Driver.{Driver}
 use Rattle.sdl_block.specs.Workers.{behaviours_of}
 use Rattle.sdl_signal.specs.declared.ends.InputEnd.{InputEnd}
 use Rattle.sdl_signal.specs.declared.ends.InputEnd.TheVariants as input
-use Rattle.sdl_structure.specs.Structure.{lexicon_of}
+use Rattle.sdl_parts.specs.Structure.{lexicon_of}
 use Rattle.sdl_run.specs.EnvironmentWork.{HasReadAll, HasWritten, received_text}
 use Rattle.sdl_run.specs.Plan.{Plan, blocks_in}
 use Rattle.sdl_run.specs.Outcome.{Held, Outcome}

@@ -7,7 +7,7 @@ use Rattle.sdl_signal.specs.declared.environment.EnvRead.TheVariants as env
 use Rattle.sdl_signal.specs.Names.{Lexicon}
 use Rattle.sdl_signal.specs.Line.{line_text}
 use Rattle.sdl_signal.specs.Environment.{HasCarried, HasRead, IsEnvLine, most_lines}
-use Rattle.sdl_structure.specs.Structure.{Structure}
+use Rattle.sdl_parts.specs.Structure.{Structure}
 use Rattle.sdl_routes.specs.declared.parts.Row.{Row}
 use Rattle.sdl_routes.specs.declared.parts.Station.{Station}
 use Rattle.sdl_routes.specs.declared.parts.Station.TheVariants.{Outlet}

@@ -17,7 +17,7 @@ use Rattle.sdl_signal.specs.Names.{Lexicon}
 use Rattle.sdl_signal.specs.Line.{line_text}
 use Rattle.sdl_signal.specs.Bytes.{ended_line}
 use Rattle.sdl_signal.specs.Environment.{Reading, HasCarried, HasRead, EndsItself, most_lines}
-use Rattle.sdl_structure.specs.Structure.{Structure, lexicon_of}
+use Rattle.sdl_parts.specs.Structure.{Structure, lexicon_of}
 use Rattle.sdl_routes.specs.declared.parts.Row.{Row}
 use Rattle.sdl_routes.specs.declared.parts.Goal.{Goal}
 use Rattle.sdl_routes.specs.declared.parts.Goal.TheVariants as goal

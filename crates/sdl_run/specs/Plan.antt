@@ -3,8 +3,8 @@ use Rattle.std.specs.Prelude.{◌≡◌, ℕ, zero, suc, ◌+◌, Bool, true, fa
 use Rattle.sdl_signal.specs.declared.ids.SetId.{SetId}
 use Rattle.sdl_signal.specs.declared.ids.SignalId.{SignalId}
 use Rattle.sdl_signal.specs.declared.values.Item.{Item}
-use Rattle.sdl_structure.specs.declared.parts.Channel.{Channel}
-use Rattle.sdl_structure.specs.Structure.{Structure, IsStructure, set_at}
+use Rattle.sdl_parts.specs.declared.parts.Channel.{Channel}
+use Rattle.sdl_parts.specs.Structure.{Structure, IsStructure, set_at}
 use Rattle.sdl_routes.specs.declared.parts.Hop.{Hop}
 use Rattle.sdl_routes.specs.declared.parts.Row.{Row}
 use Rattle.sdl_routes.specs.declared.parts.Source.{Source}

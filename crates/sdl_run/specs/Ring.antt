@@ -5,16 +5,16 @@ use Rattle.sdl_signal.specs.declared.ids.BlockId.{BlockId}
 use Rattle.sdl_signal.specs.declared.values.Sort.TheVariants as sort
 use Rattle.sdl_signal.specs.declared.values.Pid.TheVariants as pid
 use Rattle.sdl_signal.specs.declared.values.Item.{Item}
-use Rattle.sdl_structure.specs.declared.parts.Channel.{Channel}
-use Rattle.sdl_structure.specs.declared.parts.End.{End}
-use Rattle.sdl_structure.specs.declared.parts.Gate.{Gate}
-use Rattle.sdl_structure.specs.declared.parts.Owner.{Owner}
-use Rattle.sdl_structure.specs.declared.parts.Owner.TheVariants as owner
-use Rattle.sdl_structure.specs.declared.parts.Scope.{Scope}
-use Rattle.sdl_structure.specs.declared.parts.Scope.TheVariants as scope
-use Rattle.sdl_structure.specs.declared.parts.Side.{Side}
-use Rattle.sdl_structure.specs.declared.parts.Side.TheVariants.{Outer, Inner}
-use Rattle.sdl_structure.specs.Structure.{Structure}
+use Rattle.sdl_parts.specs.declared.parts.Channel.{Channel}
+use Rattle.sdl_parts.specs.declared.parts.End.{End}
+use Rattle.sdl_parts.specs.declared.parts.Gate.{Gate}
+use Rattle.sdl_parts.specs.declared.parts.Owner.{Owner}
+use Rattle.sdl_parts.specs.declared.parts.Owner.TheVariants as owner
+use Rattle.sdl_parts.specs.declared.parts.Scope.{Scope}
+use Rattle.sdl_parts.specs.declared.parts.Scope.TheVariants as scope
+use Rattle.sdl_parts.specs.declared.parts.Side.{Side}
+use Rattle.sdl_parts.specs.declared.parts.Side.TheVariants.{Outer, Inner}
+use Rattle.sdl_parts.specs.Structure.{Structure}
 use Rattle.sdl_routes.specs.declared.parts.Hop.{Hop}
 use Rattle.sdl_routes.specs.declared.parts.Row.{Row}
 use Rattle.sdl_routes.specs.declared.parts.Source.TheVariants as source

@@ -17,7 +17,7 @@ use sdl_block::{BlockWorker, Stepped};
 use sdl_forward::{Board, Forwarded, Forwarder};
 use sdl_queue::Rest;
 use sdl_routes::{Routes, Station};
-use sdl_structure::Checked;
+use sdl_parts::Checked;
 use sdl_transition::{Agents, Bound};
 use std::io::{Read, Write};
 

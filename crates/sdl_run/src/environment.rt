@@ -1,7 +1,7 @@
 //! The environment at work: it reads lines and outputs their signals, and writes what it receives as lines.
 ghost use Rattle.std.specs.Prelude.{◌≡◌, ◌<◌, ℕ, List, [], ◌∷◌, ◌++◌, Option, All, None, length};
 ghost use Rattle.sdl_signal.specs.declared.values.Item.{Item};
-ghost use Rattle.sdl_structure.specs.Structure.{Structure, IsStructure};
+ghost use Rattle.sdl_parts.specs.Structure.{Structure, IsStructure};
 ghost use Rattle.sdl_routes.specs.declared.parts.Row.{Row};
 ghost use Rattle.sdl_routes.specs.declared.parts.Station.{Station};
 ghost use Rattle.sdl_routes.specs.Routes.{AreRoutesOf};
@@ -22,7 +22,7 @@ use sdl_signal::{
     EnvLine, EnvRead, EnvReader, GateId, InputEnd, Item, LineSink, Names, Origin, OutputEnd, Pid,
     Written, line_of,
 };
-use sdl_structure::Structure;
+use sdl_parts::Structure;
 use std::alloc::Global;
 use std::io::{Read, Write};
 use std::marker::Model;

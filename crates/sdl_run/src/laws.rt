@@ -7,7 +7,7 @@ ghost use Rattle.std.specs.Prelude.{◌≡◌, ℕ, List, [], ◌∷◌, ◌++�
 ghost use Rattle.sdl_signal.specs.declared.ends.InputEnd.TheVariants as input;
 ghost use Rattle.sdl_signal.specs.declared.ends.OutputEnd.TheVariants as output;
 ghost use Rattle.sdl_signal.specs.Names.{Lexicon};
-ghost use Rattle.sdl_structure.specs.Structure.{Structure};
+ghost use Rattle.sdl_parts.specs.Structure.{Structure};
 ghost use Rattle.sdl_routes.specs.declared.parts.Row.{Row};
 ghost use Rattle.sdl_run.specs.declared.environment_output.EnvOut.TheVariants as env_out;
 ghost use Rattle.sdl_run.specs.EnvironmentWork.{HasReadAll, HasWritten, AreCounted, received_text, env_origins};

@@ -21,7 +21,7 @@ use sdl_forward::{Board, Forwarder};
 use sdl_instances::BlockCore;
 use sdl_instances::bounds::parts_are_bound;
 use sdl_routes::Routes;
-use sdl_structure::Checked;
+use sdl_parts::Checked;
 use sdl_transition::{Agents, BlockParts, Bound};
 use std::alloc::{AllocError, Global};
 use std::io::{Read, Write};

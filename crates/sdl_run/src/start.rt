@@ -6,7 +6,7 @@ ghost use Rattle.sdl_run.specs.Starting.{idle_at};
 use sdl_forward::Forwarder;
 use sdl_routes::Hop;
 use sdl_signal::{ChannelId, SignalId};
-use sdl_structure::Channel;
+use sdl_parts::Channel;
 use std::alloc::{AllocError, Global};
 
 /// Adds the forwarder of a path, where the path carries a signal. What a refusal leaves is not said.

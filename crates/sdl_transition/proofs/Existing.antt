@@ -5,9 +5,9 @@ use Rattle.std.proofs.lemmas.Bool.{cases_order}
 use Rattle.std.proofs.lemmas.List.{get_or-map, length-map}
 use Rattle.std.proofs.lemmas.List.Elements.{All-from_recursion}
 use Rattle.std.proofs.lemmas.Option.{slice_get-map, slice_get-get_or, slice_get_cases}
-use Rattle.sdl_structure.specs.declared.parts.Set.{Set}
-use Rattle.sdl_structure.specs.declared.parts.SignalDecl.{SignalDecl}
-use Rattle.sdl_structure.specs.Structure.{Structure, IsStructure}
+use Rattle.sdl_parts.specs.declared.parts.Set.{Set}
+use Rattle.sdl_parts.specs.declared.parts.SignalDecl.{SignalDecl}
+use Rattle.sdl_parts.specs.Structure.{Structure, IsStructure}
 use Rattle.sdl_transition.specs.declared.behaviour.Kind.TheVariants as kinds
 use Rattle.sdl_transition.specs.declared.behaviour.Behaviour.{Behaviour}
 use Rattle.sdl_transition.specs.declared.faults.BindFault.TheVariants.{WrongName, UnknownState}

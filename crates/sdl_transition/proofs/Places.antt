@@ -8,7 +8,7 @@ use Rattle.std.proofs.lemmas.Option.{slice_get-map, slice_get-get_or, slice_get_
 use Rattle.sdl_signal.specs.declared.ids.SetId.{SetId}
 use Rattle.sdl_signal.specs.declared.ids.StateId.{StateId}
 use Rattle.sdl_signal.specs.declared.ids.SignalId.{SignalId}
-use Rattle.sdl_structure.specs.Structure.{Structure}
+use Rattle.sdl_parts.specs.Structure.{Structure}
 use Rattle.sdl_transition.specs.declared.behaviour.Behaviour.{Behaviour}
 use Rattle.sdl_transition.specs.declared.parts.BlockParts.{BlockParts}
 use Rattle.sdl_transition.specs.declared.index.Index.{Index}

@@ -1,8 +1,8 @@
 -- Behaviours by the blocks of their sets.
 use Rattle.std.specs.Prelude.{◌≡◌, ℕ, ◌==◌, ◌<◌, ◌≤◌, Bool, List, ◌++◌, length, filter, map, option_map, unwrap_or, slice_index_or, vec_capacity}
 use Rattle.sdl_signal.specs.declared.ids.SetId.{SetId}
-use Rattle.sdl_structure.specs.declared.parts.Set.{Set}
-use Rattle.sdl_structure.specs.Structure.{Structure, set_at}
+use Rattle.sdl_parts.specs.declared.parts.Set.{Set}
+use Rattle.sdl_parts.specs.Structure.{Structure, set_at}
 use Rattle.sdl_transition.specs.declared.behaviour.Behaviour.{Behaviour}
 use Rattle.sdl_transition.specs.declared.parts.BlockParts.{BlockParts}
 use Rattle.sdl_transition.specs.Rules.{rules_of}

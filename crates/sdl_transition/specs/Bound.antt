@@ -1,6 +1,6 @@
 -- A system that was bound.
 use Rattle.std.specs.Prelude.{◌≡◌, ℕ, List, map, All, ◌⊎◌}
-use Rattle.sdl_structure.specs.Structure.{Structure}
+use Rattle.sdl_parts.specs.Structure.{Structure}
 use Rattle.sdl_routes.specs.declared.parts.Row.{Row}
 use Rattle.sdl_routes.specs.Routes.{AreRoutesOf}
 use Rattle.sdl_transition.specs.declared.step.Frame.{Frame}

@@ -5,15 +5,15 @@ use Rattle.sdl_signal.specs.declared.ids.SignalId.{SignalId}
 use Rattle.sdl_signal.specs.declared.values.Value.{Value}
 use Rattle.sdl_signal.specs.declared.values.Value.TheVariants as value
 use Rattle.sdl_signal.specs.declared.values.Pid.TheVariants.{Null}
-use Rattle.sdl_structure.specs.declared.parts.Owner.TheVariants as owner
-use Rattle.sdl_structure.specs.declared.parts.Gate.{Gate}
-use Rattle.sdl_structure.specs.declared.parts.Set.{Set}
-use Rattle.sdl_structure.specs.declared.parts.Channel.{Channel}
-use Rattle.sdl_structure.specs.declared.parts.SignalDecl.{SignalDecl}
-use Rattle.sdl_structure.specs.Structure.{Structure, set_at, gate_at}
+use Rattle.sdl_parts.specs.declared.parts.Owner.TheVariants as owner
+use Rattle.sdl_parts.specs.declared.parts.Gate.{Gate}
+use Rattle.sdl_parts.specs.declared.parts.Set.{Set}
+use Rattle.sdl_parts.specs.declared.parts.Channel.{Channel}
+use Rattle.sdl_parts.specs.declared.parts.SignalDecl.{SignalDecl}
+use Rattle.sdl_parts.specs.Structure.{Structure, set_at, gate_at}
 use Rattle.sdl_routes.specs.declared.parts.Via.{Via}
 use Rattle.sdl_routes.specs.declared.parts.Via.TheVariants as via
-use Rattle.sdl_structure.specs.Order.{IsBefore}
+use Rattle.sdl_parts.specs.Order.{IsBefore}
 use Rattle.sdl_transition.specs.declared.behaviour.Kind.{Kind}
 use Rattle.sdl_transition.specs.declared.behaviour.Kind.TheVariants as kind
 use Rattle.sdl_transition.specs.declared.behaviour.Named.{Named}

@@ -1,7 +1,7 @@
 -- The faults of behaviours, one stage after the other: sets without a behaviour, sets with two, behaviours one by one.
 use Rattle.std.specs.Prelude.{ℕ, ◌<◌, ◌≤◌, List, slice_get, IfSome}
 use Rattle.sdl_signal.specs.declared.ids.SetId.{SetId}
-use Rattle.sdl_structure.specs.Structure.{Structure}
+use Rattle.sdl_parts.specs.Structure.{Structure}
 use Rattle.sdl_transition.specs.declared.faults.BindFault.{BindFault}
 use Rattle.sdl_transition.specs.Declarations.{Declared}
 use Rattle.sdl_transition.specs.Faults.{HasBehaviour, HasTwoBehaviours, IsFaultOf, fault_number}

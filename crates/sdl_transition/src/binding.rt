@@ -1,6 +1,6 @@
 //! Behaviours bound to a structure.
 ghost use Rattle.std.specs.Prelude.{◌≡◌, ◌<◌, length, map, All, IfOk, IfErr};
-ghost use Rattle.sdl_structure.specs.Structure.{IsStructure};
+ghost use Rattle.sdl_parts.specs.Structure.{IsStructure};
 ghost use Rattle.sdl_routes.specs.Routes.{AreRoutesOf};
 ghost use Rattle.sdl_transition.specs.Transitions.{IsAllowedBehaviour};
 ghost use Rattle.sdl_transition.specs.Declarations.{declared};
@@ -15,7 +15,7 @@ use crate::faults::BindFault;
 use crate::parts::{BlockParts, deal, empty_parts};
 use crate::stages::first_fault;
 use sdl_routes::Routes;
-use sdl_structure::{Checked, Structure};
+use sdl_parts::{Checked, Structure};
 use std::alloc::{AllocError, Global};
 
 /// A system that can run: a well formed structure, its routes, and one behaviour for each of its sets.

@@ -1,6 +1,6 @@
 //! The behaviours of each block.
 ghost use Rattle.std.specs.Prelude.{◌≡◌, ◌<◌, ◌≤◌, [], ◌∷◌, ◌++◌, length, All, IfOk, IfSome, Some, option_map, slice_get, vec_len, vec_capacity};
-ghost use Rattle.sdl_structure.specs.Structure.{IsStructure};
+ghost use Rattle.sdl_parts.specs.Structure.{IsStructure};
 ghost use Rattle.sdl_transition.specs.Transitions.{IsAllowed, IsAllowedBehaviour};
 ghost use Rattle.sdl_transition.specs.Rules.{Rules, rule_of, rules_of, rules_for, row_for, block_rules};
 ghost use Rattle.sdl_transition.specs.Index.{HasPlaces, IsIndexed};
@@ -13,7 +13,7 @@ use crate::index::{Index, index_of};
 use crate::transition::Transition;
 use arrayvec::ArrayVec;
 use sdl_signal::{BlockId, SetId, SignalId, StateId, Value};
-use sdl_structure::Structure;
+use sdl_parts::Structure;
 use std::alloc::{AllocError, Global};
 
 /// The behaviours of one block, in the order in which they were handed to `bind`, with the index that `bind` made of

@@ -10,7 +10,7 @@ use crate::probes::{
     has_unknown_next, has_unused_number, is_for_start, is_named_so, is_used,
 };
 use sdl_signal::{SetId, Value};
-use sdl_structure::Structure;
+use sdl_parts::Structure;
 
 fn has_misnamed_use(structure: &Structure, uses: &[Named]) -> bool
     ensures { IsTrue result ↔ Any (λ named. ¬ IsNamedSo structure.now named) uses.now }

@@ -1,6 +1,6 @@
 //! The first fault of behaviours against a structure.
 ghost use Rattle.std.specs.Prelude.{◌≡◌, ℕ, ◌<◌, length, map, slice_get, IsTrue, ◌↔◌, IfSome, IfNone};
-ghost use Rattle.sdl_structure.specs.Structure.{IsStructure};
+ghost use Rattle.sdl_parts.specs.Structure.{IsStructure};
 ghost use Rattle.sdl_transition.specs.Declarations.{declared};
 ghost use Rattle.sdl_transition.specs.Faults.{HasBehaviour, HasTwoBehaviours, IsFirstFault, FitTogether};
 ghost use Rattle.sdl_transition.specs.Stages.{AllHaveOne, NoneHasTwo, AllFaultless, IsFaultless, IsFirstFaultOf};
@@ -12,7 +12,7 @@ use crate::rules::{
     offers_create_elsewhere, offers_undeclared,
 };
 use sdl_signal::SetId;
-use sdl_structure::Structure;
+use sdl_parts::Structure;
 
 /// The first fault of one behaviour.
 fn fault_of<S>(structure: &Structure, behaviour: &Behaviour<S>) -> Option<BindFault>

@@ -11,7 +11,7 @@ use arrayvec::ArrayVec;
 use sdl_forward::Board;
 use sdl_routes::{Routes, Station};
 use sdl_signal::Item;
-use sdl_structure::{check, read_structure};
+use sdl_parts::{check, read_structure};
 use std::alloc::Global;
 use std::process::Abort;
 use std::test::Fail;

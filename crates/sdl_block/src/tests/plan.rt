@@ -17,7 +17,7 @@ use sdl_instances::BlockCore;
 use sdl_instances::bounds::parts_are_bound;
 use sdl_routes::Routes;
 use sdl_signal::BlockId;
-use sdl_structure::{Checked, check, read_structure};
+use sdl_parts::{Checked, check, read_structure};
 use sdl_transition::{Agents, Behaviour, BlockParts, bind};
 use std::alloc::Global;
 use std::process::Abort;

@@ -13,7 +13,7 @@ use crate::block::BlockCore;
 use crate::bounds::parts_are_bound;
 use sdl_routes::Routes;
 use sdl_signal::BlockId;
-use sdl_structure::{Checked, check, read_structure};
+use sdl_parts::{Checked, check, read_structure};
 use sdl_transition::{Agents, Behaviour, BlockParts, bind};
 use std::alloc::Global;
 use std::process::Abort;

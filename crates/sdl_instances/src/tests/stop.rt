@@ -1,6 +1,6 @@
 //! Why a test could not go on.
 use sdl_routes::RouteFault;
-use sdl_structure::FileFault;
+use sdl_parts::FileFault;
 use sdl_transition::BindFault;
 use std::alloc::{AllocError, AllocFailed};
 

@@ -10,7 +10,7 @@ use super::ring_stored::with_row;
 use arrayvec::ArrayVec;
 use sdl_routes::Routes;
 use sdl_signal::SetId;
-use sdl_structure::{check, read_structure};
+use sdl_parts::{check, read_structure};
 use sdl_transition::systems::offers::{idle_offer, on, one_integer, one_output};
 use sdl_transition::systems::ring::{Ring, TOK, first, pass_on};
 use sdl_transition::systems::steps::idle;

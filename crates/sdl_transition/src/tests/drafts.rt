@@ -13,7 +13,7 @@ use crate::{Behaviour, BlockParts, Frame, Kind, Named, Row, Run, Transition, Via
 use arrayvec::ArrayVec;
 use sdl_routes::Routes;
 use sdl_signal::{SetId, SignalId, Sort, StateId};
-use sdl_structure::{Checked, check, read_structure};
+use sdl_parts::{Checked, check, read_structure};
 use std::alloc::Global;
 
 /// A row on a signal with one parameter, with an offer of its own state and signal.

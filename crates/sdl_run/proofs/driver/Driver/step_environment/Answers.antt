@@ -1,5 +1,5 @@
 use Rattle.std.proofs.Common.{All, length, sym, subst}
-use Rattle.sdl_structure.specs.Structure.{Structure}
+use Rattle.sdl_parts.specs.Structure.{Structure}
 use Rattle.sdl_routes.specs.declared.parts.Station.TheVariants.{Outlet}
 use Rattle.sdl_instances.specs.Legal.{IsLegal}
 use Rattle.sdl_instances.specs.Core.{signals_of, sets_of}

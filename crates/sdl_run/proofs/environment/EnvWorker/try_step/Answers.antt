@@ -1,6 +1,6 @@
 use Rattle.std.proofs.Common.{Ok, Err, All, ap, sym, subst, refl}
 use Rattle.sdl_signal.specs.Names.{Lexicon}
-use Rattle.sdl_structure.specs.Structure.{lexicon_of}
+use Rattle.sdl_parts.specs.Structure.{lexicon_of}
 use Rattle.sdl_routes.specs.declared.parts.Station.TheVariants.{Outlet}
 use Rattle.sdl_forward.specs.Boards.{waiting}
 use Rattle.sdl_run.specs.EnvironmentWork.{EnvWorking}

@@ -1,6 +1,0 @@
-use Rattle.std.proofs.Common.{◌≡◌, ◌++◌, take, map}
-use Rattle.sdl_structure.specs.Structure.{declared}
-use Rattle.sdl_structure.proofs.structure.add_signals.Given as goal
-
-abbrev pub invariant-loop-signal : goal.invariant-loop-signal
-invariant-loop-signal l = l.names ≡ record l.fn.names { signals = l.fn.names.signals ++ map declared (take l.signal-index l.signals) }
