@@ -1,11 +1,11 @@
 //! Sources and sinks of lines over readers and writers that fail, and the environment's reading.
 ghost use Rattle.sdl_signal.specs.Names.{IsName};
 
-use crate::{
+use arrayvec::ArrayVec;
+use sdl_signal::{
     EnvRead, EnvReader, InputEnd, LineFault, LineRead, LineSink, LineSource, Name, Names, Sort,
     Written, name, write_line,
 };
-use arrayvec::ArrayVec;
 use std::alloc::{AllocError, Global};
 use std::io;
 use std::io::{ErrorKind, Read, Write};
@@ -156,24 +156,6 @@ fn a_sink_counts_interruptions_over_its_life(rt: HostRuntime) {
     output.interruptions = 1;
     assert!(rt; sink.write(&mut output, b"six") == Written::Fault(0));
     assert_eq!(rt; output.taken.as_slice(), b"one\ntwo\n".as_slice());
-}
-
-#[test]
-fn names_keep_their_rule(rt: HostRuntime) {
-    for text in ["a", "Z", "a_1", "abcdefghijklmnopqrstuvwxyz_01234"] {
-        assert!(rt; name(text).is_some(), "{text}");
-    }
-    for text in [
-        "",
-        "env",
-        "1a",
-        "_a",
-        "a-b",
-        "a b",
-        "abcdefghijklmnopqrstuvwxyz_012345",
-    ] {
-        assert!(rt; name(text).is_none(), "{text}");
-    }
 }
 
 /// The gate `line` and the signal `ping` with a parameter of the sort Integer.

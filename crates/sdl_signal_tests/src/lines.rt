@@ -1,10 +1,27 @@
-use super::*;
-use crate::ids::SetId;
-use crate::naming::name;
-use crate::values::Sort;
-use crate::writing::line_of;
+//! Names, and lines that are read and written.
+
+use arrayvec::ArrayVec;
+use sdl_signal::{EnvLine, LineFault, Names, Pid, SetId, Sort, line_of, name, read_line};
 use std::alloc::Global;
 use std::test::Fail;
+
+#[test]
+fn names_keep_their_rule(rt: HostRuntime) {
+    for text in ["a", "Z", "a_1", "abcdefghijklmnopqrstuvwxyz_01234"] {
+        assert!(rt; name(text).is_some(), "{text}");
+    }
+    for text in [
+        "",
+        "env",
+        "1a",
+        "_a",
+        "a-b",
+        "a b",
+        "abcdefghijklmnopqrstuvwxyz_012345",
+    ] {
+        assert!(rt; name(text).is_none(), "{text}");
+    }
+}
 
 /// The gates `line` and `g`; the signals `ping` of an Integer, `say` of a Boolean and a Pid, and `to` of a
 /// Boolean; the set `E`.
