@@ -1,15 +1,4 @@
-pub mod TableLemmas
-pub mod FaultLemmas
-pub mod PlaceLemmas
-pub mod ListLemmas
-pub mod SignalLemmas
-pub mod ChannelLemmas
-pub mod BlockLemmas
-pub mod GateLemmas
-pub mod WholeLemmas
-pub mod DraftLemmas
 pub mod NamesLemmas
-pub mod FileLemmas
 pub mod Numbers
 pub mod Simple
 pub mod Paths

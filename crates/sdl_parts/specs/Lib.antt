@@ -1,12 +1,5 @@
 pub mod Structure
 pub mod Order
 pub mod Rules
-pub mod Keys
-pub mod Tables
-pub mod Places
 pub mod Sentences
-pub mod File
-pub mod Faults
-pub mod Walks
-pub mod Drafts
 pub mod Lists

@@ -6,8 +6,6 @@ ghost use Rattle.sdl_parts.specs.Rules.{IsWellFormed, IsFirstFault};
 
 mod probes;
 mod sentences;
-#[cfg(test)]
-mod tests;
 
 use crate::parts::{Direction, Side};
 use crate::structure::Structure;

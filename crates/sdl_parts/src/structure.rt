@@ -6,20 +6,19 @@ ghost use Rattle.sdl_parts.specs.Lists.{structure_of};
 
 use crate::parts::{Block, Channel, Gate, Owner, Set, SignalDecl};
 use arrayvec::ArrayVec;
-#[cfg(test)]
-use sdl_signal::BlockId;
 use sdl_signal::{Name, Names, Sort};
 use std::alloc::{AllocError, Global};
 use std::marker::Model;
 
-/// The lists of a structure, each by number.
+/// The lists of a structure. The number of each part is its place in its list.
 #[derive(Drop)]
-pub(crate) struct Lists {
-    pub(crate) signals: Vec<SignalDecl>,
-    pub(crate) blocks: Vec<Block>,
-    pub(crate) sets: Vec<Set>,
-    pub(crate) gates: Vec<Gate>,
-    pub(crate) channels: Vec<Channel>,
+pub struct Lists {
+    pub signals: Vec<SignalDecl>,
+    pub blocks: Vec<Block>,
+    pub sets: Vec<Set>,
+    /// Those of the system come first.
+    pub gates: Vec<Gate>,
+    pub channels: Vec<Channel>,
 }
 
 /// A system's structure, as its file gives it.
@@ -65,8 +64,8 @@ impl Model for Structure {
 }
 
 impl Structure {
-    /// The structure of these lists, with the names of its parts.
-    pub(crate) fn new(
+    /// The structure of these lists. The error is that there is no memory for the names of its parts.
+    pub fn new(
         alloc: Global,
         system: Name,
         budget: u32,
@@ -216,43 +215,4 @@ fn copied(sorts: &ArrayVec<Sort, 4>) -> ArrayVec<Sort, 4>
         copy.push(*sort);
     }
     copy
-}
-
-#[cfg(test)]
-impl Structure {
-    /// One block with one set.
-    pub fn of_one_set(
-        alloc: Global,
-        block: Name,
-        set: Name,
-        initial: u32,
-        maximum: u32,
-    ) -> Result<Structure, AllocError>
-        requires name { IsName set.bytes }
-        requires initial { initial ≤ 1024 }
-        requires some { 1 ≤ maximum }
-        requires maximum { maximum ≤ 1024 }
-    {
-        let mut names = Names::new(alloc);
-        names.add_set(set)?;
-        let mut blocks = Vec::new(alloc);
-        blocks.push(Block { name: block })?;
-        let mut sets = Vec::new(alloc);
-        sets.push(Set {
-            name: set,
-            block: BlockId(0),
-            initial,
-            maximum,
-        })?;
-        Ok(Structure {
-            system: block,
-            budget: 100_000,
-            signals: Vec::new(alloc),
-            blocks,
-            sets,
-            gates: Vec::new(alloc),
-            channels: Vec::new(alloc),
-            names,
-        })
-    }
 }

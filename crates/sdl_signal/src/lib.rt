@@ -21,6 +21,3 @@ pub use sinks::{LineSink, Written, write_line};
 pub use sources::{LineRead, LineSource};
 pub use values::{EnvLine, Item, Origin, Pid, Signal, Sort, Value};
 pub use writing::line_of;
-
-#[cfg(test)]
-mod tests;

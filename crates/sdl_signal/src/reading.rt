@@ -6,8 +6,6 @@ ghost use Rattle.sdl_signal.specs.Reading as rule;
 ghost use Rattle.sdl_signal.specs.Reading.{Passes, IsFirstFault, IsPidText, HasDistinctNames, NamesFirst, PidNamesFirst};
 
 mod fields;
-#[cfg(test)]
-mod tests;
 mod values;
 
 use crate::naming::Names;

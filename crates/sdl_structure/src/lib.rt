@@ -1,7 +1,10 @@
-//! The structure of an SDL system: its file, and the checker of its rules.
+//! Reading the structure file of an SDL system, with the structure and the checker of its rules passed on.
 #![tactic(auto)]
 
+pub mod reading;
+
+pub use reading::{FileFault, Key, Part, Place, read_structure};
 pub use sdl_parts::{
-    Block, Channel, CheckFault, Checked, Direction, End, FileFault, Gate, Key, Owner, Part, Place,
-    Scope, Set, Side, SignalDecl, Structure, check, read_structure,
+    Block, Channel, CheckFault, Checked, Direction, End, Gate, Owner, Scope, Set, Side, SignalDecl,
+    Structure, check,
 };

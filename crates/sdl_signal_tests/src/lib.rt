@@ -1,0 +1,7 @@
+//! Tests of names, of the environment's lines, and of where these are read and written.
+#![tactic(auto)]
+
+#[cfg(test)]
+mod lines;
+#[cfg(test)]
+mod streams;

@@ -1,0 +1,121 @@
+//! Names, and lines that are read and written.
+
+use arrayvec::ArrayVec;
+use sdl_signal::{EnvLine, LineFault, Names, Pid, SetId, Sort, line_of, name, read_line};
+use std::alloc::Global;
+use std::test::Fail;
+
+#[test]
+fn names_keep_their_rule(rt: HostRuntime) {
+    for text in ["a", "Z", "a_1", "abcdefghijklmnopqrstuvwxyz_01234"] {
+        assert!(rt; name(text).is_some(), "{text}");
+    }
+    for text in [
+        "",
+        "env",
+        "1a",
+        "_a",
+        "a-b",
+        "a b",
+        "abcdefghijklmnopqrstuvwxyz_012345",
+    ] {
+        assert!(rt; name(text).is_none(), "{text}");
+    }
+}
+
+/// The gates `line` and `g`; the signals `ping` of an Integer, `say` of a Boolean and a Pid, and `to` of a
+/// Boolean; the set `E`.
+fn some_names(alloc: Global) -> Result<Names, Fail> {
+    let mut names = Names::new(alloc);
+    names.add_gate(name("line").ok_or("a name")?)?;
+    names.add_gate(name("g").ok_or("a name")?)?;
+    let mut sorts = ArrayVec::new();
+    sorts.push(Sort::Integer);
+    names.add_signal(name("ping").ok_or("a name")?, sorts)?;
+    let mut sorts = ArrayVec::new();
+    sorts.push(Sort::Boolean);
+    sorts.push(Sort::Pid);
+    names.add_signal(name("say").ok_or("a name")?, sorts)?;
+    let mut sorts = ArrayVec::new();
+    sorts.push(Sort::Boolean);
+    names.add_signal(name("to").ok_or("a name")?, sorts)?;
+    names.add_set(name("E").ok_or("a name")?)?;
+    Ok(names)
+}
+
+#[test]
+fn names_the_first_broken_rule(rt: HostRuntime) -> Result<(), Fail> {
+    let names = some_names(rt.alloc())?;
+    assert_eq!(rt; read_line(&names, &[b'a'; 321]), Err(LineFault::TooLong));
+    assert_eq!(rt; read_line(&names, &[b'a'; 320]), Err(LineFault::Missing));
+    for (line, fault) in [
+        ("", LineFault::Missing),
+        ("line", LineFault::Missing),
+        ("line  ping 7", LineFault::Missing),
+        (" line ping 7", LineFault::Missing),
+        ("line ping 7 ", LineFault::Missing),
+        ("line ping 7\r", LineFault::NotAscii),
+        ("door ping 7", LineFault::UnknownGate),
+        ("door pang 7", LineFault::UnknownGate),
+        ("line pang 7", LineFault::UnknownSignal),
+        ("line ping", LineFault::WrongCount),
+        ("line ping 7 to", LineFault::WrongCount),
+        ("line ping 1 2 3 4 5 6 7 8", LineFault::WrongCount),
+        ("line ping to", LineFault::BadValue),
+        ("line ping 07", LineFault::BadValue),
+        ("line ping -0", LineFault::BadValue),
+        ("line ping +1", LineFault::BadValue),
+        ("line ping 9223372036854775808", LineFault::BadValue),
+        ("line ping -9223372036854775809", LineFault::BadValue),
+        ("line say True null", LineFault::BadValue),
+        ("line say true G:1", LineFault::BadValue),
+        ("line ping 7 to E:0", LineFault::BadTo),
+        ("line ping 7 to E:01", LineFault::BadTo),
+        ("line ping 7 to E:4294967296", LineFault::BadTo),
+        ("line ping 7 to E", LineFault::BadTo),
+    ] {
+        assert_eq!(rt; read_line(&names, line.as_bytes()), Err(fault));
+    }
+    Ok(())
+}
+
+#[test]
+fn reads_what_was_written(rt: HostRuntime) -> Result<(), Fail> {
+    let names = some_names(rt.alloc())?;
+    for (line, to) in [
+        ("line ping 7", None),
+        ("line ping 0 to null", Some(Pid::Null)),
+        ("line ping -1 to env", Some(Pid::Env)),
+        (
+            "line ping 9223372036854775807 to E:12",
+            Some(Pid::Inst(SetId(0), 12)),
+        ),
+        (
+            "g ping -9223372036854775808 to E:4294967295",
+            Some(Pid::Inst(SetId(0), 4_294_967_295)),
+        ),
+        ("g say true E:1", None),
+        ("g say false null", None),
+        ("g to true", None),
+        ("g to false to null", Some(Pid::Null)),
+    ] {
+        match read_line(&names, line.as_bytes()) {
+            Ok(read) => {
+                assert_eq!(rt; read.to, to);
+                let written = line_of(&names, read.gate, &read.signal);
+                assert!(rt; line.as_bytes().starts_with(written.as_slice()));
+                let again = read_line(&names, written.as_slice());
+                assert_eq!(rt; again, Ok(EnvLine { to: None, ..read }));
+            }
+            Err(fault) => assert_eq!(rt; Some(fault), None),
+        }
+    }
+    Ok(())
+}
+
+#[test]
+fn prints_a_fault(rt: HostRuntime) -> Result<(), Fail> {
+    let text = format!(in rt.alloc(); "{}", LineFault::WrongCount)?;
+    assert_eq!(rt; text.as_str(), "L6 WrongCount");
+    Ok(())
+}

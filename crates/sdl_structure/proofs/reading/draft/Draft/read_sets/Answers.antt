@@ -1,0 +1,34 @@
+use Rattle.std.proofs.Common.{rules, arith, ◌≡◌, ◌+◌, ◌<◌, length, take, map, ap, sym, subst, refl, ◌∙◌}
+use Rattle.std.proofs.lemmas.List.{length-map, length-append}
+use Rattle.std.proofs.lemmas.Bool.Decides.{nat_tests}
+use Rattle.sdl_structure.specs.declared.reading.Key.TheVariants as key
+use Rattle.sdl_structure.specs.declared.reading.draft.Draft.{Draft}
+use Rattle.sdl_structure.specs.Tables.{table_in, tables_at}
+use Rattle.sdl_structure.specs.Walks.{file_of, own}
+use Rattle.sdl_structure.specs.Drafts.{HasSets, IsSetRead}
+use Rattle.sdl_structure.proofs.ListLemmas.{take_map_more}
+use Rattle.sdl_structure.proofs.DraftLemmas.{too_many_sets, set_joins, grows_none, grows_more, length_before, one_set_more}
+use Rattle.sdl_structure.proofs.reading.draft.Draft.read_sets.Goals as goal
+
+pub returns-then-len-tables-gt64-clause-fault : goal.returns-then-len-tables-gt64-clause-fault
+returns-then-len-tables-gt64-clause-fault c =
+    let len : length (tables_at key.Set (own c.args.walk.now)) ≡ length c.in_ok-tables.tables.now = ap (λ ts. length ts) c.in_ok-tables.ensures.tables ∙ length-map c.in_ok-tables.tables.now table_in in
+    too_many_sets _ _ c.args.block.0 _ c.requires.here c.requires.part c.requires.number c.at.ensures c.requires.read (grind (arith, nat_tests))
+
+pub loop-index-init : goal.loop-index-init
+loop-index-init c = record { read = c.requires.read; frame = refl; grows = grows_none _; count = omega arith }
+
+pub loop-index-preserved : goal.loop-index-preserved
+loop-index-preserved c =
+    let T = take c.args.block.0 (tables_at key.Block (file_of c.args.walk.now)) in
+    let v = c.index-tables-index.result in
+    let e = c.read_set.new.self in
+    let next : IsSetRead c.args.block.0 c.loop-index.self (table_in v) e = subst (λ m. IsSetRead c.args.block.0 c.loop-index.self m e) c.inner.ensures.table c.in_ok-read_set.ensures.set in
+    let long = length_before c.args.walk.now c.args.block.0 c.requires.here c.requires.part c.requires.number in
+    let more = set_joins (file_of c.args.walk.now) T (own c.args.walk.now) (take c.loop-index.index (map table_in c.in_ok-tables.tables.now)) (table_in v) c.loop-index.self e c.loop-index.invariant.read (subst (λ k. IsSetRead k c.loop-index.self (table_in v) e) (sym long) next) c.in_ok-read_set.ensures.frame in
+    record {
+      read = subst (λ us. HasSets (file_of c.args.walk.now) T (own c.args.walk.now) us e) (sym (take_map_more table_in c.in_ok-tables.tables.now c.loop-index.index v c.loop-index-test.true c.index-tables-index.is)) more;
+      frame = c.in_ok-read_set.ensures.frame ∙ ap (λ (d : Draft). record d { sets = e.sets; gates = e.gates; agent_names = e.agent_names }) c.loop-index.invariant.frame;
+      grows = grows_more c.args.self.now c.loop-index.self e c.args.block.0 (table_in v) c.loop-index.invariant.grows next;
+      count = omega (arith, one_set_more c.args.block.0 c.loop-index.self (table_in v) e next, c.loop-index.invariant.count);
+    }

@@ -1,0 +1,200 @@
+-- The structure file: which top tables keep its rules, and which structure each of them names. (This project's own.)
+use Rattle.std.specs.Prelude.{◌≡◌, ◌≢◌, ℕ, ◌+◌, ◌*◌, ◌<◌, ◌≤◌, pos, ◌==◌, Bool, true, false, List, [], ◌∷◌, ◌++◌, map, length, Option, Some, slice_get, codes, count_by, IsSomeAnd, AllPairs}
+use Rattle.std.specs.List.{AllZip, before_first, after_first}
+use Rattle.toml.specs.Data.{Data, Members, as_str}
+use Rattle.sdl_signal.specs.declared.ids.BlockId.{BlockId}
+use Rattle.sdl_signal.specs.declared.ids.SetId.{SetId}
+use Rattle.sdl_signal.specs.declared.ids.SignalId.{SignalId}
+use Rattle.sdl_signal.specs.declared.values.Sort.{Sort}
+use Rattle.sdl_signal.specs.declared.values.Sort.TheVariants as sort
+use Rattle.sdl_signal.specs.Names.{IsName}
+use Rattle.sdl_parts.specs.declared.parts.SignalDecl.{SignalDecl}
+use Rattle.sdl_parts.specs.declared.parts.Block.{Block}
+use Rattle.sdl_parts.specs.declared.parts.Set.{Set}
+use Rattle.sdl_parts.specs.declared.parts.Gate.{Gate}
+use Rattle.sdl_parts.specs.declared.parts.Channel.{Channel}
+use Rattle.sdl_parts.specs.declared.parts.End.{End}
+use Rattle.sdl_parts.specs.declared.parts.Owner.{Owner}
+use Rattle.sdl_parts.specs.declared.parts.Owner.TheVariants as owner
+use Rattle.sdl_parts.specs.declared.parts.Scope.{Scope}
+use Rattle.sdl_parts.specs.declared.parts.Scope.TheVariants as scope
+use Rattle.sdl_parts.specs.declared.parts.Side.{Side}
+use Rattle.sdl_parts.specs.declared.parts.Side.TheVariants.{Outer, Inner}
+use Rattle.sdl_structure.specs.declared.reading.Key.{Key}
+use Rattle.sdl_structure.specs.declared.reading.Key.TheVariants as key
+use Rattle.sdl_structure.specs.declared.reading.Part.TheVariants as part
+use Rattle.sdl_parts.specs.Structure.{Structure}
+use Rattle.sdl_structure.specs.Keys.{keys_of, gate_keys, channel_keys}
+use Rattle.sdl_structure.specs.Tables.{integer_at, integer_or, flag_or, text_at, elements_at, tables_at, names_of, agent_names, channel_names, HasShape}
+
+-- a name stands at the key
+abbrev pub HasName : Key → Members → List ℕ → Type 0
+HasName k ms name = (text_at k ms ≡ Some name) × IsName name
+
+-- a sort as the file writes it
+abbrev pub sort_text : Sort → List ℕ
+sort_text sort.Integer = codes "Integer"
+sort_text sort.Boolean = codes "Boolean"
+sort_text sort.Pid = codes "Pid"
+
+abbrev pub NamesSort : Data → Sort → Type 0
+NamesSort d s = as_str d ≡ Some (sort_text s)
+
+-- the table is a signal's, and says this
+pub record IsSignalTable (ms : Members) (x : SignalDecl) : Type 0 where
+  pub shape : HasShape (keys_of part.Signal) ms
+  pub name : HasName key.Name ms x.name.bytes
+  pub sorts : AllZip NamesSort (elements_at key.Sorts ms) x.sorts.items
+  pub few_sorts : length x.sorts.items ≤ 4
+
+-- the text is the name of the signal with this number
+abbrev pub NamesSignal : List SignalDecl → Data → SignalId → Type 0
+NamesSignal signals d id = IsSomeAnd (slice_get signals id.0) (λ x. as_str d ≡ Some x.name.bytes)
+
+-- the list at the key names these signals, each once
+pub record ListsSignals (signals : List SignalDecl) (k : Key) (ms : Members) (ids : List SignalId) : Type 0 where
+  pub named : AllZip (NamesSignal signals) (elements_at k ms) ids
+  pub once : AllPairs (λ x y. x.0 ≢ y.0) ids
+
+-- the table is that of a gate of this owner, and says this
+pub record IsGateTable (signals : List SignalDecl) (x : Owner × Members) (g : Gate) : Type 0 where
+  pub shape : HasShape gate_keys x.1
+  pub name : HasName key.Name x.1 g.name.bytes
+  pub inward : ListsSignals signals key.Inward x.1 g.inward.items
+  pub outward : ListsSignals signals key.Outward x.1 g.outward.items
+  pub owner : g.owner ≡ x.0
+
+-- an agent has at most 8 gates, no two with one name
+pub record HasGates (ms : Members) : Type 0 where
+  pub few : length (tables_at key.Gate ms) ≤ 8
+  pub apart : AllPairs (λ a b. a ≢ b) (names_of (tables_at key.Gate ms))
+
+-- the table is that of a set in the block with this number, and says this
+pub record IsSetTable (x : ℕ × Members) (t : Set) : Type 0 where
+  pub shape : HasShape (keys_of part.Set) x.1
+  pub name : HasName key.Name x.1 t.name.bytes
+  pub initial : (integer_or (pos 1) key.Initial x.1 ≡ Some (pos t.initial)) × (t.initial ≤ 1024)
+  pub maximum : (integer_or (pos 1024) key.Maximum x.1 ≡ Some (pos t.maximum)) × (1 ≤ t.maximum) × (t.maximum ≤ 1024)
+  pub gates : HasGates x.1
+  pub block : t.block.0 ≡ x.0
+
+-- the table is a block's, and says this; a block has a set at least
+pub record IsBlockTable (ms : Members) (b : Block) : Type 0 where
+  pub shape : HasShape (keys_of part.Block) ms
+  pub name : HasName key.Name ms b.name.bytes
+  pub gates : HasGates ms
+  pub sets : 0 < length (tables_at key.Set ms)
+
+-- an end is `AGENT.GATE`
+abbrev pub is_dot : ℕ → Bool
+is_dot b = b == 46
+
+abbrev pub agent_part : List ℕ → List ℕ
+agent_part text = before_first is_dot text
+
+abbrev pub gate_part : List ℕ → List ℕ
+gate_part text = after_first is_dot text
+
+abbrev pub HasOneDot : List ℕ → Type 0
+HasOneDot text = count_by is_dot text ≡ 1
+
+-- In a channel of the system the agent is `env`, the system itself, or a block. In a channel of a block it is `env`, the block
+-- itself, or a set of the block.
+abbrev pub IsAgent : List Block → List Set → Scope → List ℕ → Owner → Type 0
+IsAgent blocks sets scope.System agent owner.System = agent ≡ codes "env"
+IsAgent blocks sets scope.System agent (owner.Block b) = IsSomeAnd (slice_get blocks b.0) (λ x. x.name.bytes ≡ agent)
+IsAgent blocks sets scope.System agent (owner.Set t) = ⊥
+IsAgent blocks sets (scope.Block b) agent owner.System = ⊥
+IsAgent blocks sets (scope.Block b) agent (owner.Block c) = (c.0 ≡ b.0) × (agent ≡ codes "env")
+IsAgent blocks sets (scope.Block b) agent (owner.Set t) = IsSomeAnd (slice_get sets t.0) (λ x. (x.block.0 ≡ b.0) × (x.name.bytes ≡ agent))
+
+-- a channel ends at the inner side of a gate of the agent that it lies in, and at the outer side of any other gate
+abbrev pub side_in : Scope → Owner → Side
+side_in scope.System owner.System = Inner
+side_in (scope.Block b) (owner.Block c) = Inner
+side_in _ _ = Outer
+
+-- the text names this end of a channel in the scope
+abbrev pub NamesEnd : List Block → List Set → List Gate → Scope → Data → End → Type 0
+NamesEnd blocks sets gates scope d end =
+    IsSomeAnd (slice_get gates end.gate.0) (λ g.
+    IsSomeAnd (as_str d) (λ text.
+    HasOneDot text × (g.name.bytes ≡ gate_part text) × IsAgent blocks sets scope (agent_part text) g.owner)
+    × (end.side ≡ side_in scope g.owner))
+
+-- the table is that of a channel in this scope, and says this
+pub record IsChannelTable (signals : List SignalDecl) (blocks : List Block) (sets : List Set) (gates : List Gate) (x : Scope × Members) (c : Channel) : Type 0 where
+  pub shape : HasShape channel_keys x.1
+  pub name : HasName key.Name x.1 c.name.bytes
+  pub ends : AllZip (NamesEnd blocks sets gates x.0) (elements_at key.Ends x.1) (c.first ∷ c.second ∷ [])
+  pub forth : ListsSignals signals key.Forth x.1 c.forth.items
+  pub back : ListsSignals signals key.Back x.1 c.back.items
+  pub nodelay : flag_or false key.Nodelay x.1 ≡ Some c.nodelay
+  pub scope : c.scope ≡ x.0
+
+-- Signals, blocks and sets count in file order from 0, over the whole file. These are the sets' tables in that order, each with
+-- the number of its block, where the first of some blocks has the number b.
+abbrev pub sets_of : ℕ → List Members → List (ℕ × Members)
+sets_of b [] = []
+sets_of b (t ∷ ts) = map (λ u. (b, u)) (tables_at key.Set t) ++ sets_of (b + 1) ts
+
+-- the tables of an agent's gates
+abbrev pub owned : Owner → Members → List (Owner × Members)
+owned o t = map (λ g. (o, g)) (tables_at key.Gate t)
+
+-- those of the gates of some sets, the first of which has the number n
+abbrev pub set_gates : ℕ → List Members → List (Owner × Members)
+set_gates n [] = []
+set_gates n (u ∷ us) = owned (owner.Set (record { 0 = n })) u ++ set_gates (n + 1) us
+
+-- Gates: the system's, then for each block its own and those of its sets in order.
+abbrev pub block_gates : ℕ → ℕ → List Members → List (Owner × Members)
+block_gates b n [] = []
+block_gates b n (t ∷ ts) =
+    owned (owner.Block (record { 0 = b })) t ++ (set_gates n (tables_at key.Set t) ++ block_gates (b + 1) (n + length (tables_at key.Set t)) ts)
+
+abbrev pub gates_of : Members → List Members → List (Owner × Members)
+gates_of root blocks = owned owner.System root ++ block_gates 0 0 blocks
+
+-- Channels: those of the top table first, then those of each block.
+abbrev pub channels_in : Scope → Members → List (Scope × Members)
+channels_in scope t = map (λ c. (scope, c)) (tables_at key.Channel t)
+
+abbrev pub block_channels : ℕ → List Members → List (Scope × Members)
+block_channels b [] = []
+block_channels b (t ∷ ts) = channels_in (scope.Block (record { 0 = b })) t ++ block_channels (b + 1) ts
+
+abbrev pub channels_of : Members → List (Scope × Members)
+channels_of root = channels_in scope.System root ++ block_channels 0 (tables_at key.Block root)
+
+-- what the lists of the top table and of its blocks name
+pub record ListsParts (root : Members) (s : Structure) : Type 0 where
+  pub signals : AllZip IsSignalTable (tables_at key.Signal root) s.signals
+  pub blocks : AllZip IsBlockTable (tables_at key.Block root) s.blocks
+  pub sets : AllZip IsSetTable (sets_of 0 (tables_at key.Block root)) s.sets
+  pub gates : AllZip (IsGateTable s.signals) (gates_of root (tables_at key.Block root)) s.gates
+  pub channels : AllZip (IsChannelTable s.signals s.blocks s.sets s.gates) (channels_of root) s.channels
+
+-- signals have one name space, blocks and sets share one, channels have one over the whole file, and gates one per agent
+pub record HasDistinctNames (root : Members) : Type 0 where
+  pub signals : AllPairs (λ a b. a ≢ b) (names_of (tables_at key.Signal root))
+  pub agents : AllPairs (λ a b. a ≢ b) (agent_names (tables_at key.Block root))
+  pub channels : AllPairs (λ a b. a ≢ b) (channel_names (tables_at key.Block root) ++ names_of (tables_at key.Channel root))
+  pub gates : HasGates root
+
+pub record IsWithinLimits (s : Structure) : Type 0 where
+  pub signals : length s.signals ≤ 64
+  pub blocks : (0 < length s.blocks) × (length s.blocks ≤ 16)
+  pub sets : length s.sets ≤ 64
+  pub gates : length s.gates ≤ 8 * (1 + length s.blocks + length s.sets)
+  pub channels : length s.channels ≤ 64
+
+-- the top table keeps all rules of the file, and the structure is what it names
+pub record IsFileOf (root : Members) (s : Structure) : Type 0 where
+  pub shape : HasShape (keys_of part.System) root
+  pub version : integer_at key.Version root ≡ Some (pos 1)
+  pub system : HasName key.System root s.system
+  pub budget : (integer_or (pos 100000) key.Budget root ≡ Some (pos s.budget)) × (1 ≤ s.budget) × (s.budget ≤ 1000000)
+  pub parts : ListsParts root s
+  pub names : HasDistinctNames root
+  pub limits : IsWithinLimits s
