@@ -12,6 +12,3 @@ pub mod table;
 
 pub use parts::{EndPoint, Goal, Hop, Route, Source, Station, Via, Wish};
 pub use table::{RouteFault, Routes};
-
-#[cfg(test)]
-mod tests;

@@ -1,7 +1,8 @@
 //! All routes, found slowly: every list of at most three hops is looked at.
-use crate::Hop;
+
+use sdl_routes::Hop;
 use sdl_signal::{ChannelId, GateId, SignalId};
-use sdl_parts::{End, Owner, Structure};
+use sdl_structure::{End, Owner, Structure};
 use std::alloc::{AllocError, Global};
 
 /// A signal with some hops, of which the first `length` count.
