@@ -1,5 +1,6 @@
-use super::item_of;
-use crate::SerialQueue;
+//! The queue of one thread.
+use super::ends::item_of;
+use sdl_queue::SerialQueue;
 use std::test::Fail;
 
 #[test]

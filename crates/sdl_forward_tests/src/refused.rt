@@ -1,5 +1,7 @@
-use super::{Bench, held, hop, item_of, line, systems};
-use crate::{Forwarded, Forwarder};
+//! Refused memory.
+use super::bench::{Bench, held, hop, item_of, line};
+use sdl_examples::ECHO;
+use sdl_forward::{Forwarded, Forwarder};
 use sdl_routes::Station;
 use sdl_signal::BlockId;
 use std::test::Fail;
@@ -7,7 +9,7 @@ use std::test::Fail;
 // Run it with each allocation refused in turn: each refused call is made again, and then answers as it would have.
 #[test]
 fn a_refused_call_succeeds_when_it_is_made_again(rt: HostRuntime) -> Result<(), Fail> {
-    let mut echo = Bench::new(rt.alloc(), systems::ECHO)?;
+    let mut echo = Bench::new(rt.alloc(), ECHO)?;
     let mut forwarder = Forwarder::new(hop(1, false));
     for number in 0..20 {
         echo.put_behind(0, Some(line(0, false)), item_of(0, number))?;

@@ -1,7 +1,7 @@
 use Rattle.std.proofs.Common.{List, Contains, sym, subst}
 use Rattle.sdl_routes.specs.declared.parts.Station.{Station}
 use Rattle.sdl_forward.proofs.Onward.{answered_passed}
-use Rattle.sdl_forward.proofs.tests.Bench.put_behind.Goals as goal
+use Rattle.sdl_forward_tests.proofs.bench.Bench.put_behind.Goals as goal
 
 pub put-requires : goal.put-requires
 put-requires c =

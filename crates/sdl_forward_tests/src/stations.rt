@@ -1,4 +1,6 @@
-use super::{Bench, line, systems};
+//! Which stations a board has.
+use super::bench::{Bench, line};
+use sdl_examples::{ECHO, SPAWN};
 use sdl_routes::Station;
 use sdl_signal::BlockId;
 use std::test::Fail;
@@ -24,10 +26,7 @@ fn a_board_has_a_queue_for_each_station_of_some_route(rt: HostRuntime) -> Result
         inlet,
         Station::Outlet,
     ];
-    for (file, expected) in [
-        (systems::ECHO, echo.as_slice()),
-        (systems::SPAWN, spawn.as_slice()),
-    ] {
+    for (file, expected) in [(ECHO, echo.as_slice()), (SPAWN, spawn.as_slice())] {
         let rests = Bench::new(rt.alloc(), file)?.board.into_rests();
         assert_eq!(rt; rests.len(), expected.len());
         for place in 0..rests.len() {
@@ -41,7 +40,7 @@ fn a_board_has_a_queue_for_each_station_of_some_route(rt: HostRuntime) -> Result
 
 #[test]
 fn no_item_comes_from_where_no_station_is(rt: HostRuntime) -> Result<(), Fail> {
-    let mut spawn = Bench::new(rt.alloc(), systems::SPAWN)?;
+    let mut spawn = Bench::new(rt.alloc(), SPAWN)?;
     for station in [
         line(0, false),
         line(1, true),

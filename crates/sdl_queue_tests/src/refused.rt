@@ -1,4 +1,5 @@
-use super::{item_of, open_two, put_all, rejoin_two};
+//! Refused memory.
+use super::ends::{item_of, open_two, put_all, rejoin_two};
 use std::test::Fail;
 
 // More than a block of the queue holds, so that a put takes memory.

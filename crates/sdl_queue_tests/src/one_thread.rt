@@ -1,5 +1,6 @@
-use super::{item_of, open_two, rejoin_two};
-use crate::{Rest, SerialQueue, queue_open, rejoin};
+//! Calls of the ends, all on one thread.
+use super::ends::{item_of, open_two, rejoin_two};
+use sdl_queue::{Rest, SerialQueue, queue_open, rejoin};
 use std::test::Fail;
 
 #[test]

@@ -1,7 +1,8 @@
+//! Two threads that put while a third takes.
 ghost use Rattle.sdl_queue.specs.Ends.{IsSameFeed, IsSameTap};
 
-use super::{open_two, put_all, rejoin_two};
-use crate::{Feed, SerialQueue, Tap};
+use super::ends::{open_two, put_all, rejoin_two};
+use sdl_queue::{Feed, SerialQueue, Tap};
 use sdl_signal::Item;
 use std::sync::Wait;
 use std::test::Fail;

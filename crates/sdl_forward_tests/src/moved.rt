@@ -1,12 +1,14 @@
-use super::{Bench, held, hop, item_of, line, systems};
-use crate::{Forwarded, Forwarder};
+//! What forwarders do with the items on a board.
+use super::bench::{Bench, held, hop, item_of, line};
+use sdl_examples::ECHO;
+use sdl_forward::{Forwarded, Forwarder};
 use sdl_routes::Station;
 use sdl_signal::BlockId;
 use std::test::Fail;
 
 #[test]
 fn forwarders_bring_items_along_their_routes_in_order(rt: HostRuntime) -> Result<(), Fail> {
-    let mut echo = Bench::new(rt.alloc(), systems::ECHO)?;
+    let mut echo = Bench::new(rt.alloc(), ECHO)?;
     let mut first = Forwarder::new(hop(0, false));
     let mut second = Forwarder::new(hop(1, false));
     assert_eq!(rt; echo.step(&mut first), Forwarded::Idle);
@@ -38,7 +40,7 @@ fn forwarders_bring_items_along_their_routes_in_order(rt: HostRuntime) -> Result
 fn an_item_without_a_next_station_stays_held(rt: HostRuntime) -> Result<(), Fail> {
     // A route that is in no table, and one that does not pass the path.
     for lost in [2, 1] {
-        let mut echo = Bench::new(rt.alloc(), systems::ECHO)?;
+        let mut echo = Bench::new(rt.alloc(), ECHO)?;
         let mut forwarder = Forwarder::new(hop(0, false));
         echo.put_behind(0, None, item_of(lost, 7))?;
         echo.put_behind(0, None, item_of(0, 8))?;
