@@ -3,12 +3,12 @@ ghost use Rattle.std.specs.Prelude.{IfOk};
 ghost use Rattle.sdl_forward.specs.Boards.{IsBoardOf};
 ghost use Rattle.sdl_block.specs.Workers.{CanStep};
 
-use super::stop::Stop;
 use super::tokens::{BACK, Token, before_p, item_of, token_of};
-use crate::{BlockWorker, Stepped};
+use sdl_block::{BlockWorker, Stepped};
 use sdl_forward::Board;
 use sdl_routes::{Routes, Station};
 use sdl_signal::RouteId;
+use sdl_test_systems::Stop;
 use sdl_transition::Agents;
 use std::process::Abort;
 

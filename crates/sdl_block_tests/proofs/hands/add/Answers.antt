@@ -1,6 +1,6 @@
 use Rattle.std.proofs.Common.{rules}
 use Rattle.sdl_block.proofs.Fronts.{routed_more, so_true}
-use Rattle.sdl_block.proofs.tests.hands.add.Goals as goal
+use Rattle.sdl_block_tests.proofs.hands.add.Goals as goal
 
 pub returns : goal.returns
 returns c =

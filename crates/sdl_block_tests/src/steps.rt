@@ -1,10 +1,9 @@
 //! Steps of the block P of Ring.
 use super::acts::Act;
-use super::plan::Plan;
-use super::ring;
-use super::stop::Stop;
+use super::plan::{Plan, run};
 use super::tokens::{BACK, THERE, Token, inlet_of_p, out_of_p};
-use crate::Stepped;
+use sdl_block::Stepped;
+use sdl_test_systems::Stop;
 use std::alloc::Global;
 use std::process::Abort;
 use std::test::Fail;
@@ -63,7 +62,7 @@ fn pass_three(rt: &impl Abort, alloc: Global) -> Result<(), Stop> {
         acts: &acts,
         keeps: None,
     };
-    ring::run(rt, alloc, &plan)
+    run(rt, alloc, &plan)
 }
 
 #[test]
@@ -97,7 +96,7 @@ fn an_item_that_may_not_arrive_is_kept(rt: HostRuntime) -> Result<(), Fail> {
         acts: &acts,
         keeps: Some(lost),
     };
-    ring::run(&rt, rt.alloc(), &plan)?;
+    run(&rt, rt.alloc(), &plan)?;
     Ok(())
 }
 

@@ -1,7 +1,7 @@
 use Rattle.std.proofs.Common.{List, Some, Contains, sym, subst}
 use Rattle.sdl_routes.specs.declared.parts.Station.{Station}
 use Rattle.sdl_forward.proofs.Onward.{answered_passed}
-use Rattle.sdl_block.proofs.tests.acts.come.Goals as goal
+use Rattle.sdl_block_tests.proofs.acts.come.Goals as goal
 
 pub put-requires : goal.put-requires
 put-requires c =

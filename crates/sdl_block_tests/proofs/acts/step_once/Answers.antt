@@ -1,6 +1,6 @@
 use Rattle.std.proofs.Common.{sym, subst}
 use Rattle.sdl_instances.specs.Cores.{CanFire}
-use Rattle.sdl_block.proofs.tests.acts.step_once.Goals as goal
+use Rattle.sdl_block_tests.proofs.acts.step_once.Goals as goal
 
 pub returns : goal.returns
 returns g c =

@@ -3,15 +3,14 @@ ghost use Rattle.std.specs.Prelude.{IsTrue, ◌↔◌};
 ghost use Rattle.sdl_forward.specs.Boards.{IsBoardOf};
 ghost use Rattle.sdl_block.specs.Phases.{AreRouted, IsRouted};
 
-use super::stop::Stop;
-use super::systems::RING;
 use super::tokens::{BACK, THERE, Token, item_of, out_of_p, out_of_q, token_of};
-use crate::Hand;
 use arrayvec::ArrayVec;
+use sdl_block::Hand;
+use sdl_examples::RING;
 use sdl_forward::Board;
 use sdl_routes::{Routes, Station};
 use sdl_signal::Item;
-use sdl_parts::{check, read_structure};
+use sdl_test_systems::{Stop, routes_of};
 use std::alloc::Global;
 use std::process::Abort;
 use std::test::Fail;
@@ -74,9 +73,7 @@ fn take_from(board: &mut Board, station: Station) -> Option<Token> {
 
 // Three items of two stations: those of each are there in the order of the hand.
 fn in_order(rt: &impl Abort, alloc: Global) -> Result<(), Stop> {
-    let structure = read_structure(alloc, RING)?;
-    let checked = check(structure).ok().ok_or("not well formed")?;
-    let routes = Routes::build(alloc, &checked)?;
+    let (_, routes) = routes_of(alloc, RING)?;
     let mut board = Board::new(alloc, &routes)?;
     let mut hand = Hand {
         kept: None,
