@@ -1,5 +1,6 @@
 //! A structure text as a test uses it.
-ghost use Rattle.std.specs.Prelude.{IfOk, All};
+ghost use Rattle.std.specs.Prelude.{IfOk};
+ghost use Rattle.std.specs.List.{AllByRecursion};
 ghost use Rattle.sdl_routes.specs.Routes.{AreRoutesOf};
 ghost use Rattle.sdl_transition.specs.Bound.{IsBound};
 ghost use Rattle.sdl_transition.specs.Transitions.{IsAllowedBehaviour};
@@ -27,7 +28,7 @@ pub fn bind_to<S: Agents + Drop>(
     text: &str,
     behaviours: Vec<Behaviour<S>>,
 ) -> Result<Bound<S>, Stop>
-    requires { All (IsAllowedBehaviour S.may) behaviours.items }
+    requires { AllByRecursion (IsAllowedBehaviour S.may) behaviours.items }
     ensures { IfOk result (IsBound S.may) }
 {
     let (checked, routes) = routes_of(alloc, text)?;
