@@ -5,6 +5,3 @@ mod putting;
 pub mod worker;
 
 pub use worker::{BlockWorker, Hand, Refused, Stepped, answer_of};
-
-#[cfg(test)]
-mod tests;

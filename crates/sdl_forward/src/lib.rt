@@ -8,6 +8,3 @@ mod stations;
 
 pub use board::Board;
 pub use forwarder::{Forwarded, Forwarder};
-
-#[cfg(test)]
-mod tests;

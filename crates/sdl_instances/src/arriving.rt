@@ -3,12 +3,12 @@ ghost use Rattle.std.specs.Prelude.{◌≡◌, ◌↔◌, IsTrue, All, IfSome, S
 ghost use Rattle.sdl_transition.specs.Offers.{IsLegalPid, IsLegalValue, AreOfSorts};
 ghost use Rattle.sdl_transition.specs.Offers as sorting;
 ghost use Rattle.sdl_instances.specs.Legal.{IsLegal};
+ghost use Rattle.sdl_instances.specs.Machine as machine;
 ghost use Rattle.sdl_instances.specs.Arriving.{CanArrive, EndsAt, IsCarried, IsSetOf, NamesOf};
 ghost use Rattle.sdl_instances.specs.Core.{system_of};
 ghost use Rattle.sdl_instances.specs.Run.{turns};
 
 use crate::block::BlockCore;
-use crate::choice::is_of;
 use crate::parts::ProcessSet;
 use crate::table::Table;
 use arrayvec::ArrayVec;
@@ -178,5 +178,16 @@ fn names_of(set: SetId, to: Option<Pid>) -> bool
     match to {
         Some(pid) => is_of(set, pid),
         None => true,
+    }
+}
+
+/// Whether the Pid is an instance of the set.
+fn is_of(set: SetId, p: Pid) -> bool
+    ensures { result ≡ machine.is_of set p }
+{
+    match p {
+        Pid::Inst(own, _) => own.0 == set.0,
+        Pid::Null => false,
+        Pid::Env => false,
     }
 }

@@ -16,9 +16,9 @@ use crate::outputs::{set_of, signal_of};
 use crate::ready::Look;
 use crate::table::Table;
 use arrayvec::ArrayVec;
+use sdl_parts::Checked;
 use sdl_routes::Routes;
 use sdl_signal::{Item, StateId};
-use sdl_parts::Checked;
 use sdl_transition::{Agents, BlockParts, Frame};
 use std::alloc::{AllocError, Global};
 

@@ -6,8 +6,8 @@ ghost use Rattle.sdl_transition.specs.Rules.{block_rules};
 ghost use Rattle.sdl_transition.specs.Transitions.{IsAllowedBehaviour};
 ghost use Rattle.sdl_instances.specs.Core.{IsBoundIn, signals_of, sets_of};
 
-use sdl_routes::Routes;
 use sdl_parts::Checked;
+use sdl_routes::Routes;
 use sdl_transition::{Agents, BlockParts};
 
 /// The parts of each block of one system are what a core requires: bound to the structure, with their index, and with

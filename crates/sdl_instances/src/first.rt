@@ -11,8 +11,8 @@ use crate::instance::Instance;
 use crate::parts::ProcessSet;
 use arrayvec::ArrayVec;
 use indexmap::IndexMap;
-use sdl_signal::{BlockId, Pid, SetId, Sort, Value};
 use sdl_parts::{Set, SignalDecl};
+use sdl_signal::{BlockId, Pid, SetId, Sort, Value};
 use sdl_transition::{Behaviour, BlockParts};
 use std::alloc::{AllocError, Global};
 

@@ -6,7 +6,6 @@ mod arriving;
 pub mod block;
 pub mod bounds;
 mod by_set;
-pub mod choice;
 pub mod copies;
 pub mod event;
 mod first;
@@ -18,8 +17,6 @@ mod outputs;
 pub mod parts;
 mod ready;
 pub mod table;
-#[cfg(test)]
-mod tests;
 mod turning;
 
 pub use block::BlockCore;

@@ -10,6 +10,3 @@ pub use ends::{Feed, Rejoined, Tap, queue_open, rejoin};
 pub use rest::Rest;
 pub use rule::Tagged;
 pub use serial::SerialQueue;
-
-#[cfg(test)]
-mod tests;

@@ -1,0 +1,11 @@
+//! Boards and forwarders at work, with the structures of two systems.
+#![tactic(auto)]
+
+#[cfg(test)]
+mod bench;
+#[cfg(test)]
+mod moved;
+#[cfg(test)]
+mod refused;
+#[cfg(test)]
+mod stations;

@@ -1,0 +1,21 @@
+//! Blocks of two systems, driven by calls of their cores.
+#![tactic(auto)]
+
+#[cfg(test)]
+mod acts;
+#[cfg(test)]
+mod many;
+#[cfg(test)]
+mod plan;
+#[cfg(test)]
+mod refused;
+#[cfg(test)]
+mod rows;
+#[cfg(test)]
+mod rows_kept;
+#[cfg(test)]
+mod shown;
+#[cfg(test)]
+mod spawn;
+#[cfg(test)]
+mod walk;

@@ -1,0 +1,17 @@
+//! Many instances.
+use super::plan::{Plan, Work};
+use super::spawn;
+use std::test::Fail;
+
+#[test]
+fn as_many_instances_as_a_set_may_have_come_and_go(rt: HostRuntime) -> Result<(), Fail> {
+    let alloc = rt.alloc();
+    let file = spawn::file(alloc, 1, 1024)?;
+    let plan = Plan {
+        file: file.as_str(),
+        budget: 1_000_000,
+        work: Work::Walk(1024, 6000),
+    };
+    spawn::run(&rt, alloc, &plan)?;
+    Ok(())
+}

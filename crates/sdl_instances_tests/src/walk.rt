@@ -1,0 +1,347 @@
+//! A random walk: Kids are made and stopped, and each is found where its order of creation says.
+ghost use Rattle.std.specs.Prelude.{IfOk};
+ghost use Rattle.sdl_instances.specs.Core.{IsSound};
+ghost use Rattle.sdl_instances.specs.Cores.{CanFire, core_of, parts_of, system_in};
+
+use super::acts::{Arriving, arrive, turn};
+use super::shown::{On, Saw, Shown, answer_of, quiet};
+use super::spawn::{ASK, DIE, HELLO, MAKE, boss, kid};
+use sdl_instances::{Arrival, BlockCore, Cause, Done, Event, Turned};
+use sdl_routes::Routes;
+use sdl_signal::{Pid, SignalId, Value};
+use sdl_test_systems::Stop;
+use sdl_transition::Agents;
+use std::alloc::Global;
+use std::process::Abort;
+
+/// The serial numbers of the living Kids in the order of their creation, the last one given out, and what the random
+/// numbers go on from.
+#[derive(Drop)]
+struct Known {
+    living: Vec<u32>,
+    last: u32,
+    seed: u64,
+}
+
+impl Known {
+    /// The next number of a linear congruential rule.
+    fn pick(&mut self) -> u32 {
+        self.seed = self
+            .seed
+            .wrapping_mul(6_364_136_223_846_793_005)
+            .wrapping_add(1_442_695_040_888_963_407);
+        (self.seed >> 33) as u32
+    }
+}
+
+/// An item of route k and signal k.
+fn along(route: SignalId, value: Option<Value>, sender: Pid, to: Option<Pid>) -> Arriving {
+    Arriving {
+        route: route.0,
+        signal: route,
+        value,
+        sender,
+        to,
+        stamp: 0,
+    }
+}
+
+/// A turn, as its event shows it.
+fn next_turn<S: Agents>(
+    rt: &impl Abort,
+    core: &mut BlockCore<S>,
+    routes: &Routes,
+    pick: u32,
+) -> Result<Shown, Stop>
+    requires sound { IsSound S.may (system_in core.old routes.now) (core_of core.old) }
+    requires parts { CanFire S.may (parts_of core.old) }
+    ensures sound { IfOk result (λ _. IsSound S.may (system_in core.new routes.now) (core_of core.new)) }
+    ensures parts { IfOk result (λ _. CanFire S.may (parts_of core.new)) }
+{
+    let turned = turn(rt, core, routes, pick)?;
+    match answer_of(rt, &turned, core.log().as_slice())? {
+        Saw::Turn(shown) => Ok(shown),
+        _ => Err(Stop::Wrong("no turn")),
+    }
+}
+
+/// Lets the Boss make a Kid, which starts; where there are as many as may be, none is made.
+fn make_one<S: Agents>(
+    rt: &impl Abort,
+    core: &mut BlockCore<S>,
+    routes: &Routes,
+    known: &mut Known,
+    most: u32,
+) -> Result<(), Stop>
+    requires sound { IsSound S.may (system_in core.old routes.now) (core_of core.old) }
+    requires parts { CanFire S.may (parts_of core.old) }
+    ensures sound { IfOk result (λ _. IsSound S.may (system_in core.new routes.now) (core_of core.new)) }
+    ensures parts { IfOk result (λ _. CanFire S.may (parts_of core.new)) }
+{
+    let make = along(MAKE, None, Pid::Env, None);
+    let arrival = arrive(rt, core, routes, &make, known.pick())?;
+    assert_eq!(rt; arrival, Arrival::Entered(boss()));
+    let shown = next_turn(rt, core, routes, known.pick())?;
+    assert_eq!(rt; (shown.pid, shown.on), (boss(), On::Fire(MAKE)));
+    if known.living.len() == most as usize {
+        assert_eq!(rt; shown.made, Some(Pid::Null));
+        return Ok(());
+    }
+    let serial = known.last.wrapping_add(1);
+    assert_eq!(rt; shown.made, Some(kid(serial)));
+    known.last = serial;
+    known.living.push(serial)?;
+    let start = next_turn(rt, core, routes, known.pick())?;
+    assert_eq!(rt; start, quiet(kid(serial), On::Start));
+    Ok(())
+}
+
+/// Stops a living Kid, whichever it is.
+fn stop_one<S: Agents>(
+    rt: &impl Abort,
+    core: &mut BlockCore<S>,
+    routes: &Routes,
+    known: &mut Known,
+) -> Result<(), Stop>
+    requires sound { IsSound S.may (system_in core.old routes.now) (core_of core.old) }
+    requires parts { CanFire S.may (parts_of core.old) }
+    ensures sound { IfOk result (λ _. IsSound S.may (system_in core.new routes.now) (core_of core.new)) }
+    ensures parts { IfOk result (λ _. CanFire S.may (parts_of core.new)) }
+{
+    let pick = known.pick() as usize;
+    if known.living.is_empty() {
+        return Ok(());
+    }
+    let place = pick % known.living.len();
+    let pid = kid(known.living.remove(place));
+    let die = along(DIE, None, boss(), Some(pid));
+    let arrival = arrive(rt, core, routes, &die, known.pick())?;
+    assert_eq!(rt; arrival, Arrival::Entered(pid));
+    let dies = Shown {
+        stopped: Some(0),
+        ..quiet(pid, On::Fire(DIE))
+    };
+    assert_eq!(rt; next_turn(rt, core, routes, known.pick())?, dies);
+    let hello = along(HELLO, None, boss(), Some(pid));
+    let arrival = arrive(rt, core, routes, &hello, known.pick())?;
+    assert_eq!(rt; arrival, Arrival::Discarded(Cause::Gone));
+    Ok(())
+}
+
+/// Asks whichever Kid is at the pick in the order of creation.
+fn ask_one<S: Agents>(
+    rt: &impl Abort,
+    core: &mut BlockCore<S>,
+    routes: &Routes,
+    known: &mut Known,
+) -> Result<(), Stop>
+    requires sound { IsSound S.may (system_in core.old routes.now) (core_of core.old) }
+    requires parts { CanFire S.may (parts_of core.old) }
+    ensures sound { IfOk result (λ _. IsSound S.may (system_in core.new routes.now) (core_of core.new)) }
+    ensures parts { IfOk result (λ _. CanFire S.may (parts_of core.new)) }
+{
+    let pick = known.pick();
+    let ask = along(ASK, Some(Value::Integer(1)), Pid::Env, None);
+    let arrival = arrive(rt, core, routes, &ask, pick)?;
+    if known.living.is_empty() {
+        assert_eq!(rt; arrival, Arrival::Discarded(Cause::NoInstance));
+        return Ok(());
+    }
+    let place = pick as usize % known.living.len();
+    let pid = kid(known.living[place]);
+    assert_eq!(rt; arrival, Arrival::Entered(pid));
+    let shown = next_turn(rt, core, routes, known.pick())?;
+    assert_eq!(rt; (shown.pid, shown.on), (pid, On::Implicit(ASK)));
+    Ok(())
+}
+
+/// How many Kids were made, by the log.
+fn made_by_log(log: &[Event]) -> usize {
+    log.iter()
+        .filter(|event| match event {
+            Event::Turn { done, .. } => matches!(
+                done.as_slice().first(),
+                Some(Done::Made(Pid::Inst(_, _)))
+            ),
+            _ => false,
+        })
+        .count()
+}
+
+/// How many Kids have stopped, by the log.
+fn stopped_by_log(log: &[Event]) -> usize {
+    log.iter()
+        .filter(|event| match event {
+            Event::Turn { stopped, .. } => stopped.is_some(),
+            _ => false,
+        })
+        .count()
+}
+
+/// The log counts the living Kids as the walk does. There is one at first.
+fn compare(rt: &impl Abort, log: &[Event], known: &Known) {
+    let ever = made_by_log(log).wrapping_add(1);
+    let now = stopped_by_log(log).wrapping_add(known.living.len());
+    assert_eq!(rt; ever, now);
+}
+
+/// Asks the Kid at this place in the order of creation.
+fn ask_at<S: Agents>(
+    rt: &impl Abort,
+    core: &mut BlockCore<S>,
+    routes: &Routes,
+    pick: u32,
+    serial: u32,
+) -> Result<(), Stop>
+    requires sound { IsSound S.may (system_in core.old routes.now) (core_of core.old) }
+    requires parts { CanFire S.may (parts_of core.old) }
+    ensures sound { IfOk result (λ _. IsSound S.may (system_in core.new routes.now) (core_of core.new)) }
+    ensures parts { IfOk result (λ _. CanFire S.may (parts_of core.new)) }
+{
+    let ask = along(ASK, Some(Value::Integer(1)), Pid::Env, None);
+    let arrival = arrive(rt, core, routes, &ask, pick)?;
+    assert_eq!(rt; arrival, Arrival::Entered(kid(serial)));
+    Ok(())
+}
+
+/// Asks each of the Kids, of which there are so many at most, by its place in the order of creation.
+fn ask_each<S: Agents>(
+    rt: &impl Abort,
+    core: &mut BlockCore<S>,
+    routes: &Routes,
+    living: &[u32],
+    most: u32,
+) -> Result<(), Stop>
+    requires sound { IsSound S.may (system_in core.old routes.now) (core_of core.old) }
+    requires parts { CanFire S.may (parts_of core.old) }
+    ensures sound { IfOk result (λ _. IsSound S.may (system_in core.new routes.now) (core_of core.new)) }
+    ensures parts { IfOk result (λ _. CanFire S.may (parts_of core.new)) }
+{
+    for pick in 0..most {
+        match living.get(pick as usize) {
+            Some(serial) => ask_at(rt, core, routes, pick, *serial)?,
+            None => return Ok(()),
+        }
+    }
+    Ok(())
+}
+
+/// Lets the ready Kid at the pick in the order of creation let `ask` go.
+fn ignore_at<S: Agents>(
+    rt: &impl Abort,
+    core: &mut BlockCore<S>,
+    routes: &Routes,
+    ready: &mut Vec<u32>,
+    pick: u32,
+) -> Result<(), Stop>
+    requires sound { IsSound S.may (system_in core.old routes.now) (core_of core.old) }
+    requires parts { CanFire S.may (parts_of core.old) }
+    ensures sound { IfOk result (λ _. IsSound S.may (system_in core.new routes.now) (core_of core.new)) }
+    ensures parts { IfOk result (λ _. CanFire S.may (parts_of core.new)) }
+{
+    if ready.is_empty() {
+        return Err(Stop::Wrong("none is ready"));
+    }
+    let place = pick as usize % ready.len();
+    let pid = kid(ready.remove(place));
+    let shown = next_turn(rt, core, routes, pick)?;
+    assert_eq!(rt; (shown.pid, shown.on), (pid, On::Implicit(ASK)));
+    Ok(())
+}
+
+/// Lets each of the Kids let `ask` go, whichever is at the pick among those that have not yet.
+fn ignore_each<S: Agents>(
+    rt: &impl Abort,
+    core: &mut BlockCore<S>,
+    routes: &Routes,
+    known: &mut Known,
+) -> Result<(), Stop>
+    requires sound { IsSound S.may (system_in core.old routes.now) (core_of core.old) }
+    requires parts { CanFire S.may (parts_of core.old) }
+    ensures sound { IfOk result (λ _. IsSound S.may (system_in core.new routes.now) (core_of core.new)) }
+    ensures parts { IfOk result (λ _. CanFire S.may (parts_of core.new)) }
+{
+    let mut ready = known.living.clone()?;
+    for _ in 0..known.living.len() {
+        ignore_at(rt, core, routes, &mut ready, known.pick())?;
+    }
+    let turned = turn(rt, core, routes, 0)?;
+    assert!(rt; matches!(turned, Turned::Idle));
+    Ok(())
+}
+
+/// The Kids are counted, and each is found, as the walk knows them; and so are those that are ready.
+fn ask_all<S: Agents>(
+    rt: &impl Abort,
+    core: &mut BlockCore<S>,
+    routes: &Routes,
+    known: &mut Known,
+    most: u32,
+) -> Result<(), Stop>
+    requires sound { IsSound S.may (system_in core.old routes.now) (core_of core.old) }
+    requires parts { CanFire S.may (parts_of core.old) }
+    ensures sound { IfOk result (λ _. IsSound S.may (system_in core.new routes.now) (core_of core.new)) }
+    ensures parts { IfOk result (λ _. CanFire S.may (parts_of core.new)) }
+{
+    ask_each(rt, core, routes, known.living.as_slice(), most)?;
+    ignore_each(rt, core, routes, known)
+}
+
+/// A step of the walk.
+fn walk_on<S: Agents>(
+    rt: &impl Abort,
+    core: &mut BlockCore<S>,
+    routes: &Routes,
+    known: &mut Known,
+    most: u32,
+    choice: u32,
+) -> Result<(), Stop>
+    requires sound { IsSound S.may (system_in core.old routes.now) (core_of core.old) }
+    requires parts { CanFire S.may (parts_of core.old) }
+    ensures sound { IfOk result (λ _. IsSound S.may (system_in core.new routes.now) (core_of core.new)) }
+    ensures parts { IfOk result (λ _. CanFire S.may (parts_of core.new)) }
+{
+    match choice {
+        0 => make_one(rt, core, routes, known, most),
+        1 => ask_one(rt, core, routes, known),
+        _ => stop_one(rt, core, routes, known),
+    }
+}
+
+/// Makes Kids until there are as many as may be, and goes on at random, stopping more than are made.
+pub fn walk<S: Agents>(
+    rt: &impl Abort,
+    alloc: Global,
+    core: &mut BlockCore<S>,
+    routes: &Routes,
+    most: u32,
+    steps: u32,
+) -> Result<(), Stop>
+    requires sound { IsSound S.may (system_in core.old routes.now) (core_of core.old) }
+    requires parts { CanFire S.may (parts_of core.old) }
+    ensures sound { IfOk result (λ _. IsSound S.may (system_in core.new routes.now) (core_of core.new)) }
+    ensures parts { IfOk result (λ _. CanFire S.may (parts_of core.new)) }
+{
+    let mut living = Vec::new(alloc);
+    living.push(1)?;
+    let mut known = Known {
+        living,
+        last: 1,
+        seed: 1,
+    };
+    next_turn(rt, core, routes, 0)?;
+    next_turn(rt, core, routes, 0)?;
+    for step in 0..steps {
+        let choice = if step <= most { 0 } else { known.pick() % 4 };
+        walk_on(rt, core, routes, &mut known, most, choice)?;
+        if step % 64 == 0 {
+            compare(rt, core.log().as_slice(), &known);
+        }
+        if step % 512 == 0 {
+            ask_all(rt, core, routes, &mut known, most)?;
+        }
+    }
+    assert!(rt; known.living.is_empty());
+    compare(rt, core.log().as_slice(), &known);
+    Ok(())
+}
