@@ -1,13 +1,12 @@
-//! Behaviours of transitions that are stored as they are added.
+//! Behaviours of stored transitions.
 ghost use Rattle.std.specs.Prelude.{◌≡◌, ◌+◌, ◌<◌, ◌≤◌, length, IfOk, vec_len};
 ghost use Rattle.std.specs.List.{AllByRecursion};
 ghost use Rattle.sdl_signal.specs.Names.{IsName};
-ghost use Rattle.sdl_transition.specs.Offers.{IsFrameOf, Conforms};
 ghost use Rattle.sdl_transition.specs.Transitions.{IsAllowed, IsAllowedBehaviour};
 
 use arrayvec::ArrayVec;
 use sdl_signal::{Name, SetId, SignalId, StateId, name};
-use sdl_transition::{Agents, Behaviour, Kind, Named, Offer, Row, Run, Transition};
+use sdl_transition::{Agents, Behaviour, Kind, Named, Row, Transition};
 use std::alloc::{AllocError, Global};
 
 /// A number that a behaviour uses, with the name that it means by it.
@@ -60,7 +59,7 @@ fn add_uses<S: Agents>(behaviour: Behaviour<S>, uses: &[Use]) -> Result<Behaviou
 }
 
 /// A behaviour in the one state idle, without variables and rows, with these uses and this start.
-fn behaviour<S: Agents>(
+pub fn behaviour<S: Agents>(
     alloc: Global,
     set: SetId,
     uses: &[Use],
@@ -80,39 +79,15 @@ fn behaviour<S: Agents>(
     )
 }
 
-/// A behaviour in the one state idle, without variables and rows, with these uses and this start, which is stored.
-pub fn started<S: Agents>(
-    alloc: Global,
-    set: SetId,
-    uses: &[Use],
-    number: u32,
-    offer: Offer,
-    run: Run,
-) -> Result<Behaviour<S>, AllocError>
-    requires names { AllByRecursion (λ u. IsName u.2.now) uses.now }
-    requires room { length uses.now ≤ 256 }
-    requires callable { (f : _) → IsFrameOf offer f.now → Run.pre run f }
-    requires allowed { (f : _) (step : _) → IsFrameOf offer f.now → Run.post run f step → S.may number f.now step }
-    requires conforms { (f : _) (step : _) → IsFrameOf offer f.now → Run.post run f step → Conforms offer step }
-    ensures allowed { IfOk result (IsAllowedBehaviour S.may) }
-    ensures rows { IfOk result (λ b. vec_len b.rows ≡ 0) }
-{
-    behaviour(alloc, set, uses, Transition::store(number, offer, run))
-}
-
-/// Stores a transition, and adds it as the row in idle for the signal.
+/// Adds the row in idle for the signal.
 pub fn with_row<S: Agents>(
     behaviour: Behaviour<S>,
     signal: SignalId,
-    number: u32,
-    offer: Offer,
-    run: Run,
+    transition: Transition<S>,
 ) -> Result<Behaviour<S>, AllocError>
     requires room { vec_len behaviour.rows < 256 }
-    requires rest { IsAllowedBehaviour S.may behaviour }
-    requires callable { (f : _) → IsFrameOf offer f.now → Run.pre run f }
-    requires allowed { (f : _) (step : _) → IsFrameOf offer f.now → Run.post run f step → S.may number f.now step }
-    requires conforms { (f : _) (step : _) → IsFrameOf offer f.now → Run.post run f step → Conforms offer step }
+    requires allowed { IsAllowedBehaviour S.may behaviour }
+    requires row { IsAllowed S.may transition }
     ensures allowed { IfOk result (IsAllowedBehaviour S.may) }
     ensures rows { IfOk result (λ b. vec_len b.rows ≡ vec_len behaviour.rows + 1) }
 {
@@ -120,10 +95,28 @@ pub fn with_row<S: Agents>(
     let row = Row {
         state: IDLE,
         signal,
-        transition: Transition::store(number, offer, run),
+        transition,
     };
     match behaviour.add_row(row) {
         Ok(()) => Ok(behaviour),
         Err((_, error)) => Err(error),
     }
+}
+
+/// A behaviour with one row.
+pub fn with_one_row<S: Agents>(
+    alloc: Global,
+    set: SetId,
+    uses: &[Use],
+    signal: SignalId,
+    start_and_row: (Transition<S>, Transition<S>),
+) -> Result<Behaviour<S>, AllocError>
+    requires names { AllByRecursion (λ u. IsName u.2.now) uses.now }
+    requires room { length uses.now ≤ 256 }
+    requires start { IsAllowed S.may start_and_row.0 }
+    requires row { IsAllowed S.may start_and_row.1 }
+    ensures allowed { IfOk result (IsAllowedBehaviour S.may) }
+{
+    let (start, row) = start_and_row;
+    with_row(behaviour(alloc, set, uses, start)?, signal, row)
 }

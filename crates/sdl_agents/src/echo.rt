@@ -1,14 +1,13 @@
 //! Echo: E answers `ping(n)` with `pong(n)`.
-ghost use Rattle.std.specs.Prelude.{◌≡◌, vec_len};
-ghost use Rattle.sdl_transition.specs.Transitions.{IsAllowedBehaviour};
+ghost use Rattle.sdl_transition.specs.Transitions.{IsAllowed};
 ghost use Rattle.sdl_agents.specs.Tables.{EchoMay};
 
-use crate::behaviours::{Use, started, with_row};
+use crate::behaviours::{Use, with_one_row};
 use crate::offers::{forward_offer, start_offer};
 use crate::runner::Runner;
 use crate::steps::{begin, forward};
 use sdl_signal::{SetId, SignalId};
-use sdl_transition::{Agents, Behaviour, Frame, Kind, Run};
+use sdl_transition::{Agents, Frame, Kind, Run, Transition};
 use std::alloc::{AllocError, Global};
 
 /// The agents of Echo.
@@ -33,24 +32,29 @@ const USES_OF_E: [Use; 3] = [
 ];
 
 /// Makes the behaviour of E, and hands it to the runner.
-pub fn run<R: Runner + Drop>(alloc: Global, sets: u32, runner: R) -> Result<R::Answer, AllocError> {
-    let run: Run = Box::new(alloc, |frame: &Frame| begin(frame))?;
-    let e = started(alloc, E, USES_OF_E.as_slice(), 0, start_offer(sets), run)?;
-    with_ping(alloc, sets, e, runner)
+pub fn run<R: Runner + Drop>(alloc: Global, sets: u32, runner: R) -> Result<R::Answer, AllocError>
+    requires { R.can_run runner }
+{
+    let start: Run = Box::new(alloc, |frame: &Frame| begin(frame))?;
+    let ping: Run = Box::new(alloc, |frame: &Frame| forward(frame, PONG))?;
+    let of_e = (
+        Transition::store(0, start_offer(sets), start),
+        Transition::store(1, forward_offer(sets, PING, PONG), ping),
+    );
+    run_stored(alloc, of_e, runner)
 }
 
-/// Adds the row for `ping`, and hands E to the runner.
-fn with_ping<R: Runner + Drop>(
+/// Hands E to the runner, with its start and its row for `ping`.
+fn run_stored<R: Runner + Drop>(
     alloc: Global,
-    sets: u32,
-    e: Behaviour<Echo>,
+    of_e: (Transition<Echo>, Transition<Echo>),
     runner: R,
 ) -> Result<R::Answer, AllocError>
-    requires allowed { IsAllowedBehaviour EchoMay e }
-    requires rows { vec_len e.rows ≡ 0 }
+    requires runner { R.can_run runner }
+    requires start { IsAllowed EchoMay of_e.0 }
+    requires ping { IsAllowed EchoMay of_e.1 }
 {
-    let run: Run = Box::new(alloc, |frame: &Frame| forward(frame, PONG))?;
-    let e = with_row(e, PING, 1, forward_offer(sets, PING, PONG), run)?;
+    let e = with_one_row(alloc, E, USES_OF_E.as_slice(), PING, of_e)?;
     let behaviours = Vec::from_array(alloc, [e])?;
     Ok(runner.run(behaviours))
 }

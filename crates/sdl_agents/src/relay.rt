@@ -1,14 +1,13 @@
 //! Relay: A and C send `num(n)` on for `put(n)`, and B sends `out(n)` on for `num(n)`.
-ghost use Rattle.std.specs.Prelude.{◌≡◌, vec_len};
-ghost use Rattle.sdl_transition.specs.Transitions.{IsAllowedBehaviour};
+ghost use Rattle.sdl_transition.specs.Transitions.{IsAllowed};
 ghost use Rattle.sdl_agents.specs.Tables.{RelayMay};
 
-use crate::behaviours::{Use, started, with_row};
+use crate::behaviours::{Use, with_one_row};
 use crate::offers::{forward_offer, start_offer};
 use crate::runner::Runner;
 use crate::steps::{begin, forward};
 use sdl_signal::{SetId, SignalId};
-use sdl_transition::{Agents, Behaviour, Frame, Kind, Run};
+use sdl_transition::{Agents, Frame, Kind, Run, Transition};
 use std::alloc::{AllocError, Global};
 
 /// The agents of Relay.
@@ -53,89 +52,49 @@ const USES_OF_B: [Use; 3] = [
 ];
 
 /// Makes the behaviours of A, C and B, and hands them to the runner.
-pub fn run<R: Runner + Drop>(alloc: Global, sets: u32, runner: R) -> Result<R::Answer, AllocError> {
-    let run: Run = Box::new(alloc, |frame: &Frame| begin(frame))?;
-    let a = started(alloc, A, USES_OF_A.as_slice(), 0, start_offer(sets), run)?;
-    with_put_at_a(alloc, sets, a, runner)
+pub fn run<R: Runner + Drop>(alloc: Global, sets: u32, runner: R) -> Result<R::Answer, AllocError>
+    requires { R.can_run runner }
+{
+    let start_a: Run = Box::new(alloc, |frame: &Frame| begin(frame))?;
+    let put_a: Run = Box::new(alloc, |frame: &Frame| forward(frame, NUM))?;
+    let start_c: Run = Box::new(alloc, |frame: &Frame| begin(frame))?;
+    let put_c: Run = Box::new(alloc, |frame: &Frame| forward(frame, NUM))?;
+    let start_b: Run = Box::new(alloc, |frame: &Frame| begin(frame))?;
+    let num_b: Run = Box::new(alloc, |frame: &Frame| forward(frame, OUT))?;
+    let of_a = (
+        Transition::store(0, start_offer(sets), start_a),
+        Transition::store(1, forward_offer(sets, PUT, NUM), put_a),
+    );
+    let of_c = (
+        Transition::store(0, start_offer(sets), start_c),
+        Transition::store(1, forward_offer(sets, PUT, NUM), put_c),
+    );
+    let of_b = (
+        Transition::store(0, start_offer(sets), start_b),
+        Transition::store(2, forward_offer(sets, NUM, OUT), num_b),
+    );
+    run_stored(alloc, of_a, of_c, of_b, runner)
 }
 
-/// Adds the row of A, and goes on with C.
-fn with_put_at_a<R: Runner + Drop>(
+/// Hands A, C and B to the runner, each with its start and its one row.
+fn run_stored<R: Runner + Drop>(
     alloc: Global,
-    sets: u32,
-    a: Behaviour<Relay>,
+    of_a: (Transition<Relay>, Transition<Relay>),
+    of_c: (Transition<Relay>, Transition<Relay>),
+    of_b: (Transition<Relay>, Transition<Relay>),
     runner: R,
 ) -> Result<R::Answer, AllocError>
-    requires allowed { IsAllowedBehaviour RelayMay a }
-    requires rows { vec_len a.rows ≡ 0 }
+    requires runner { R.can_run runner }
+    requires start_a { IsAllowed RelayMay of_a.0 }
+    requires put_a { IsAllowed RelayMay of_a.1 }
+    requires start_c { IsAllowed RelayMay of_c.0 }
+    requires put_c { IsAllowed RelayMay of_c.1 }
+    requires start_b { IsAllowed RelayMay of_b.0 }
+    requires num_b { IsAllowed RelayMay of_b.1 }
 {
-    let run: Run = Box::new(alloc, |frame: &Frame| forward(frame, NUM))?;
-    let a = with_row(a, PUT, 1, forward_offer(sets, PUT, NUM), run)?;
-    with_start_of_c(alloc, sets, a, runner)
-}
-
-/// Makes C with its start.
-fn with_start_of_c<R: Runner + Drop>(
-    alloc: Global,
-    sets: u32,
-    a: Behaviour<Relay>,
-    runner: R,
-) -> Result<R::Answer, AllocError>
-    requires a { IsAllowedBehaviour RelayMay a }
-{
-    let run: Run = Box::new(alloc, |frame: &Frame| begin(frame))?;
-    let c = started(alloc, C, USES_OF_C.as_slice(), 0, start_offer(sets), run)?;
-    with_put_at_c(alloc, sets, a, c, runner)
-}
-
-/// Adds the row of C, and goes on with B.
-fn with_put_at_c<R: Runner + Drop>(
-    alloc: Global,
-    sets: u32,
-    a: Behaviour<Relay>,
-    c: Behaviour<Relay>,
-    runner: R,
-) -> Result<R::Answer, AllocError>
-    requires a { IsAllowedBehaviour RelayMay a }
-    requires c { IsAllowedBehaviour RelayMay c }
-    requires rows { vec_len c.rows ≡ 0 }
-{
-    let run: Run = Box::new(alloc, |frame: &Frame| forward(frame, NUM))?;
-    let c = with_row(c, PUT, 1, forward_offer(sets, PUT, NUM), run)?;
-    with_start_of_b(alloc, sets, (a, c), runner)
-}
-
-/// Makes B with its start.
-fn with_start_of_b<R: Runner + Drop>(
-    alloc: Global,
-    sets: u32,
-    a_and_c: (Behaviour<Relay>, Behaviour<Relay>),
-    runner: R,
-) -> Result<R::Answer, AllocError>
-    requires a { IsAllowedBehaviour RelayMay a_and_c.0 }
-    requires c { IsAllowedBehaviour RelayMay a_and_c.1 }
-{
-    let run: Run = Box::new(alloc, |frame: &Frame| begin(frame))?;
-    let b = started(alloc, B, USES_OF_B.as_slice(), 0, start_offer(sets), run)?;
-    with_num_at_b(alloc, sets, a_and_c, b, runner)
-}
-
-/// Adds the row of B, and hands all three to the runner.
-fn with_num_at_b<R: Runner + Drop>(
-    alloc: Global,
-    sets: u32,
-    a_and_c: (Behaviour<Relay>, Behaviour<Relay>),
-    b: Behaviour<Relay>,
-    runner: R,
-) -> Result<R::Answer, AllocError>
-    requires a { IsAllowedBehaviour RelayMay a_and_c.0 }
-    requires c { IsAllowedBehaviour RelayMay a_and_c.1 }
-    requires b { IsAllowedBehaviour RelayMay b }
-    requires rows { vec_len b.rows ≡ 0 }
-{
-    let run: Run = Box::new(alloc, |frame: &Frame| forward(frame, OUT))?;
-    let b = with_row(b, NUM, 2, forward_offer(sets, NUM, OUT), run)?;
-    let (a, c) = a_and_c;
+    let a = with_one_row(alloc, A, USES_OF_A.as_slice(), PUT, of_a)?;
+    let c = with_one_row(alloc, C, USES_OF_C.as_slice(), PUT, of_c)?;
+    let b = with_one_row(alloc, B, USES_OF_B.as_slice(), NUM, of_b)?;
     let behaviours = Vec::from_array(alloc, [a, c, b])?;
     Ok(runner.run(behaviours))
 }

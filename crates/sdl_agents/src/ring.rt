@@ -1,17 +1,17 @@
 //! Ring: X and Y pass a token round, which counts its steps.
-ghost use Rattle.std.specs.Prelude.{◌≡◌, Some, None, [], ◌∷◌, pos, vec_len};
+ghost use Rattle.std.specs.Prelude.{◌≡◌, None, [], ◌∷◌, pos};
 ghost use Rattle.sdl_signal.specs.declared.values.Sort.TheVariants as sort;
-ghost use Rattle.sdl_transition.specs.Transitions.{IsAllowedBehaviour};
+ghost use Rattle.sdl_transition.specs.Transitions.{IsAllowed};
 ghost use Rattle.sdl_agents.specs.Tables.{RingMay, LeadsToIdle, output_integer, passed_on, values_of, next_token};
-ghost use Rattle.sdl_agents.specs.Offered.{IsIdleOffer, Keeps, KeepsTo, OffersOne, offered, sorted};
+ghost use Rattle.sdl_agents.specs.Offered.{IsIdleOffer, Keeps, KeepsTo, OffersOne, offered};
 
-use crate::behaviours::{Use, started, with_row};
+use crate::behaviours::{Use, with_one_row};
 use crate::offers::{forward_offer, idle_offer, one_integer, one_output, start_offer};
 use crate::runner::Runner;
 use crate::steps::{begin, idle, send_integer, values};
 use arrayvec::ArrayVec;
 use sdl_signal::{SetId, SignalId, Value};
-use sdl_transition::{Agents, Behaviour, Frame, Kind, Offer, Run, Step};
+use sdl_transition::{Agents, Frame, Kind, Offer, Run, Step, Transition};
 use std::alloc::{AllocError, Global};
 
 /// The token.
@@ -69,56 +69,47 @@ fn pass_values(values: &[Value]) -> Step
 }
 
 /// Makes the behaviours of X and Y, and hands them to the runner.
-pub fn run<R: Runner + Drop>(alloc: Global, sets: u32, runner: R) -> Result<R::Answer, AllocError> {
-    let run: Run = Box::new(alloc, |_frame: &Frame| first())?;
-    let offer = idle_offer(sets, None, one_output(TOK, one_integer()), ArrayVec::new());
-    let x = started(alloc, X, USES_OF_X.as_slice(), 0, offer, run)?;
-    with_token_at_x(alloc, sets, x, runner)
+pub fn run<R: Runner + Drop>(alloc: Global, sets: u32, runner: R) -> Result<R::Answer, AllocError>
+    requires { R.can_run runner }
+{
+    let start_x: Run = Box::new(alloc, |_frame: &Frame| first())?;
+    let tok_x: Run = Box::new(alloc, |frame: &Frame| pass_on(frame))?;
+    let start_y: Run = Box::new(alloc, |frame: &Frame| begin(frame))?;
+    let tok_y: Run = Box::new(alloc, |frame: &Frame| pass_on(frame))?;
+    let of_x = (
+        Transition::store(0, first_offer(sets), start_x),
+        Transition::store(2, forward_offer(sets, TOK, TOK), tok_x),
+    );
+    let of_y = (
+        Transition::store(1, start_offer(sets), start_y),
+        Transition::store(2, forward_offer(sets, TOK, TOK), tok_y),
+    );
+    run_stored(alloc, of_x, of_y, runner)
 }
 
-/// Adds the row of X, and goes on with Y.
-fn with_token_at_x<R: Runner + Drop>(
-    alloc: Global,
-    sets: u32,
-    x: Behaviour<Ring>,
-    runner: R,
-) -> Result<R::Answer, AllocError>
-    requires allowed { IsAllowedBehaviour RingMay x }
-    requires rows { vec_len x.rows ≡ 0 }
+/// The offer of the start of X.
+fn first_offer(sets: u32) -> Offer
+    ensures offer { IsIdleOffer sets None (offered 0 (sort.Integer ∷ []) ∷ []) [] result }
+    ensures outputs { OffersOne 0 (sort.Integer ∷ []) result }
 {
-    let run: Run = Box::new(alloc, |frame: &Frame| pass_on(frame))?;
-    let x = with_row(x, TOK, 2, forward_offer(sets, TOK, TOK), run)?;
-    with_start_of_y(alloc, sets, x, runner)
+    idle_offer(sets, None, one_output(TOK, one_integer()), ArrayVec::new())
 }
 
-/// Makes Y with its start.
-fn with_start_of_y<R: Runner + Drop>(
+/// Hands X and Y to the runner, each with its start and its row for the token.
+fn run_stored<R: Runner + Drop>(
     alloc: Global,
-    sets: u32,
-    x: Behaviour<Ring>,
+    of_x: (Transition<Ring>, Transition<Ring>),
+    of_y: (Transition<Ring>, Transition<Ring>),
     runner: R,
 ) -> Result<R::Answer, AllocError>
-    requires x { IsAllowedBehaviour RingMay x }
+    requires runner { R.can_run runner }
+    requires start_x { IsAllowed RingMay of_x.0 }
+    requires tok_x { IsAllowed RingMay of_x.1 }
+    requires start_y { IsAllowed RingMay of_y.0 }
+    requires tok_y { IsAllowed RingMay of_y.1 }
 {
-    let run: Run = Box::new(alloc, |frame: &Frame| begin(frame))?;
-    let y = started(alloc, Y, USES_OF_Y.as_slice(), 1, start_offer(sets), run)?;
-    with_token_at_y(alloc, sets, x, y, runner)
-}
-
-/// Adds the row of Y, and hands both to the runner.
-fn with_token_at_y<R: Runner + Drop>(
-    alloc: Global,
-    sets: u32,
-    x: Behaviour<Ring>,
-    y: Behaviour<Ring>,
-    runner: R,
-) -> Result<R::Answer, AllocError>
-    requires x { IsAllowedBehaviour RingMay x }
-    requires y { IsAllowedBehaviour RingMay y }
-    requires rows { vec_len y.rows ≡ 0 }
-{
-    let run: Run = Box::new(alloc, |frame: &Frame| pass_on(frame))?;
-    let y = with_row(y, TOK, 2, forward_offer(sets, TOK, TOK), run)?;
+    let x = with_one_row(alloc, X, USES_OF_X.as_slice(), TOK, of_x)?;
+    let y = with_one_row(alloc, Y, USES_OF_Y.as_slice(), TOK, of_y)?;
     let behaviours = Vec::from_array(alloc, [x, y])?;
     Ok(runner.run(behaviours))
 }

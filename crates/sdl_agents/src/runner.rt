@@ -11,7 +11,11 @@ pub trait Runner {
     /// What the runner answers.
     type Answer;
 
+    /// What has to hold of the runner: nothing, unless it says so.
+    ghost can_run: { Self → Type 0 } = { λ _. Unit {0} };
+
     /// Does it with the behaviours, each of whose transitions answers as the system's agents may.
     fn run<S: Agents + Drop>(self, behaviours: Vec<Behaviour<S>>) -> Self::Answer
+        requires runner { can_run self }
         requires allowed { AllByRecursion (IsAllowedBehaviour S.may) behaviours.items };
 }

@@ -34,7 +34,9 @@ pub fn run<R: Runner + Drop>(
     alloc: Global,
     sets: u32,
     runner: R,
-) -> Result<R::Answer, AllocError> {
+) -> Result<R::Answer, AllocError>
+    requires { R.can_run runner }
+{
     match system {
         System::Echo => echo::run(alloc, sets, runner),
         System::Relay => relay::run(alloc, sets, runner),

@@ -1,9 +1,8 @@
 //! Which fault is named, and that all parts are handed back.
 use super::drafts::{Draft, Found, Outcome, RowDraft, bind_drafts};
 use sdl_examples::{ECHO, RELAY};
-use sdl_transition::BindFault;
-use sdl_transition::{Kind, Via};
 use sdl_signal::{GateId, SetId, Sort};
+use sdl_transition::{BindFault, Kind, Via};
 use std::test::Fail;
 
 const PING: RowDraft = RowDraft {

@@ -1,7 +1,4 @@
 //! The numbers of stored transitions.
-ghost use Rattle.std.specs.List.{AllByRecursion};
-ghost use Rattle.sdl_transition.specs.Transitions.{IsAllowedBehaviour};
-
 use super::anything::store_anything;
 use sdl_agents::{Runner, System, run};
 use sdl_transition::{Agents, Behaviour};
@@ -17,12 +14,7 @@ struct Numbers {
 impl Runner for Numbers {
     type Answer = Result<Vec<u32>, AllocError>;
 
-    fn run<S: Agents + Drop>(
-        self,
-        behaviours: Vec<Behaviour<S>>,
-    ) -> Result<Vec<u32>, AllocError>
-        requires allowed { AllByRecursion (IsAllowedBehaviour S.may) behaviours.items }
-    {
+    fn run<S: Agents + Drop>(self, behaviours: Vec<Behaviour<S>>) -> Result<Vec<u32>, AllocError> {
         let mut numbers = Vec::new(self.alloc);
         for behaviour in behaviours.as_slice() {
             numbers.push(behaviour.start.number)?;

@@ -10,16 +10,22 @@ use arrayvec::ArrayVec;
 use sdl_signal::{Pid, Value};
 use sdl_transition::{Action, Dest, Frame, Next, Step};
 
-#[tactic(auto, using(crate::proofs::Keeping::made_keeps))]
 /// A create of a Kid, and `hello` to it.
-pub fn make() -> Step
-    ensures step { LeadsToIdle made result }
-    ensures conforms { Keeps IsMakeOffer result }
+fn create() -> Step
+    ensures { LeadsToIdle made result }
 {
     let mut actions = ArrayVec::new();
     actions.push(Action::Create(KID));
     actions.push(send(HELLO, ArrayVec::new(), Dest::Offspring));
     idle(actions)
+}
+
+/// A create of a Kid, and `hello` to it.
+pub fn make() -> Step
+    ensures step { LeadsToIdle made result }
+    ensures conforms { Keeps IsMakeOffer result }
+{
+    create()
 }
 
 /// `die` to the instance that the value names.
