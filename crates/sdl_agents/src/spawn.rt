@@ -1,6 +1,6 @@
 //! Spawn: a Boss that makes Kids, kills them and answers their queries.
 ghost use Rattle.std.specs.Prelude.{IfOk};
-ghost use Rattle.sdl_transition.specs.Transitions.{IsAllowedBehaviour};
+ghost use Rattle.sdl_transition.specs.Transitions.{IsAllowed, IsAllowedBehaviour};
 ghost use Rattle.sdl_agents.specs.Tables.{SpawnMay};
 ghost use Rattle.sdl_agents.specs.Stored.{IsAllowedBoss, IsAllowedKid};
 
@@ -115,9 +115,18 @@ pub fn run<R: Runner + Drop>(alloc: Global, sets: u32, runner: R) -> Result<R::A
         ask: Transition::store(4, forward_offer(sets, ASK, QUERY), on_ask),
         hello: Transition::store(5, birth_offer(sets), on_hello),
         reply: Transition::store(6, answer_offer(sets), on_reply),
-        die: Transition::store(7, die_offer(sets), on_die),
+        die: stored_die(sets, on_die),
     };
     run_stored(alloc, of_boss, of_kid, runner)
+}
+
+/// The Kid's row for `die`.
+fn stored_die(sets: u32, run: Run) -> Transition<Spawn>
+    requires callable { (f : _) → Run.pre run f }
+    requires allowed { (f : _) (step : _) → Run.post run f step → SpawnMay 7 f.now step }
+    ensures { IsAllowed SpawnMay result }
+{
+    Transition::store(7, die_offer(sets), run)
 }
 
 /// The behaviour of the Boss.
