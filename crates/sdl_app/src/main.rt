@@ -1,19 +1,7 @@
 //! `sdlrun`: systems of communicating agents with the structure and signalling of SDL-2010.
 #![tactic(auto)]
 
-mod agents;
-mod arguments;
-mod ends;
-mod faults;
-mod files;
-mod ledger;
-mod names;
-mod pipe;
-mod program;
-mod running;
-mod systems;
-mod trace;
-
+use sdl_program::program;
 use std::io::BufWriter;
 use std::process::ExitCode;
 
@@ -26,6 +14,3 @@ fn main(rt: HostRuntime) -> ExitCode {
     let status = program::run(&rt, rt.alloc(), &mut rt.stdin(), &mut output, &mut errors);
     ExitCode::from(status)
 }
-
-#[cfg(test)]
-mod tests;

@@ -7,4 +7,3 @@ pub mod Rules
 pub mod Index
 pub mod Blocks
 pub mod Bound
-pub mod Tables

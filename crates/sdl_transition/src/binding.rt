@@ -14,8 +14,8 @@ use crate::behaviour::Behaviour;
 use crate::faults::BindFault;
 use crate::parts::{BlockParts, deal, empty_parts};
 use crate::stages::first_fault;
-use sdl_routes::Routes;
 use sdl_parts::{Checked, Structure};
+use sdl_routes::Routes;
 use std::alloc::{AllocError, Global};
 
 /// A system that can run: a well formed structure, its routes, and one behaviour for each of its sets.

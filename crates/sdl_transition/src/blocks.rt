@@ -3,8 +3,8 @@ ghost use Rattle.std.specs.Prelude.{◌≡◌, ◌≤◌, length, filter};
 ghost use Rattle.sdl_transition.specs.Blocks.{block_number, is_of_block};
 
 use crate::behaviour::Behaviour;
-use sdl_signal::SetId;
 use sdl_parts::Structure;
+use sdl_signal::SetId;
 
 /// The number of the set's block, or the number of blocks where there is no such set.
 pub fn block_of(structure: &Structure, set: SetId) -> usize

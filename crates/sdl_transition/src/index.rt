@@ -6,8 +6,8 @@ ghost use Rattle.sdl_transition.specs.Index.{row_place, row_at, rules_place, IsL
 
 use crate::behaviour::{Behaviour, Row};
 use crate::blocks::block_of;
-use sdl_signal::{SetId, SignalId, StateId};
 use sdl_parts::Structure;
+use sdl_signal::{SetId, SignalId, StateId};
 use std::alloc::{AllocError, Global};
 
 /// The places of a behaviour's rows: a line for each state, and in it a place for each signal, past the last row where

@@ -13,9 +13,6 @@ mod probes;
 mod rules;
 mod stages;
 pub mod step;
-pub mod systems;
-#[cfg(test)]
-mod tests;
 pub mod transition;
 
 pub use agents::Agents;

@@ -12,8 +12,8 @@ use crate::blocks::{block_of, count_of_block};
 use crate::index::{Index, index_of};
 use crate::transition::Transition;
 use arrayvec::ArrayVec;
-use sdl_signal::{BlockId, SetId, SignalId, StateId, Value};
 use sdl_parts::Structure;
+use sdl_signal::{BlockId, SetId, SignalId, StateId, Value};
 use std::alloc::{AllocError, Global};
 
 /// The behaviours of one block, in the order in which they were handed to `bind`, with the index that `bind` made of

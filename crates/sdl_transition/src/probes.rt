@@ -7,9 +7,9 @@ ghost use Rattle.sdl_transition.specs.Faults.{name_at, IsNamedSo, IsUsed, IsViaU
 
 use crate::behaviour::{Kind, Named};
 use crate::offer::{Offer, OfferedOutput, SignalSorts};
+use sdl_parts::{Gate, Owner, SignalDecl, Structure};
 use sdl_routes::Via;
 use sdl_signal::{Name, Pid, SetId, SignalId, Sort, Value};
-use sdl_parts::{Gate, Owner, SignalDecl, Structure};
 
 /// The name of this number in the structure.
 fn name_of<'a>(structure: &'a Structure, kind: Kind, number: u32) -> Option<&'a Name>

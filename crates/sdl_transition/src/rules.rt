@@ -9,8 +9,8 @@ use crate::probes::{
     has_create_elsewhere, has_other_sorts, has_set_pid, has_undeclared_gate, has_undeclared_output,
     has_unknown_next, has_unused_number, is_for_start, is_named_so, is_used,
 };
-use sdl_signal::{SetId, Value};
 use sdl_parts::Structure;
+use sdl_signal::{SetId, Value};
 
 fn has_misnamed_use(structure: &Structure, uses: &[Named]) -> bool
     ensures { IsTrue result ↔ Any (λ named. ¬ IsNamedSo structure.now named) uses.now }

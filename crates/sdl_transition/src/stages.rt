@@ -11,8 +11,8 @@ use crate::rules::{
     has_same_rows, has_unknown_state, has_wrong_name, has_wrong_sorts, offers_bad_gate,
     offers_create_elsewhere, offers_undeclared,
 };
-use sdl_signal::SetId;
 use sdl_parts::Structure;
+use sdl_signal::SetId;
 
 /// The first fault of one behaviour.
 fn fault_of<S>(structure: &Structure, behaviour: &Behaviour<S>) -> Option<BindFault>

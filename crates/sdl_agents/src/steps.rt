@@ -1,0 +1,80 @@
+//! The parts of steps that lead to idle, without variables.
+ghost use Rattle.std.specs.Prelude.{◌≡◌, [], ◌∷◌};
+ghost use Rattle.sdl_signal.specs.declared.values.Sort.TheVariants as sort;
+ghost use Rattle.sdl_agents.specs.Tables.{LeadsToIdle, output, output_integer, values_of, forwarded, forwarded_values};
+ghost use Rattle.sdl_agents.specs.Offered.{KeepsTo, Offers, OffersOne};
+
+use arrayvec::ArrayVec;
+use sdl_routes::Via;
+use sdl_signal::{Signal, SignalId, StateId, Value};
+use sdl_transition::{Action, Dest, Frame, Next, Step};
+
+/// The step that does these actions.
+pub fn idle(actions: ArrayVec<Action, 8>) -> Step
+    ensures { LeadsToIdle actions.items result }
+{
+    Step {
+        actions,
+        vars: ArrayVec::new(),
+        next: Next::State(StateId(0)),
+    }
+}
+
+/// The values of the signal consumed.
+pub fn values(frame: &Frame) -> &[Value]
+    ensures { result.now ≡ values_of frame.now.signal }
+{
+    match &frame.signal {
+        Some(signal) => signal.params.as_slice(),
+        None => &[],
+    }
+}
+
+/// An output by any way.
+pub fn send(id: SignalId, params: ArrayVec<Value, 4>, dest: Dest) -> Action
+    ensures { result ≡ output id.0 params.items dest }
+{
+    Action::Output {
+        signal: Signal { id, params },
+        dest,
+        via: Via::Any,
+    }
+}
+
+/// The step with one output, of one Integer, to anywhere.
+pub fn send_integer(id: SignalId, n: i64) -> Step
+    ensures { LeadsToIdle (output_integer id.0 n) result }
+{
+    let mut params = ArrayVec::new();
+    params.push(Value::Integer(n));
+    let mut actions = ArrayVec::new();
+    actions.push(send(id, params, Dest::Anywhere));
+    idle(actions)
+}
+
+#[tactic(auto, using(crate::proofs::Keeping::nothing_keeps))]
+/// Goes to idle, without an action.
+pub fn begin(_frame: &Frame) -> Step
+    ensures step { LeadsToIdle [] result }
+    ensures conforms { KeepsTo (Offers []) _frame.now result }
+{
+    idle(ArrayVec::new())
+}
+
+/// An output of the other signal with the Integer of the signal consumed.
+pub fn forward(frame: &Frame, to: SignalId) -> Step
+    ensures step { LeadsToIdle (forwarded to.0 frame.now.signal) result }
+    ensures conforms { KeepsTo (OffersOne to.0 (sort.Integer ∷ [])) frame.now result }
+{
+    forward_values(values(frame), to)
+}
+
+/// The same, with the one of these values.
+fn forward_values(values: &[Value], to: SignalId) -> Step
+    ensures { LeadsToIdle (forwarded_values to.0 values.now) result }
+{
+    match values {
+        [Value::Integer(n)] => send_integer(to, *n),
+        _ => idle(ArrayVec::new()),
+    }
+}

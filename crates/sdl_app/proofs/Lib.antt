@@ -1,3 +1,0 @@
-pub mod Piped
-pub mod Keeping
-pub mod Words

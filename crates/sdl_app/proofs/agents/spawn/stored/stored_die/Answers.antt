@@ -1,6 +1,0 @@
-use Rattle.sdl_app.proofs.Keeping.{stop_keeps}
-use Rattle.sdl_app.proofs.agents.spawn.stored.stored_die.Goals as goal
-
-pub store-requires-clause-conforms : goal.store-requires-clause-conforms
-store-requires-clause-conforms g c = λ f step is post.
-    stop_keeps c.die_offer.result step c.die_offer.ensures (c.requires.allowed f step post)

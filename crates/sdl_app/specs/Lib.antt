@@ -1,4 +1,0 @@
-pub mod Pipe
-pub mod Arguments
-pub mod Running
-pub mod Stored

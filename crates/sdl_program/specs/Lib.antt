@@ -1,0 +1,3 @@
+pub mod Pipe
+pub mod Arguments
+pub mod Running

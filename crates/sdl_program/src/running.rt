@@ -1,0 +1,169 @@
+//! The command `run`, once the behaviours of a system are made.
+ghost use Rattle.sdl_program.specs.Running.{CanRun, HasBudget};
+ghost use Rattle.sdl_transition.specs.Bound.{IsBound, structure_of};
+
+use crate::arguments::Options;
+use crate::ends::{flushed, report_end, report_input, report_output};
+use crate::faults::write_bind_fault;
+use crate::ledger::write_ledger;
+use crate::program::{REFUSED, without_memory};
+use crate::trace::write_trace;
+use sdl_agents::{Runner, system_named};
+use sdl_parts::Checked;
+use sdl_routes::Routes;
+use sdl_run::{Closing, StartFault, run_serial};
+use sdl_signal::OutputEnd;
+use sdl_transition::{Agents, Behaviour, Bound, bind};
+use std::alloc::Global;
+use std::io::{Read, Result, Write};
+
+/// How a system is run.
+#[derive(Clone, Copy)]
+pub struct Settings<'a> {
+    pub alloc: Global,
+    pub options: Options,
+    /// The workers that make a step before all take turns, each with its pick.
+    pub schedule: &'a [u32],
+}
+
+/// A run that is to be made: the structure of a file with its routes, how it is run, and its reader and writers.
+#[derive(Drop)]
+pub struct Job<'a, R, W, E> {
+    pub settings: Settings<'a>,
+    pub checked: Checked,
+    pub routes: Routes,
+    pub input: &'a mut R,
+    pub output: &'a mut W,
+    pub errors: &'a mut E,
+}
+
+/// Runs the built-in system that has the structure's name, and answers the exit status: the first refusal, or how the run
+/// ended.
+pub fn run_command<R: Read, W: Write, E: Write>(
+    settings: Settings,
+    checked: Checked,
+    routes: Routes,
+    input: &mut R,
+    output: &mut W,
+    errors: &mut E,
+) -> u8
+    requires { CanRun checked routes }
+{
+    let name = checked.structure().system();
+    let Some(system) = system_named(name) else {
+        let _ = writeln!(errors, "no agents for {name}");
+        return REFUSED;
+    };
+    let sets = checked.structure().sets().len() as u32;
+    let job = Job {
+        settings,
+        checked,
+        routes,
+        input,
+        output,
+        errors: &mut *errors,
+    };
+    match sdl_agents::run(system, settings.alloc, sets, job) {
+        Ok(status) => status,
+        Err(_) => {
+            without_memory(errors);
+            REFUSED
+        }
+    }
+}
+
+impl<R: Read, W: Write, E: Write> Runner for Job<'_, R, W, E> {
+    type Answer = u8;
+
+    ghost can_run = { λ job. CanRun job.checked job.routes };
+
+    #[tactic(auto, unfolding(crate::specs::Running::CanRun))]
+    /// Binds the behaviours to the structure and runs the system, and answers the exit status.
+    fn run<S: Agents + Drop>(self, behaviours: Vec<Behaviour<S>>) -> u8 {
+        let Job {
+            settings,
+            checked,
+            routes,
+            input,
+            output,
+            errors,
+        } = self;
+        match bind(settings.alloc, checked, routes, behaviours) {
+            Ok(bound) => run_bound(settings, bound, input, output, errors),
+            Err(unbound) => {
+                write_bind_fault(errors, unbound.fault);
+                REFUSED
+            }
+        }
+    }
+}
+
+/// Runs a system that is bound, with its structure's budget, and answers the exit status.
+fn run_bound<S: Agents + Drop, R: Read, W: Write, E: Write>(
+    settings: Settings,
+    bound: Bound<S>,
+    input: &mut R,
+    output: &mut W,
+    errors: &mut E,
+) -> u8
+    requires bound { IsBound S.may bound }
+    requires budget { HasBudget (structure_of bound) }
+{
+    let structure = bound.checked().structure();
+    let budget = structure.budget();
+    match run_serial(
+        settings.alloc,
+        bound,
+        budget,
+        settings.schedule,
+        input,
+        output,
+    ) {
+        Ok(closing) => report_closing(settings.options, &closing, output, errors),
+        Err(StartFault::Memory(_)) => {
+            without_memory(errors);
+            REFUSED
+        }
+    }
+}
+
+/// Writes what was asked for of a run that ended, and how it ended, and answers the exit status.
+fn report_closing<S: Drop, W: Write, E: Write>(
+    options: Options,
+    closing: &Closing<S>,
+    output: &mut W,
+    errors: &mut E,
+) -> u8 {
+    let written = write_closing(options, closing, output);
+    let input_status = report_input(closing.input, errors);
+    let output_status = report_output(written, errors);
+    let end_status = report_end(closing.bound.checked().structure(), closing.end, errors);
+    input_status.max(output_status).max(end_status)
+}
+
+/// Writes the ledger and the trace, where they were asked for and all lines of the environment went out.
+fn write_closing<S, W: Write>(options: Options, closing: &Closing<S>, output: &mut W) -> OutputEnd {
+    match flushed(output, closing.output) {
+        OutputEnd::Whole => {}
+        OutputEnd::WriteFault => return OutputEnd::WriteFault,
+    }
+    match write_books(options, closing, output) {
+        Ok(()) => flushed(output, OutputEnd::Whole),
+        Err(_) => OutputEnd::WriteFault,
+    }
+}
+
+/// Writes the ledger and the trace, where they were asked for.
+fn write_books<S, W: Write>(options: Options, closing: &Closing<S>, output: &mut W) -> Result<()> {
+    if options.ledger {
+        write_ledger(output, &closing.ledger)?;
+    }
+    if options.trace {
+        write_trace(
+            output,
+            closing.bound.checked().structure(),
+            closing.logs.as_slice(),
+        )?;
+    }
+    Ok(())
+}

@@ -1,0 +1,160 @@
+//! The text of a run's logs.
+use crate::names::{set_name, signal_name};
+use sdl_instances::{Cause, Done, Event, Trigger};
+use sdl_parts::Structure;
+use sdl_signal::Pid;
+use std::io::{Result, Write};
+
+/// Writes the logs of all blocks, blocks by number: a line for each event, and after the line of a turn one for each thing
+/// that it did and one for a stop.
+pub fn write_trace<W: Write>(
+    output: &mut W,
+    structure: &Structure,
+    logs: &[Vec<Event>],
+) -> Result<()> {
+    for (block, events) in structure.blocks().iter().zip(logs) {
+        let mut log = Log {
+            output,
+            structure,
+            block: block.name.as_str(),
+        };
+        log.write_events(events.as_slice())?;
+    }
+    Ok(())
+}
+
+/// The log of a block as it is written.
+#[derive(Drop)]
+struct Log<'a, W> {
+    output: &'a mut W,
+    structure: &'a Structure,
+    block: &'a str,
+}
+
+impl<W: Write> Log<'_, W> {
+    fn write_events(&mut self, events: &[Event]) -> Result<()> {
+        for event in events {
+            self.write_event(event)?;
+        }
+        Ok(())
+    }
+
+    fn write_event(&mut self, event: &Event) -> Result<()> {
+        match event {
+            Event::Entered(item, pid) => {
+                write!(
+                    self.output,
+                    "{} enter {}",
+                    self.block,
+                    signal_name(self.structure, item.signal.id)
+                )?;
+                self.end_with(*pid)
+            }
+            Event::Discarded(item, cause) => writeln!(
+                self.output,
+                "{} discard {} {}",
+                self.block,
+                signal_name(self.structure, item.signal.id),
+                cause_text(*cause)
+            ),
+            Event::Turn {
+                pid,
+                trigger,
+                frame: _,
+                step: _,
+                done,
+                stopped,
+            } => {
+                self.write_trigger(trigger)?;
+                self.end_with(*pid)?;
+                self.write_all_done(done.as_slice())?;
+                self.write_stop(*pid, *stopped)
+            }
+        }
+    }
+
+    /// Writes what a turn begins with, as the front of a line.
+    fn write_trigger(&mut self, trigger: &Trigger) -> Result<()> {
+        match trigger {
+            Trigger::Start => write!(self.output, "{} start", self.block),
+            Trigger::Fire(item) => write!(
+                self.output,
+                "{} fire {}",
+                self.block,
+                signal_name(self.structure, item.signal.id)
+            ),
+            Trigger::Implicit(item) => write!(
+                self.output,
+                "{} implicit {}",
+                self.block,
+                signal_name(self.structure, item.signal.id)
+            ),
+        }
+    }
+
+    fn write_all_done(&mut self, all: &[Done]) -> Result<()> {
+        for done in all {
+            self.write_done(done)?;
+        }
+        Ok(())
+    }
+
+    fn write_done(&mut self, done: &Done) -> Result<()> {
+        match done {
+            Done::Sent(item) => writeln!(
+                self.output,
+                "{} sent {} {}",
+                self.block,
+                signal_name(self.structure, item.signal.id),
+                item.route.0
+            ),
+            Done::NoRoute(_, signal) => writeln!(
+                self.output,
+                "{} noroute {}",
+                self.block,
+                signal_name(self.structure, *signal)
+            ),
+            Done::Made(pid) => {
+                write!(self.output, "{} made", self.block)?;
+                self.end_with(*pid)
+            }
+        }
+    }
+
+    fn write_stop(&mut self, pid: Pid, stopped: Option<u64>) -> Result<()> {
+        match stopped {
+            Some(dropped) => {
+                write!(self.output, "{} stopped", self.block)?;
+                self.write_pid(pid)?;
+                writeln!(self.output, " {dropped}")
+            }
+            None => Ok(()),
+        }
+    }
+
+    /// Writes the last field of a line.
+    fn end_with(&mut self, pid: Pid) -> Result<()> {
+        self.write_pid(pid)?;
+        writeln!(self.output)
+    }
+
+    /// Writes a Pid as a field.
+    fn write_pid(&mut self, pid: Pid) -> Result<()> {
+        match pid {
+            Pid::Null => write!(self.output, " null"),
+            Pid::Env => write!(self.output, " env"),
+            Pid::Inst(set, serial) => write!(
+                self.output,
+                " {}:{serial}",
+                set_name(self.structure, set)
+            ),
+        }
+    }
+}
+
+fn cause_text(cause: Cause) -> &'static str {
+    match cause {
+        Cause::NoInstance => "noinstance",
+        Cause::Gone => "gone",
+    }
+}

@@ -1,0 +1,11 @@
+//! Tests of the program's parts, over readers and writers in memory and over such as fail.
+#![tactic(auto)]
+
+#[cfg(test)]
+mod bytes;
+#[cfg(test)]
+mod pipes;
+#[cfg(test)]
+mod runs;
+#[cfg(test)]
+mod words;

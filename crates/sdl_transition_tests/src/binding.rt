@@ -1,0 +1,212 @@
+//! Which fault is named, and that all parts are handed back.
+use super::drafts::{Draft, Found, Outcome, RowDraft, bind_drafts};
+use sdl_examples::{ECHO, RELAY};
+use sdl_signal::{GateId, SetId, Sort};
+use sdl_transition::{BindFault, Kind, Via};
+use std::test::Fail;
+
+const PING: RowDraft = RowDraft {
+    state: 0,
+    signal: 0,
+    sort: Sort::Integer,
+    output: 1,
+    via: Via::Any,
+    create: None,
+    sets: 1,
+};
+
+const ECHO_DRAFT: Draft = Draft {
+    set: 0,
+    uses: &[
+        (Kind::Set, 0, "E"),
+        (Kind::Signal, 0, "ping"),
+        (Kind::Signal, 1, "pong"),
+    ],
+    sets: 1,
+    rows: &[PING],
+};
+
+/// The start is transition 0, and the row for signal 0 transition 1.
+const FOUND: Found = Found {
+    start: 0,
+    variables: 0,
+    first: Some(1),
+    second: None,
+    outside: None,
+};
+
+fn of_echo(fault: Option<BindFault>, behaviours: usize) -> Option<Outcome> {
+    Some(Outcome {
+        fault,
+        sets: 1,
+        routes: 2,
+        behaviours,
+        found: if fault.is_none() { Some(FOUND) } else { None },
+    })
+}
+
+#[test]
+fn binds_echo(rt: HostRuntime) -> Result<(), Fail> {
+    let outcome = bind_drafts(rt.alloc(), ECHO, [ECHO_DRAFT].as_slice());
+    assert_eq!(rt; outcome, of_echo(None, 1));
+    Ok(())
+}
+
+#[test]
+fn wants_one_behaviour_for_each_set(rt: HostRuntime) -> Result<(), Fail> {
+    let none = bind_drafts(rt.alloc(), ECHO, [].as_slice());
+    assert_eq!(rt; none, of_echo(Some(BindFault::NoBehaviour(SetId(0))), 0));
+    let two = bind_drafts(rt.alloc(), ECHO, [ECHO_DRAFT, ECHO_DRAFT].as_slice());
+    assert_eq!(rt; two, of_echo(Some(BindFault::TwoBehaviours(SetId(0))), 2));
+    Ok(())
+}
+
+/// What Echo's behaviour uses, and a gate that is not its set's.
+const WITH_A_GATE: &[(Kind, u32, &str)] = &[
+    (Kind::Set, 0, "E"),
+    (Kind::Signal, 0, "ping"),
+    (Kind::Signal, 1, "pong"),
+    (Kind::Gate, 0, "line"),
+];
+
+#[test]
+fn names_the_fault_of_a_row(rt: HostRuntime) -> Result<(), Fail> {
+    let set = SetId(0);
+    let drafts = [
+        (
+            Draft {
+                rows: &[RowDraft { sets: 2, ..PING }],
+                ..ECHO_DRAFT
+            },
+            BindFault::WrongName(set),
+        ),
+        (
+            Draft {
+                rows: &[RowDraft { output: 0, ..PING }],
+                ..ECHO_DRAFT
+            },
+            BindFault::UndeclaredOutput(set),
+        ),
+        (
+            Draft {
+                uses: WITH_A_GATE,
+                rows: &[RowDraft {
+                    via: Via::Gate(GateId(0)),
+                    ..PING
+                }],
+                ..ECHO_DRAFT
+            },
+            BindFault::UndeclaredGate(set),
+        ),
+        (
+            Draft {
+                rows: &[RowDraft { state: 1, ..PING }],
+                ..ECHO_DRAFT
+            },
+            BindFault::UnknownState(set),
+        ),
+        (
+            Draft {
+                rows: &[RowDraft {
+                    sort: Sort::Boolean,
+                    ..PING
+                }],
+                ..ECHO_DRAFT
+            },
+            BindFault::WrongSorts(set),
+        ),
+        (
+            Draft {
+                rows: &[PING, PING],
+                ..ECHO_DRAFT
+            },
+            BindFault::TwoRows(set),
+        ),
+    ];
+    for (draft, fault) in drafts {
+        let outcome = bind_drafts(rt.alloc(), ECHO, [draft].as_slice());
+        assert_eq!(rt; outcome, of_echo(Some(fault), 1));
+    }
+    Ok(())
+}
+
+const PUT: RowDraft = RowDraft { sets: 3, ..PING };
+
+const A: Draft = Draft {
+    set: 0,
+    uses: &[
+        (Kind::Set, 0, "A"),
+        (Kind::Set, 2, "B"),
+        (Kind::Signal, 0, "put"),
+        (Kind::Signal, 1, "num"),
+    ],
+    sets: 3,
+    rows: &[PUT],
+};
+
+const C: Draft = Draft {
+    set: 1,
+    uses: &[
+        (Kind::Set, 1, "C"),
+        (Kind::Signal, 0, "put"),
+        (Kind::Signal, 1, "num"),
+    ],
+    sets: 3,
+    rows: &[PUT],
+};
+
+const B: Draft = Draft {
+    set: 2,
+    uses: &[
+        (Kind::Set, 2, "B"),
+        (Kind::Signal, 1, "num"),
+        (Kind::Signal, 2, "out"),
+    ],
+    sets: 3,
+    rows: &[RowDraft {
+        signal: 1,
+        output: 2,
+        ..PUT
+    }],
+};
+
+fn of_relay(fault: Option<BindFault>) -> Option<Outcome> {
+    Some(Outcome {
+        fault,
+        sets: 3,
+        routes: 5,
+        behaviours: 3,
+        found: if fault.is_none() { Some(FOUND) } else { None },
+    })
+}
+
+#[test]
+fn names_a_create_in_another_block(rt: HostRuntime) -> Result<(), Fail> {
+    let bound = bind_drafts(rt.alloc(), RELAY, [A, C, B].as_slice());
+    assert_eq!(rt; bound, of_relay(None));
+    let creating = Draft {
+        rows: &[RowDraft {
+            create: Some(SetId(2)),
+            ..PUT
+        }],
+        ..A
+    };
+    let refused = bind_drafts(rt.alloc(), RELAY, [B, creating, C].as_slice());
+    assert_eq!(rt;
+        refused,
+        of_relay(Some(BindFault::CreateElsewhere(SetId(0))))
+    );
+    Ok(())
+}
+
+// Run it with each allocation refused in turn: a refused bind hands everything back, and binds it when it is tried again.
+#[test]
+fn binds_after_a_refusal(rt: HostRuntime) -> Result<(), Fail> {
+    let drafts = [A, C, B];
+    let outcome = match bind_drafts(rt.alloc(), RELAY, drafts.as_slice()) {
+        Some(outcome) => Some(outcome),
+        None => bind_drafts(rt.alloc(), RELAY, drafts.as_slice()),
+    };
+    assert_eq!(rt; outcome, of_relay(None));
+    Ok(())
+}

@@ -1,0 +1,243 @@
+//! Behaviours whose transitions lead to idle and do nothing, whatever they offer.
+ghost use Rattle.std.specs.Prelude.{◌≡◌, [], ◌∷◌};
+ghost use Rattle.sdl_routes.specs.Routes.{AreRoutesOf};
+ghost use Rattle.sdl_transition.specs.Bound.{IsBound};
+ghost use Rattle.sdl_transition.specs.Index.{IsIndexed};
+
+use super::anything::Anything;
+use arrayvec::ArrayVec;
+use sdl_agents::steps::idle;
+use sdl_parts::{Checked, check};
+use sdl_routes::Routes;
+use sdl_signal::{SetId, SignalId, Sort, StateId};
+use sdl_structure::read_structure;
+use sdl_transition::{
+    Behaviour, BindFault, BlockParts, Bound, Frame, Kind, Named, Offer, OfferedOutput, Row, Run,
+    SignalSorts, Transition, Unbound, Via, bind,
+};
+use std::alloc::Global;
+
+/// A row on a signal with one parameter, with an offer of its own state and signal.
+#[derive(Clone, Copy)]
+pub struct RowDraft {
+    pub state: u32,
+    pub signal: u32,
+    pub sort: Sort,
+    pub output: u32,
+    pub via: Via,
+    pub create: Option<SetId>,
+    pub sets: u32,
+}
+
+/// A behaviour of the set, in one state.
+#[derive(Clone, Copy)]
+pub struct Draft {
+    pub set: u32,
+    pub uses: &'static [(Kind, u32, &'static str)],
+    pub sets: u32,
+    pub rows: &'static [RowDraft],
+}
+
+/// What came of binding: the fault, and how many sets, routes and behaviours were handed back, or are bound.
+#[derive(Clone, Copy, Debug, PartialEq, Eq)]
+pub struct Outcome {
+    pub fault: Option<BindFault>,
+    pub sets: usize,
+    pub routes: usize,
+    pub behaviours: usize,
+    pub found: Option<Found>,
+}
+
+/// The numbers of the start and of the rows in idle for the signals 0 and 1, and for a state and a signal that are not
+/// there, and how many variables there are.
+#[derive(Clone, Copy, Debug, PartialEq, Eq)]
+pub struct Found {
+    pub start: u32,
+    pub variables: usize,
+    pub first: Option<u32>,
+    pub second: Option<u32>,
+    pub outside: Option<u32>,
+}
+
+fn named(kind: Kind, number: u32, text: &str) -> Option<Named> {
+    let name = sdl_signal::name(text)?;
+    Some(Named { kind, number, name })
+}
+
+fn one(sort: Sort) -> ArrayVec<Sort, 4> {
+    let mut sorts = ArrayVec::new();
+    sorts.push(sort);
+    sorts
+}
+
+/// The offer of a row, or of a start.
+fn offer_of(sets: u32, row: Option<&RowDraft>) -> Offer
+    ensures vars { result.vars.items ≡ [] }
+    ensures nexts { result.nexts.items ≡ record { 0 = 0 } ∷ [] }
+{
+    let mut nexts = ArrayVec::new();
+    nexts.push(StateId(0));
+    let mut offer = Offer {
+        state: None,
+        signal: None,
+        vars: ArrayVec::new(),
+        outputs: ArrayVec::new(),
+        creates: ArrayVec::new(),
+        nexts,
+        may_stop: false,
+        sets,
+    };
+    if let Some(row) = row {
+        offer.state = Some(StateId(row.state));
+        offer.signal = Some(SignalSorts {
+            id: SignalId(row.signal),
+            sorts: one(row.sort),
+        });
+        offer.outputs.push(OfferedOutput {
+            signal: SignalSorts {
+                id: SignalId(row.output),
+                sorts: one(Sort::Integer),
+            },
+            via: row.via,
+        });
+        if let Some(set) = row.create {
+            offer.creates.push(set);
+        }
+    }
+    offer
+}
+
+fn count(
+    checked: &Checked,
+    routes: &Routes,
+    behaviours: usize,
+    fault: Option<BindFault>,
+) -> Outcome {
+    Outcome {
+        fault,
+        sets: checked.structure().sets().len(),
+        routes: routes.len(),
+        behaviours,
+        found: None,
+    }
+}
+
+/// What came of binding these, and where memory was refused, what comes of it when it is tried again with what was handed
+/// back.
+fn bind_or_retry(
+    alloc: Global,
+    checked: Checked,
+    routes: Routes,
+    behaviours: Vec<Behaviour<Anything>>,
+) -> Outcome
+    requires { AreRoutesOf checked routes }
+{
+    let unbound = match bind(alloc, checked, routes, behaviours) {
+        Ok(bound) => return bound_outcome(bound),
+        Err(unbound) => unbound,
+    };
+    let Unbound {
+        checked,
+        routes,
+        behaviours,
+        fault,
+    } = unbound;
+    if fault != BindFault::Memory {
+        return count(&checked, &routes, behaviours.len(), Some(fault));
+    }
+    match bind(alloc, checked, routes, behaviours) {
+        Ok(bound) => bound_outcome(bound),
+        Err(same) => count(
+            &same.checked,
+            &same.routes,
+            same.behaviours.len(),
+            Some(same.fault),
+        ),
+    }
+}
+
+/// What the index finds for the first set of the block.
+fn find(parts: &BlockParts<Anything>) -> Option<Found>
+    requires { IsIndexed parts.now }
+{
+    if parts.behaviours.len() == 0 {
+        return None;
+    }
+    let set = parts.behaviours[0].set;
+    Some(Found {
+        start: parts.start(set).number,
+        variables: parts.variables(set).len(),
+        first: number_of(parts.row(set, StateId(0), SignalId(0))),
+        second: number_of(parts.row(set, StateId(0), SignalId(1))),
+        outside: number_of(parts.row(set, StateId(16), SignalId(64))),
+    })
+}
+
+fn number_of(row: Option<&Transition<Anything>>) -> Option<u32> {
+    match row {
+        Some(transition) => Some(transition.number),
+        None => None,
+    }
+}
+
+/// Takes a system apart, joins it again, and takes it apart.
+fn bound_outcome(bound: Bound<Anything>) -> Outcome
+    requires { IsBound (λ _ _ _. Unit {0}) bound }
+{
+    let (checked, routes, blocks) = bound.into_blocks();
+    let again = Bound::of_blocks(checked, routes, blocks);
+    let (checked, routes, blocks) = again.into_blocks();
+    let mut behaviours: usize = 0;
+    for parts in blocks.as_slice() {
+        behaviours = behaviours.saturating_add(parts.behaviours.len());
+    }
+    let found = if blocks.len() > 0 {
+        find(&blocks[0])
+    } else {
+        None
+    };
+    Outcome {
+        found,
+        ..count(&checked, &routes, behaviours, None)
+    }
+}
+
+/// Makes the closures, stores them and binds the behaviours. `None` where memory was refused before that.
+pub fn bind_drafts(alloc: Global, file: &str, drafts: &[Draft]) -> Option<Outcome> {
+    let structure = read_structure(alloc, file).ok()?;
+    let checked = check(structure).ok()?;
+    let routes = Routes::build(alloc, &checked).ok()?;
+    let mut behaviours = Vec::new(alloc);
+    for draft in drafts {
+        let run: Run = Box::new(alloc, |_frame: &Frame| idle(ArrayVec::new())).ok()?;
+        let start: Transition<Anything> = Transition::store(0, offer_of(draft.sets, None), run);
+        let mut rows = Vec::new(alloc);
+        for row in draft.rows {
+            let run: Run = Box::new(alloc, |_frame: &Frame| idle(ArrayVec::new())).ok()?;
+            let offer = offer_of(row.sets, Some(row));
+            rows.push(Row {
+                state: StateId(row.state),
+                signal: SignalId(row.signal),
+                transition: Transition::store(1, offer, run),
+            })
+            .ok()?;
+        }
+        let mut uses = Vec::new(alloc);
+        for (kind, number, text) in draft.uses {
+            uses.push(named(*kind, *number, text)?).ok()?;
+        }
+        let mut states = ArrayVec::new();
+        states.push(sdl_signal::name("idle")?);
+        behaviours
+            .push(Behaviour {
+                set: SetId(draft.set),
+                uses,
+                vars: ArrayVec::new(),
+                states,
+                start,
+                rows,
+            })
+            .ok()?;
+    }
+    Some(bind_or_retry(alloc, checked, routes, behaviours))
+}
