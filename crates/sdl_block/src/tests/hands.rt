@@ -1,7 +1,7 @@
 //! A hand put out over the board of Ring.
 ghost use Rattle.std.specs.Prelude.{IsTrue, ◌↔◌};
 ghost use Rattle.sdl_forward.specs.Boards.{IsBoardOf};
-ghost use Rattle.sdl_block.specs.Phases.{AreRouted, IsRouted};
+ghost use Rattle.sdl_hand.specs.Puts.{AreRouted, IsRouted};
 
 use super::stop::Stop;
 use super::systems::RING;
@@ -9,9 +9,9 @@ use super::tokens::{BACK, THERE, Token, item_of, out_of_p, out_of_q, token_of};
 use crate::Hand;
 use arrayvec::ArrayVec;
 use sdl_forward::Board;
+use sdl_parts::{check, read_structure};
 use sdl_routes::{Routes, Station};
 use sdl_signal::Item;
-use sdl_parts::{check, read_structure};
 use std::alloc::Global;
 use std::process::Abort;
 use std::test::Fail;
