@@ -12,9 +12,9 @@ use Rattle.sdl_instances.specs.Machine.{System}
 use Rattle.sdl_instances.specs.Run.{sent}
 use Rattle.sdl_instances.specs.Core.{IsSound, IsLegalIn, system_of}
 use Rattle.sdl_forward.specs.Boards.{IsBoardOf, AreAllStations}
-use Rattle.sdl_block.specs.declared.worker.Stepped.{Stepped}
-use Rattle.sdl_block.specs.declared.worker.Stepped.TheVariants.{Did, Idle, Memory}
-use Rattle.sdl_block.specs.Work.{Working, Works, StepsAs}
+use Rattle.sdl_hand.specs.declared.hand.Stepped.{Stepped}
+use Rattle.sdl_hand.specs.declared.hand.Stepped.TheVariants.{Did, Idle, Memory}
+use Rattle.sdl_hand.specs.Work.{Working, Works, StepsAs}
 use Rattle.sdl_block.proofs.Parts.{no_part, works}
 use Rattle.sdl_block.proofs.Systems.{same_system}
 

@@ -16,8 +16,9 @@ use Rattle.sdl_instances.specs.Run.{arrived, sent, turns, turn_in}
 use Rattle.sdl_instances.specs.Core.{IsSound, IsLegalIn, arrival_event}
 use Rattle.sdl_instances.specs.Calls.{KeepsRest}
 use Rattle.sdl_forward.specs.Boards.{stations_of, waiting}
-use Rattle.sdl_block.specs.Work.{Working}
-use Rattle.sdl_block.specs.Phases.{AreRouted, Puts, TakesFrom, IsSpent, MakesTurn}
+use Rattle.sdl_hand.specs.Work.{Working}
+use Rattle.sdl_block.specs.Phases.{TakesFrom, IsSpent, MakesTurn}
+use Rattle.sdl_hand.specs.Puts.{AreRouted, Puts}
 use Rattle.sdl_block.proofs.Parts.{Part, part_then, no_part, keeps-same}
 
 abbrev is_cons : {X : Type 0} → List X → Bool

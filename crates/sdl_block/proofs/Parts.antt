@@ -3,10 +3,9 @@ use Rattle.std.proofs.Common.{◌≡◌, ◌≢◌, ℕ, ◌+◌, ◌*◌, ◌�
 use Rattle.std.specs.Option.{option_to_list}
 use Rattle.std.specs.List.{flat_map}
 use Rattle.std.proofs.lemmas.List.Concat.{flat_map-append}
-use Rattle.std.proofs.lemmas.List.Elements.{filter-append, All-append, All-nil}
+use Rattle.std.proofs.lemmas.List.Elements.{All-append, All-nil}
 use Rattle.std.proofs.lemmas.List.Sums.{sum_by-append}
 use Rattle.sdl_signal.specs.declared.values.Item.{Item}
-use Rattle.sdl_routes.specs.declared.parts.Row.{Row}
 use Rattle.sdl_routes.specs.declared.parts.Station.{Station}
 use Rattle.sdl_routes.specs.declared.parts.Station.TheVariants as station
 use Rattle.sdl_transition.specs.declared.step.Frame.{Frame}
@@ -17,7 +16,8 @@ use Rattle.sdl_instances.specs.Run.{arrived, arrived_in, done_in, sent, sent_by,
 use Rattle.sdl_instances.specs.Core.{Core, IsSound, IsLegalIn}
 use Rattle.sdl_instances.specs.Calls.{KeepsRest}
 use Rattle.sdl_forward.specs.Boards.{stations_of, waiting}
-use Rattle.sdl_block.specs.Work.{Working, Works, beginning_at, first_station, is_at}
+use Rattle.sdl_hand.specs.Work.{Working, Works, beginning_at}
+use Rattle.sdl_hand.proofs.Fronts.{beginning-append}
 
 pub sent-append : (xs ys : List Event) → sent (xs ++ ys) ≡ sent xs ++ sent ys
 sent-append xs ys = ap (flat_map sent_by) (flat_map-append done_in xs ys) ∙ flat_map-append sent_by (all_done xs) (all_done ys)
@@ -27,9 +27,6 @@ arrived-append xs ys = flat_map-append arrived_in xs ys
 
 pub turns-append : (xs ys : List Event) → turns (xs ++ ys) ≡ turns xs + turns ys
 turns-append xs ys = sum_by-append turn_in xs ys
-
-pub beginning-append : (rows : List Row) (s : Station) (xs ys : List Item) → beginning_at rows s (xs ++ ys) ≡ beginning_at rows s xs ++ beginning_at rows s ys
-beginning-append rows s xs ys = filter-append (λ i. is_at s (first_station rows i)) xs ys
 
 pub keeps-then : (a b c : Core) → KeepsRest a b → KeepsRest b c → KeepsRest a c
 keeps-then a b c h k = (k.0 ∙ h.0, k.1 ∙ h.1, k.2 ∙ h.2, k.3 ∙ h.3)

@@ -14,11 +14,12 @@ use Rattle.sdl_instances.specs.Run.{arrived, sent}
 use Rattle.sdl_instances.specs.Core.{Core, IsReady, IsSound, IsLegalIn, arrival_event}
 use Rattle.sdl_instances.specs.Calls.{KeepsRest}
 use Rattle.sdl_forward.specs.Boards.{waiting, IsBoardOf, AreAllStations}
-use Rattle.sdl_block.specs.declared.worker.Refused.{Refused}
-use Rattle.sdl_block.specs.Work.{Working, IsAtRest}
-use Rattle.sdl_block.specs.Phases.{Puts, PutsOut, IsSpent, LetsIn, Turns, StepsTo, PutsFirst, IsEmptyAfter, answer_of}
+use Rattle.sdl_hand.specs.declared.hand.Refused.{Refused}
+use Rattle.sdl_hand.specs.Work.{Working, IsAtRest}
+use Rattle.sdl_block.specs.Phases.{IsSpent, LetsIn, Turns, StepsTo, PutsFirst, IsEmptyAfter}
+use Rattle.sdl_hand.specs.Puts.{Puts, PutsOut, answer_of}
 use Rattle.sdl_block.proofs.Parts.{Part, no_part, works, keeps-same}
-use Rattle.sdl_block.proofs.Fronts.{put_none}
+use Rattle.sdl_hand.proofs.Fronts.{put_none}
 use Rattle.sdl_block.proofs.Going.{Going, Says, going_then, says_then, put_going, taken_part, turn_part, cons_not_nil, sent_none, arrived_one}
 
 -- the block with the core and another hand

@@ -1,3 +1,4 @@
-pub mod Work
+pub use Rattle.sdl_hand.specs.Work
+pub use Rattle.sdl_hand.specs.Puts
 pub mod Workers
 pub mod Phases

@@ -1,8 +1,7 @@
 -- The parts of a step of a block, one by one.
-use Rattle.std.specs.Prelude.{◌≡◌, ℕ, ◌≤◌, ◌⊎◌, Bool, true, false, List, [], ◌∷◌, ◌++◌, Option, None, Some, Result, Ok, Err, length, All, slice_get}
+use Rattle.std.specs.Prelude.{◌≡◌, ℕ, ◌≤◌, ◌⊎◌, Bool, true, false, List, [], ◌∷◌, ◌++◌, Option, None, Some, Result, Ok, Err, length, All}
 use Rattle.sdl_signal.specs.declared.values.Pid.{Pid}
 use Rattle.sdl_signal.specs.declared.values.Item.{Item}
-use Rattle.sdl_routes.specs.declared.parts.Row.{Row}
 use Rattle.sdl_routes.specs.declared.parts.Station.{Station}
 use Rattle.sdl_routes.specs.declared.parts.Station.TheVariants as station
 use Rattle.sdl_transition.specs.declared.step.Frame.{Frame}
@@ -13,29 +12,12 @@ use Rattle.sdl_instances.specs.Machine.{System}
 use Rattle.sdl_instances.specs.Run.{sent, turns, turn_in}
 use Rattle.sdl_instances.specs.Core.{Core, IsReady, IsSound, IsLegalIn, arrival_event}
 use Rattle.sdl_instances.specs.Calls.{KeepsRest}
-use Rattle.sdl_forward.specs.Boards.{stations_of, waiting, ChangesOnly}
-use Rattle.sdl_block.specs.declared.worker.Stepped.{Stepped}
-use Rattle.sdl_block.specs.declared.worker.Stepped.TheVariants as stepped
-use Rattle.sdl_block.specs.declared.worker.Refused.{Refused}
-use Rattle.sdl_block.specs.Work.{Working, beginning_at, StepsAs}
-
--- the item's route is one of the table's
-abbrev pub IsRouted : List Row → Item → Type 0
-IsRouted rows i = (row : Row) × (slice_get rows i.route.0 ≡ Some row)
-
-abbrev pub AreRouted : List Row → List Item → Type 0
-AreRouted rows items = All (IsRouted rows) items
-
--- the items go, in order, to the backs of the first stations of their routes; nothing else on the board changes
-pub record Puts (rows : List Row) (before : List (Station × List Item)) (put : List Item) (after : List (Station × List Item)) : Type 0 where
-  pub each : (s : Station) → waiting after s ≡ waiting before s ++ beginning_at rows s put
-  pub stations : stations_of after ≡ stations_of before
-
--- All that was in hand is put, or the first part of it is; the answer says whether anything was in hand.
-abbrev pub PutsOut : List Row → List Item → List (Station × List Item) → Result Bool Refused → List Item → List (Station × List Item) → Type 0
-PutsOut rows old before (Ok true) new after = Puts rows before old after × (old ≡ [] → ⊥) × (new ≡ [])
-PutsOut rows old before (Ok false) new after = (old ≡ []) × (new ≡ []) × (after ≡ before)
-PutsOut rows old before (Err _) new after = (put : List Item) × (put ++ new ≡ old) × Puts rows before put after
+use Rattle.sdl_forward.specs.Boards.{waiting, ChangesOnly}
+use Rattle.sdl_hand.specs.declared.hand.Stepped.{Stepped}
+use Rattle.sdl_hand.specs.declared.hand.Stepped.TheVariants as stepped
+use Rattle.sdl_hand.specs.declared.hand.Refused.{Refused}
+use Rattle.sdl_hand.specs.Puts.{answer_of}
+use Rattle.sdl_hand.specs.Work.{Working, StepsAs}
 
 -- The item taken is the kept one, or else the front of the inlet; there is none where that is empty.
 abbrev pub TakesFrom : Working → List (Station × List Item) → Option Item → List (Station × List Item) → Type 0
@@ -86,12 +68,6 @@ abbrev pub Turns : (ℕ → Frame → Step → Type 0) → System → Working �
 Turns may sys old (Ok true) new = MakesTurn may sys old new
 Turns may sys old (Ok false) new = (new ≡ old) × (IsSpent old.core ⊎ ((p : Pid) → IsReady p old.core.state → ⊥))
 Turns may sys old (Err _) new = new ≡ old
-
--- the answer of a step, by whether it did anything or was refused
-abbrev pub answer_of : Result Bool Refused → Stepped
-answer_of (Ok true) = stepped.Did
-answer_of (Ok false) = stepped.Idle
-answer_of (Err _) = stepped.Memory
 
 abbrev pub StepsTo : (ℕ → Frame → Step → Type 0) → System → Working → List (Station × List Item) → Result Bool Refused → Working → List (Station × List Item) → Type 0
 StepsTo may sys old before result new after = StepsAs may sys old before (answer_of result) new after

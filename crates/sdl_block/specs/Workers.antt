@@ -11,7 +11,7 @@ use Rattle.sdl_instances.specs.Core.{IsSound, IsLegalIn}
 use Rattle.sdl_instances.specs.Cores.{core_of, parts_of, system_in, CanFire}
 use Rattle.sdl_forward.specs.Boards.{IsBoardOf}
 use Rattle.sdl_block.specs.declared.worker.BlockWorker.{BlockWorker}
-use Rattle.sdl_block.specs.Work.{Working}
+use Rattle.sdl_hand.specs.Work.{Working}
 
 abbrev pub worker_of : {S I : Type 0} {F : I → Type 0} {g : _} → BlockWorker S I F g → Working
 worker_of w = record { core = core_of w.core; kept = w.hand.kept; outgoing = w.hand.outgoing.items }

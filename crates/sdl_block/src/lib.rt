@@ -1,7 +1,7 @@
 //! A block at work: its core with its inlet, and the items that it has in hand.
 #![tactic(auto)]
 
-mod putting;
 pub mod worker;
 
-pub use worker::{BlockWorker, Hand, Refused, Stepped, answer_of};
+pub use sdl_hand::{Hand, Refused, Stepped, answer_of};
+pub use worker::BlockWorker;

@@ -5,52 +5,18 @@ ghost use Rattle.sdl_forward.specs.Boards.{IsBoardOf};
 ghost use Rattle.sdl_instances.specs.Core.{IsSound, IsLegalIn, IsReady};
 ghost use Rattle.sdl_instances.specs.Cores.{core_of, parts_of, CanFire};
 ghost use Rattle.sdl_instances.specs.Run.{turns, waiting};
-ghost use Rattle.sdl_block.specs.Work.{with_core, StepsAs};
+ghost use Rattle.sdl_hand.specs.Work.{with_core, StepsAs};
 ghost use Rattle.sdl_block.specs.Phases.{TakesFrom, Admits, LetsIn, Turns, StepsTo, PutsFirst, IsEmptyAfter};
-ghost use Rattle.sdl_block.specs.Phases as phases;
+ghost use Rattle.sdl_hand.specs.Puts as puts;
 ghost use Rattle.sdl_block.specs.Workers.{worker_of, behaviours_of, system_around};
 
 use arrayvec::ArrayVec;
 use sdl_forward::Board;
+use sdl_hand::{Hand, Refused, Stepped, answer_of};
 use sdl_instances::{BlockCore, Turned};
 use sdl_routes::{Routes, Station};
 use sdl_signal::Item;
 use sdl_transition::Agents;
-
-/// What a block has in hand between two steps.
-#[derive(Debug, Drop)]
-pub struct Hand {
-    /// The item that was taken from the inlet and could not arrive: memory was refused, or it may not arrive here.
-    pub kept: Option<Item>,
-    /// Those of the last turn's items that are yet to be put at the first stations of their routes, in order.
-    pub outgoing: ArrayVec<Item, 8>,
-}
-
-/// What a step of a block did.
-#[derive(Clone, Copy, Debug, PartialEq, Eq)]
-pub enum Stepped {
-    /// It put an item, or an event happened.
-    Did,
-    /// Nothing could be done: nothing is in hand, and the budget is used, or the inlet is empty and no instance is ready.
-    Idle,
-    /// Memory was refused, or an item may not arrive. What was not carried out is in hand, and the next step goes on there.
-    Memory,
-}
-
-/// The end of a step: memory was refused, or an item may not arrive.
-#[derive(Clone, Copy, Debug, PartialEq, Eq)]
-pub struct Refused;
-
-/// What a step answers that did something or not, or was refused.
-pub fn answer_of(tried: Result<bool, Refused>) -> Stepped
-    ensures { result ≡ phases.answer_of tried }
-{
-    match tried {
-        Ok(true) => Stepped::Did,
-        Ok(false) => Stepped::Idle,
-        Err(Refused) => Stepped::Memory,
-    }
-}
 
 /// A block at work: its core, with what it has in hand.
 #[derive(Drop)]
@@ -102,7 +68,7 @@ impl<S: Agents> BlockWorker<S> {
         requires board { IsBoardOf routes.now board.old }
         ensures step { StepsTo S.may (system_around self.old routes.now) (worker_of self.old) board.old result (worker_of self.new) board.new }
         ensures first { PutsFirst (worker_of self.old) (worker_of self.new) }
-        ensures hand { IsEmptyAfter (phases.answer_of result) (worker_of self.new) }
+        ensures hand { IsEmptyAfter (puts.answer_of result) (worker_of self.new) }
         ensures spent { turns (worker_of self.old).core.log ≡ (worker_of self.old).core.budget → (worker_of self.new).core ≡ (worker_of self.old).core }
         ensures parts { behaviours_of self.new ≡ behaviours_of self.old }
     {

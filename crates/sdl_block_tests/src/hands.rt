@@ -1,7 +1,7 @@
 //! A hand put out over the board of Ring.
 ghost use Rattle.std.specs.Prelude.{IsTrue, ◌↔◌};
 ghost use Rattle.sdl_forward.specs.Boards.{IsBoardOf};
-ghost use Rattle.sdl_block.specs.Phases.{AreRouted, IsRouted};
+ghost use Rattle.sdl_hand.specs.Puts.{AreRouted, IsRouted};
 
 use super::tokens::{BACK, THERE, Token, item_of, out_of_p, out_of_q, token_of};
 use arrayvec::ArrayVec;

@@ -7,30 +7,32 @@ use Rattle.sdl_transition.specs.declared.step.Step.{Step}
 use Rattle.sdl_instances.specs.declared.event.Event.{Event}
 use Rattle.sdl_queue.specs.declared.rest.Rest.{Rest}
 use Rattle.sdl_forward.specs.Boards.{lists_of}
-use Rattle.sdl_block.specs.declared.worker.Hand.{Hand}
-use Rattle.sdl_block.specs.Work.{Working}
+use Rattle.sdl_hand.specs.declared.hand.Hand.{Hand}
+use Rattle.sdl_hand.specs.Work.{Working}
 use Rattle.sdl_block.specs.Workers.{worker_of}
 use Rattle.sdl_run.specs.declared.driver.Driver.{Driver}
-use Rattle.sdl_run.specs.declared.end.RunEnd.{RunEnd}
-use Rattle.sdl_run.specs.declared.environment_output.EnvOut.{EnvOut}
+use Rattle.sdl_outcome.specs.declared.end.RunEnd.{RunEnd}
+use Rattle.sdl_outcome.specs.declared.environment_output.EnvOut.{EnvOut}
 use Rattle.sdl_signal.specs.declared.ends.InputEnd.{InputEnd}
 use Rattle.sdl_signal.specs.declared.ends.InputEnd.TheVariants as input
-use Rattle.sdl_run.specs.EnvironmentWork.{EnvWorking, OwnEnd, input_end}
-use Rattle.sdl_run.specs.Plan.{Plan, blocks_in, workers_of}
-use Rattle.sdl_run.specs.Outcome.{Held, Outcome}
-use Rattle.sdl_run.specs.declared.ledger.Ledger.{Ledger}
-use Rattle.sdl_run.specs.Counts.{Fits, IsLedgerOf, waiting_in}
-use Rattle.sdl_run.specs.Ends.{EndsAs, HasEnded}
-use Rattle.sdl_run.specs.Driver.{Site, IsIdle, outcome_of, finals_of, block_hand, env_hand, forwarder_hand}
+use Rattle.sdl_outcome.specs.EnvironmentWork.{EnvWorking, OwnEnd, input_end}
+use Rattle.sdl_outcome.specs.Plan.{Plan, blocks_in, workers_of}
+use Rattle.sdl_outcome.specs.Outcome.{Held, Outcome}
+use Rattle.sdl_ledger.specs.declared.ledger.Ledger.{Ledger}
+use Rattle.sdl_ledger.specs.Counts.{Fits, IsLedgerOf, waiting_in}
+use Rattle.sdl_outcome.specs.Ends.{EndsAs}
+use Rattle.sdl_run.specs.Ended.{HasEnded}
+use Rattle.sdl_order.specs.Driver.{Site, IsIdle, outcome_of, finals_of, block_hand, env_hand, forwarder_hand}
 use Rattle.sdl_run.specs.Drivers.{site_of, plan_of, IsDriving, NoneSpent, FirstSpent, AllDone, SomeUndone, AllLeft, SomeLeft}
 use Rattle.sdl_parts.specs.Structure.{Structure}
 use Rattle.sdl_routes.specs.declared.parts.Row.{Row}
 use Rattle.sdl_transition.specs.declared.parts.BlockParts.{BlockParts}
 use Rattle.sdl_transition.specs.Bound.{AreOneSystem}
 use Rattle.sdl_run.specs.declared.closing.Room.{Room}
-use Rattle.sdl_run.specs.Closings.{HasRoom, StopsByMemory, items_in, held_in, end_by}
+use Rattle.sdl_run.specs.Closings.{HasRoom, StopsByMemory, end_by}
+use Rattle.sdl_outcome.specs.Lists.{items_in, held_in}
 use Rattle.sdl_run.proofs.Drives.{map_map}
-use Rattle.sdl_run.proofs.Balanced.{counts_fit}
+use Rattle.sdl_balance.proofs.Balanced.{counts_fit}
 use Rattle.sdl_run.proofs.Finish.{ended, traced, limited}
 use Rattle.sdl_run.proofs.Readings.{never_stopped}
 use Rattle.sdl_run.proofs.Stops.{knows, some_undone, ends_by}

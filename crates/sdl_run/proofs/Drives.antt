@@ -18,23 +18,23 @@ use Rattle.sdl_routes.specs.declared.parts.Station.TheVariants.{Line}
 use Rattle.sdl_forward.specs.declared.forwarder.Forwarded.{Forwarded}
 use Rattle.sdl_forward.specs.declared.forwarder.Forwarded.TheVariants as forwarded
 use Rattle.sdl_block.specs.declared.worker.BlockWorker.{BlockWorker}
-use Rattle.sdl_block.specs.declared.worker.Stepped.{Stepped}
-use Rattle.sdl_block.specs.declared.worker.Stepped.TheVariants as stepped
-use Rattle.sdl_block.specs.Work.{Working, StepsAs, IsAtRest}
+use Rattle.sdl_hand.specs.declared.hand.Stepped.{Stepped}
+use Rattle.sdl_hand.specs.declared.hand.Stepped.TheVariants as stepped
+use Rattle.sdl_hand.specs.Work.{Working, StepsAs, IsAtRest}
 use Rattle.sdl_block.specs.Workers.{behaviours_of}
-use Rattle.sdl_run.specs.declared.worker.Worker.TheVariants.{Environment, Forwarder}
+use Rattle.sdl_outcome.specs.declared.worker.Worker.TheVariants.{Environment, Forwarder}
 use Rattle.sdl_run.specs.declared.driver.Driver.{Driver}
-use Rattle.sdl_run.specs.Plan.{Plan, IsPlan, blocks_in, blocks_from, path_line, lines_from, lines_of, workers_of, system_at}
-use Rattle.sdl_run.specs.Driver.{Site, IsAtWork, BlockSteps, EnvironmentSteps, ForwarderSteps}
-use Rattle.sdl_run.specs.EnvironmentWork.{EnvWorking, EnvStepsAs, HasReadSoFar, HasWrittenSoFar}
+use Rattle.sdl_outcome.specs.Plan.{Plan, IsPlan, blocks_in, blocks_from, path_line, lines_from, lines_of, workers_of, system_at}
+use Rattle.sdl_order.specs.Driver.{Site, IsAtWork, BlockSteps, EnvironmentSteps, ForwarderSteps}
+use Rattle.sdl_outcome.specs.EnvironmentWork.{EnvWorking, EnvStepsAs, HasReadSoFar, HasWrittenSoFar}
 use Rattle.sdl_run.specs.Drivers.{site_of, plan_of, IsDriving, IsSameSystem, ReadsOver, WritesOver, StepAnswers, stepped_by}
-use Rattle.sdl_run.specs.Measure.{work_left}
-use Rattle.sdl_run.proofs.Lists.{set_same}
-use Rattle.sdl_run.proofs.Between.{site_is, block_steps, environment_steps, forwarder_steps}
-use Rattle.sdl_run.proofs.Ending.{count_blocks}
-use Rattle.sdl_run.proofs.Measure.{moves_lower}
-use Rattle.sdl_run.proofs.Lowers.{works_lower}
-use Rattle.sdl_run.proofs.LowersEnvironment.{env_lowers}
+use Rattle.sdl_order.specs.Measure.{work_left}
+use Rattle.sdl_outcome.proofs.Lists.{set_same}
+use Rattle.sdl_order.proofs.Between.{site_is, block_steps, environment_steps, forwarder_steps}
+use Rattle.sdl_outcome.proofs.Workers.{count_blocks}
+use Rattle.sdl_order.proofs.Measure.{moves_lower}
+use Rattle.sdl_order.proofs.Lowers.{works_lower}
+use Rattle.sdl_order.proofs.LowersEnvironment.{env_lowers}
 
 -- there are at most two lines a channel
 path_few : (n : ℕ) (back : Bool) (xs : List SignalId) → length (path_line n back xs) ≤ 1

@@ -16,17 +16,17 @@ use Rattle.sdl_instances.specs.Machine.{System}
 use Rattle.sdl_instances.specs.Core.{IsSound, IsLegalIn}
 use Rattle.sdl_instances.specs.Cores.{CanFire}
 use Rattle.sdl_block.specs.declared.worker.BlockWorker.{BlockWorker}
-use Rattle.sdl_block.specs.declared.worker.Stepped.{Stepped}
-use Rattle.sdl_block.specs.Work.{Working, StepsAs}
+use Rattle.sdl_hand.specs.declared.hand.Stepped.{Stepped}
+use Rattle.sdl_hand.specs.Work.{Working, StepsAs}
 use Rattle.sdl_block.specs.Workers.{worker_of, behaviours_of, system_around}
-use Rattle.sdl_run.specs.declared.worker.Worker.TheVariants.{Block}
+use Rattle.sdl_outcome.specs.declared.worker.Worker.TheVariants.{Block}
 use Rattle.sdl_run.specs.declared.driver.Driver.{Driver}
-use Rattle.sdl_run.specs.Plan.{MayTravel, system_at}
-use Rattle.sdl_run.specs.Driver.{BlockSteps}
+use Rattle.sdl_outcome.specs.Plan.{MayTravel, system_at}
+use Rattle.sdl_order.specs.Driver.{BlockSteps}
 use Rattle.sdl_run.specs.Drivers.{site_of, plan_of, IsDriving}
-use Rattle.sdl_run.proofs.Lists.{map_set}
-use Rattle.sdl_run.proofs.Starts.{block}
-use Rattle.sdl_run.proofs.BlockStep.{of_block_was}
+use Rattle.sdl_outcome.proofs.Lists.{map_set}
+use Rattle.sdl_order.proofs.Starts.{block}
+use Rattle.sdl_order.proofs.BlockStep.{of_block_was}
 
 unfoldable system : List (List Sort) → List ProcessSet → List Row → List Rules → System
 system signals sets routes rules = record { signals = signals; sets = sets; routes = routes; rules = rules }

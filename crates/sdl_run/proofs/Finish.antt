@@ -4,17 +4,18 @@ use Rattle.std.proofs.lemmas.Option.{slice_get_within}
 use Rattle.std.specs.List.{AllByRecursion}
 use Rattle.sdl_transition.specs.declared.step.Frame.{Frame}
 use Rattle.sdl_transition.specs.declared.step.Step.{Step}
-use Rattle.sdl_run.specs.declared.end.RunEnd.{RunEnd}
-use Rattle.sdl_run.specs.declared.ledger.Ledger.{Ledger}
-use Rattle.sdl_run.specs.declared.worker.Worker.TheVariants.{Environment}
-use Rattle.sdl_run.specs.Plan.{Plan, IsPlan, MayTravel}
-use Rattle.sdl_run.specs.Counts.{IsTraced, IsLimited, IsLedgerOf, IsOnRoute, waiting_in}
-use Rattle.sdl_run.specs.Ends.{EndsAs, HasEnded}
-use Rattle.sdl_run.specs.Driver.{Site, IsAtWork, outcome_of, finals_of}
-use Rattle.sdl_run.proofs.Lists.{all_weaker}
-use Rattle.sdl_run.proofs.Whole.{headline}
-use Rattle.sdl_run.proofs.Ending.{complete, cores, lawful, lefts, within_from, outgoing_same, outcome_in_order, forwarders_put}
-use Rattle.sdl_run.proofs.Balanced.{balanced}
+use Rattle.sdl_outcome.specs.declared.end.RunEnd.{RunEnd}
+use Rattle.sdl_ledger.specs.declared.ledger.Ledger.{Ledger}
+use Rattle.sdl_outcome.specs.declared.worker.Worker.TheVariants.{Environment}
+use Rattle.sdl_outcome.specs.Plan.{Plan, IsPlan, MayTravel}
+use Rattle.sdl_ledger.specs.Counts.{IsTraced, IsLimited, IsLedgerOf, IsOnRoute, waiting_in}
+use Rattle.sdl_outcome.specs.Ends.{EndsAs}
+use Rattle.sdl_run.specs.Ended.{HasEnded}
+use Rattle.sdl_order.specs.Driver.{Site, IsAtWork, outcome_of, finals_of}
+use Rattle.sdl_outcome.proofs.Lists.{all_weaker}
+use Rattle.sdl_order.proofs.Whole.{headline}
+use Rattle.sdl_order.proofs.Ending.{complete, cores, lawful, lefts, within_from, outgoing_same, outcome_in_order, forwarders_put}
+use Rattle.sdl_balance.proofs.Balanced.{balanced}
 use Rattle.sdl_run.proofs.Meeting.{bound_at, turns_few, outputs_few}
 
 module _ (may : ℕ → Frame → Step → Type 0) (plan : Plan) (ok : IsPlan plan) (site : Site) (work : IsAtWork may plan site) where

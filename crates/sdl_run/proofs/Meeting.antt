@@ -8,9 +8,9 @@ use Rattle.sdl_transition.specs.declared.step.Step.{Step}
 use Rattle.sdl_instances.specs.declared.event.Event.{Event}
 use Rattle.sdl_instances.specs.Core.{IsBoundIn, signals_of, sets_of}
 use Rattle.sdl_instances.specs.Run.{origins, turns}
-use Rattle.sdl_block.specs.Work.{Working}
-use Rattle.sdl_run.specs.Plan.{Plan, blocks_in, rules_at}
-use Rattle.sdl_run.specs.Driver.{IsCoreAt}
+use Rattle.sdl_hand.specs.Work.{Working}
+use Rattle.sdl_outcome.specs.Plan.{Plan, blocks_in, rules_at}
+use Rattle.sdl_order.specs.Driver.{IsCoreAt}
 
 module _ (may : ℕ → Frame → Step → Type 0) (plan : Plan) where
   pub bound_at : (ws : List Working) → length ws ≡ blocks_in plan → ((n : ℕ) (w : Working) → slice_get ws n ≡ Some w → IsCoreAt may plan n w.core)

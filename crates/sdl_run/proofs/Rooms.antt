@@ -4,8 +4,8 @@ use Rattle.sdl_signal.specs.declared.values.Item.{Item}
 use Rattle.sdl_forward.specs.Forwards.{Forwarding}
 use Rattle.sdl_run.specs.declared.closing.Room.{Room}
 use Rattle.sdl_run.specs.Closings.{HasRoom}
-use Rattle.sdl_run.specs.Outcome.{Held}
-use Rattle.sdl_run.specs.Driver.{forwarder_hand}
+use Rattle.sdl_outcome.specs.Outcome.{Held}
+use Rattle.sdl_order.specs.Driver.{forwarder_hand}
 
 -- one more has come over
 pub come_over : {X Y : Type 0} (f : X → Y) (done later all : List Y) (x : X) (rest fewer : List X) → rest ≡ x ∷ fewer → later ≡ done ++ f x ∷ [] → done ++ map f rest ≡ all → later ++ map f fewer ≡ all

@@ -7,15 +7,15 @@ use Rattle.sdl_transition.specs.declared.step.Step.{Step}
 use Rattle.sdl_instances.specs.Machine.{State}
 use Rattle.sdl_instances.specs.Run.{waiting}
 use Rattle.sdl_block.specs.declared.worker.BlockWorker.{BlockWorker}
-use Rattle.sdl_block.specs.Work.{Working}
+use Rattle.sdl_hand.specs.Work.{Working}
 use Rattle.sdl_block.specs.Workers.{worker_of}
 use Rattle.sdl_run.specs.declared.driver.Driver.{Driver}
-use Rattle.sdl_run.specs.Counts.{waiting_in}
-use Rattle.sdl_run.specs.Driver.{outcome_of, finals_of}
+use Rattle.sdl_ledger.specs.Counts.{waiting_in}
+use Rattle.sdl_order.specs.Driver.{outcome_of, finals_of}
 use Rattle.sdl_run.specs.Drivers.{site_of, plan_of, IsDriving}
 use Rattle.sdl_run.proofs.Drives.{map_map}
-use Rattle.sdl_run.proofs.Adding.{sum_map}
-use Rattle.sdl_run.proofs.Balanced.{few_waits}
+use Rattle.sdl_ledger.proofs.Adding.{sum_map}
+use Rattle.sdl_balance.proofs.Balanced.{few_waits}
 use Rattle.sdl_run.proofs.Finish.{traced, limited}
 
 -- what waits at a block

@@ -1,12 +1,11 @@
 -- What a contract sees of a closing, and of the lists that become one.
-use Rattle.std.specs.Prelude.{◌≡◌, ℕ, ◌+◌, ◌≤◌, List, [], map, Option, None, Some, Bool, Vec, vec_len, vec_capacity, if◌then◌else◌}
+use Rattle.std.specs.Prelude.{◌≡◌, ℕ, ◌+◌, ◌≤◌, List, map, Option, None, Some, Bool, vec_len, vec_capacity, if◌then◌else◌}
 use Rattle.sdl_transition.specs.declared.binding.Bound.{Bound}
 use Rattle.sdl_transition.specs.Bound.{structure_of, routes_of, blocks_of}
 use Rattle.sdl_transition.specs.Rules.{block_rules}
 use Rattle.sdl_forward.specs.Boards.{lists_of}
-use Rattle.sdl_block.specs.declared.worker.Hand.{Hand}
-use Rattle.sdl_run.specs.declared.end.RunEnd.{RunEnd}
-use Rattle.sdl_run.specs.declared.end.RunEnd.TheVariants as run_end
+use Rattle.sdl_outcome.specs.declared.end.RunEnd.{RunEnd}
+use Rattle.sdl_outcome.specs.declared.end.RunEnd.TheVariants as run_end
 use Rattle.sdl_run.specs.declared.closing.Closing.{Closing}
 use Rattle.sdl_run.specs.declared.closing.Left.{Left}
 use Rattle.sdl_run.specs.declared.closing.Room.{Room}
@@ -15,19 +14,14 @@ use Rattle.sdl_block.specs.Workers.{behaviours_of}
 use Rattle.sdl_signal.specs.declared.ends.InputEnd.{InputEnd}
 use Rattle.sdl_signal.specs.declared.ends.InputEnd.TheVariants as input
 use Rattle.sdl_parts.specs.Structure.{lexicon_of}
-use Rattle.sdl_run.specs.EnvironmentWork.{HasReadAll, HasWritten, received_text}
-use Rattle.sdl_run.specs.Plan.{Plan, blocks_in}
-use Rattle.sdl_run.specs.Outcome.{Held, Outcome}
+use Rattle.sdl_outcome.specs.EnvironmentWork.{HasReadAll, HasWritten, received_text}
+use Rattle.sdl_outcome.specs.Plan.{Plan, blocks_in}
+use Rattle.sdl_outcome.specs.Outcome.{Outcome}
+use Rattle.sdl_outcome.specs.Lists.{items_in, held_in}
 
 -- the plan of a bound system with this budget
 abbrev pub plan_of_bound : {S I : Type 0} {F : I → Type 0} {g : _} → Bound S I F g → ℕ → Plan
 plan_of_bound b budget = record { structure = structure_of b; routes = routes_of b; rules = map block_rules (blocks_of b); budget = budget }
-
-abbrev pub items_in : {X Z : Type 0} → Vec X Z → List X
-items_in v = v.items
-
-abbrev pub held_in : Hand → Held
-held_in h = record { kept = h.kept; outgoing = h.outgoing.items }
 
 -- what a closing shows of its run
 abbrev pub outcome_in : {S I : Type 0} {F : I → Type 0} {g : _} → Closing S I F g → Outcome

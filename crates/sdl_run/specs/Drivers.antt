@@ -15,17 +15,17 @@ use Rattle.sdl_forward.specs.Boards.{waiting}
 use Rattle.sdl_forward.specs.Forwards.{Forwarding}
 use Rattle.sdl_forward.specs.declared.forwarder.Forwarded.{Forwarded}
 use Rattle.sdl_forward.specs.declared.forwarder.Forwarded.TheVariants as forwarded
-use Rattle.sdl_block.specs.declared.worker.Stepped.{Stepped}
-use Rattle.sdl_block.specs.declared.worker.Stepped.TheVariants.{Did, Idle, Memory}
-use Rattle.sdl_block.specs.Work.{Working, IsAtRest}
+use Rattle.sdl_hand.specs.declared.hand.Stepped.{Stepped}
+use Rattle.sdl_hand.specs.declared.hand.Stepped.TheVariants.{Did, Idle, Memory}
+use Rattle.sdl_hand.specs.Work.{Working, IsAtRest}
 use Rattle.sdl_block.specs.Workers.{worker_of, behaviours_of}
 use Rattle.sdl_run.specs.declared.driver.Driver.{Driver}
 use Rattle.sdl_run.specs.declared.driver.Round.{Round}
 use Rattle.sdl_run.specs.declared.driver.Round.TheVariants as round
-use Rattle.sdl_run.specs.Plan.{Plan, IsPlan, blocks_in, workers_of}
-use Rattle.sdl_run.specs.EnvironmentWork.{EnvWorking, HasReadSoFar, HasWrittenSoFar}
-use Rattle.sdl_run.specs.Driver.{Site, IsAtWork, IsIdle}
-use Rattle.sdl_run.specs.Measure.{work_left}
+use Rattle.sdl_outcome.specs.Plan.{Plan, IsPlan, blocks_in, workers_of}
+use Rattle.sdl_outcome.specs.EnvironmentWork.{EnvWorking, HasReadSoFar, HasWrittenSoFar}
+use Rattle.sdl_order.specs.Driver.{Site, IsAtWork, IsIdle}
+use Rattle.sdl_order.specs.Measure.{work_left}
 
 abbrev pub site_of : {S I : Type 0} {F : I → Type 0} {g : _} → Driver S I F g → Site
 site_of d = record { blocks = map worker_of d.blocks.items; environment = d.environment; forwarders = d.forwarders.items; board = d.board }

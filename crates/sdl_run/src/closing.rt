@@ -1,16 +1,17 @@
 //! What a run leaves.
 ghost use Rattle.std.specs.Prelude.{◌≡◌, ℕ, ◌+◌, ◌<◌, ◌++◌, ◌∷◌, [], map, length, IfOk};
 ghost use Rattle.sdl_block.specs.Workers.{worker_of, behaviours_of};
-ghost use Rattle.sdl_run.specs.Closings.{HasRoom, items_in, held_in, end_by};
-ghost use Rattle.sdl_run.specs.Driver.{block_hand, forwarder_hand};
+ghost use Rattle.sdl_run.specs.Closings.{HasRoom, end_by};
+ghost use Rattle.sdl_outcome.specs.Lists.{items_in, held_in};
+ghost use Rattle.sdl_order.specs.Driver.{block_hand, forwarder_hand};
 
-use crate::end::RunEnd;
-use crate::environment_output::EnvOut;
-use crate::ledger::Ledger;
 use arrayvec::ArrayVec;
-use sdl_block::{BlockWorker, Hand};
+use sdl_block::BlockWorker;
 use sdl_forward::Forwarder;
+use sdl_hand::Hand;
 use sdl_instances::Event;
+use sdl_ledger::Ledger;
+use sdl_outcome::{EnvOut, RunEnd};
 use sdl_queue::Rest;
 use sdl_routes::Station;
 use sdl_signal::{BlockId, InputEnd, Item, OutputEnd};

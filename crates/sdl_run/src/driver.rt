@@ -3,21 +3,22 @@ ghost use Rattle.std.specs.Prelude.{◌≡◌, ℕ, List, Option, ◌+◌, ◌<�
 ghost use Rattle.sdl_transition.specs.Bound.{AreOneSystem};
 ghost use Rattle.sdl_block.specs.Workers.{behaviours_of};
 ghost use Rattle.sdl_run.specs.Closings.{HasRoom, IsSystemOf, HasReadIn, HasWrittenIn, StopsByMemory, outcome_in, outcome_left};
-ghost use Rattle.sdl_run.specs.Counts.{waiting_in};
-ghost use Rattle.sdl_run.specs.Ends.{HasEnded};
-ghost use Rattle.sdl_run.specs.Plan.{blocks_in, workers_of};
-ghost use Rattle.sdl_run.specs.EnvironmentWork.{OwnEnd, HasReadSoFar, HasWrittenSoFar, input_end};
-ghost use Rattle.sdl_run.specs.Driver.{BlockSteps, EnvironmentSteps, ForwarderSteps, IsIdle, outcome_of, finals_of};
+ghost use Rattle.sdl_ledger.specs.Counts.{waiting_in};
+ghost use Rattle.sdl_run.specs.Ended.{HasEnded};
+ghost use Rattle.sdl_outcome.specs.Plan.{blocks_in, workers_of};
+ghost use Rattle.sdl_outcome.specs.EnvironmentWork.{OwnEnd, HasReadSoFar, HasWrittenSoFar, input_end};
+ghost use Rattle.sdl_order.specs.Driver.{BlockSteps, EnvironmentSteps, ForwarderSteps, IsIdle, outcome_of, finals_of};
 ghost use Rattle.sdl_run.specs.Drivers.{site_of, plan_of, IsDriving, IsSameSystem, ReadsOver, WritesOver, StepAnswers, RoundAnswers, NoneSpent, FirstSpent, AllDone, SomeUndone, AllLeft, SomeLeft};
 
 use crate::closing::{Closing, Left, Room, end_of, take_blocks, take_forwarders};
-use crate::environment::EnvWorker;
-use crate::ledger::Ledger;
-use sdl_block::{BlockWorker, Stepped};
+use sdl_block::BlockWorker;
+use sdl_environment::EnvWorker;
 use sdl_forward::{Board, Forwarded, Forwarder};
+use sdl_hand::Stepped;
+use sdl_ledger::Ledger;
+use sdl_parts::Checked;
 use sdl_queue::Rest;
 use sdl_routes::{Routes, Station};
-use sdl_parts::Checked;
 use sdl_transition::{Agents, Bound};
 use std::io::{Read, Write};
 

@@ -1,12 +1,12 @@
 //! What stands at the start of a run.
 ghost use Rattle.std.specs.Prelude.{◌≡◌, ◌++◌, ◌≤◌, map, length, OnOk, IfOk};
-ghost use Rattle.sdl_run.specs.Plan.{path_line, lines_from};
+ghost use Rattle.sdl_outcome.specs.Plan.{path_line, lines_from};
 ghost use Rattle.sdl_run.specs.Starting.{idle_at};
 
 use sdl_forward::Forwarder;
+use sdl_parts::Channel;
 use sdl_routes::Hop;
 use sdl_signal::{ChannelId, SignalId};
-use sdl_parts::Channel;
 use std::alloc::{AllocError, Global};
 
 /// Adds the forwarder of a path, where the path carries a signal. What a refusal leaves is not said.

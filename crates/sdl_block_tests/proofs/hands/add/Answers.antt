@@ -1,5 +1,5 @@
 use Rattle.std.proofs.Common.{rules}
-use Rattle.sdl_block.proofs.Fronts.{routed_more, so_true}
+use Rattle.sdl_hand.proofs.Fronts.{routed_more, so_true}
 use Rattle.sdl_block_tests.proofs.hands.add.Goals as goal
 
 pub returns : goal.returns

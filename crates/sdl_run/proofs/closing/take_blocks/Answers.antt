@@ -1,7 +1,7 @@
 use Rattle.std.proofs.Common.{◌≡◌, ◌+◌, map, length, arith}
 use Rattle.sdl_block.specs.Workers.{worker_of, behaviours_of}
-use Rattle.sdl_run.specs.Closings.{items_in, held_in}
-use Rattle.sdl_run.specs.Driver.{block_hand}
+use Rattle.sdl_outcome.specs.Lists.{items_in, held_in}
+use Rattle.sdl_order.specs.Driver.{block_hand}
 use Rattle.sdl_run.proofs.Rooms.{come_over, fewer_by_one, room_as}
 use Rattle.sdl_run.proofs.closing.take_blocks.Goals as goal
 

@@ -1,7 +1,8 @@
 use Rattle.std.proofs.Common.{◌≡◌, ℕ, ◌+◌, ◌++◌, map, length}
 use Rattle.sdl_block.specs.Workers.{worker_of, behaviours_of}
-use Rattle.sdl_run.specs.Closings.{HasRoom, items_in, held_in}
-use Rattle.sdl_run.specs.Driver.{block_hand}
+use Rattle.sdl_run.specs.Closings.{HasRoom}
+use Rattle.sdl_outcome.specs.Lists.{items_in, held_in}
+use Rattle.sdl_order.specs.Driver.{block_hand}
 use Rattle.sdl_run.proofs.closing.take_blocks.Given as goal
 
 abbrev pub invariant-loop-rest : goal.invariant-loop-rest

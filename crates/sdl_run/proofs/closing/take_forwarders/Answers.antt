@@ -1,7 +1,7 @@
 use Rattle.std.proofs.Common.{◌≡◌, [], ◌∷◌, ◌++◌, map, length, refl, ap, ◌∙◌, ◌+◌}
-use Rattle.sdl_run.specs.Closings.{held_in}
-use Rattle.sdl_run.specs.Driver.{forwarder_hand}
-use Rattle.sdl_run.specs.Outcome.{Held}
+use Rattle.sdl_outcome.specs.Lists.{held_in}
+use Rattle.sdl_order.specs.Driver.{forwarder_hand}
+use Rattle.sdl_outcome.specs.Outcome.{Held}
 use Rattle.sdl_run.proofs.Rooms.{come_over, fewer_by_one, map_push, room_as, forwarder_left}
 use Rattle.sdl_run.proofs.closing.take_forwarders.Goals as goal
 

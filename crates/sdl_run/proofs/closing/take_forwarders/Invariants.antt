@@ -1,6 +1,7 @@
 use Rattle.std.proofs.Common.{◌≡◌, ◌++◌, map, length}
-use Rattle.sdl_run.specs.Closings.{HasRoom, held_in}
-use Rattle.sdl_run.specs.Driver.{forwarder_hand}
+use Rattle.sdl_run.specs.Closings.{HasRoom}
+use Rattle.sdl_outcome.specs.Lists.{held_in}
+use Rattle.sdl_order.specs.Driver.{forwarder_hand}
 use Rattle.sdl_run.proofs.closing.take_forwarders.Given as goal
 
 abbrev pub invariant-loop-rest : goal.invariant-loop-rest

@@ -1,7 +1,7 @@
 use Rattle.std.proofs.Common.{ap, refl}
 use Rattle.sdl_transition.specs.Rules.{block_rules}
 use Rattle.sdl_block.specs.Workers.{worker_of, system_around}
-use Rattle.sdl_block.specs.Phases.{answer_of}
+use Rattle.sdl_hand.specs.Puts.{answer_of}
 use Rattle.sdl_block.proofs.Again.{sound_again, legal_again, board_again, system_again}
 use Rattle.sdl_block.proofs.worker.BlockWorker.step_serial.Goals as goal
 

@@ -1,5 +1,5 @@
 use Rattle.std.proofs.Common.{◌≡◌, ℕ, ◌<◌, slice_get, Some}
-use Rattle.sdl_block.specs.Work.{Working}
+use Rattle.sdl_hand.specs.Work.{Working}
 use Rattle.sdl_run.specs.Drivers.{site_of, AreDone}
 use Rattle.sdl_run.proofs.driver.Driver.are_settled.Given as goal
 

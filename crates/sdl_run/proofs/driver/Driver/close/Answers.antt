@@ -1,12 +1,12 @@
 use Rattle.std.proofs.Common.{ℕ, Bool, true, false, List, MatchBool, ◌≡◌, ap, sym, ◌∙◌, subst}
 use Rattle.sdl_routes.specs.declared.parts.Station.{Station}
 use Rattle.sdl_queue.specs.declared.rest.Rest.{Rest}
-use Rattle.sdl_run.specs.declared.end.RunEnd.{RunEnd}
-use Rattle.sdl_run.specs.Outcome.{Outcome}
-use Rattle.sdl_run.specs.Counts.{Fits, IsLedgerOf, waiting_in}
-use Rattle.sdl_run.specs.Ends.{HasEnded}
-use Rattle.sdl_run.specs.Plan.{blocks_in}
-use Rattle.sdl_run.specs.Driver.{finals_of}
+use Rattle.sdl_outcome.specs.declared.end.RunEnd.{RunEnd}
+use Rattle.sdl_outcome.specs.Outcome.{Outcome}
+use Rattle.sdl_ledger.specs.Counts.{Fits, IsLedgerOf, waiting_in}
+use Rattle.sdl_run.specs.Ended.{HasEnded}
+use Rattle.sdl_outcome.specs.Plan.{blocks_in}
+use Rattle.sdl_order.specs.Driver.{finals_of}
 use Rattle.sdl_run.specs.Drivers.{site_of, plan_of, AllDone, SomeUndone, AllLeft, SomeLeft}
 use Rattle.sdl_run.specs.Closings.{outcome_left, end_by}
 use Rattle.sdl_run.proofs.Readings.{reads_shown, writes_shown}

@@ -1,6 +1,6 @@
 use Rattle.std.proofs.Common.{◌≡◌, sym, ◌∙◌}
 use Rattle.sdl_instances.specs.Run.{turns}
-use Rattle.sdl_block.specs.Work.{Working}
+use Rattle.sdl_hand.specs.Work.{Working}
 use Rattle.sdl_block.specs.Workers.{worker_of}
 use Rattle.sdl_run.specs.Drivers.{site_of}
 use Rattle.sdl_run.proofs.Scans.{one_further, all_seen, mapped_in, past_in}

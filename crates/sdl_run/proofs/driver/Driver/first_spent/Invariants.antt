@@ -1,6 +1,6 @@
 use Rattle.std.proofs.Common.{◌≡◌, ℕ, ◌<◌, slice_get, Some}
 use Rattle.sdl_instances.specs.Run.{turns}
-use Rattle.sdl_block.specs.Work.{Working}
+use Rattle.sdl_hand.specs.Work.{Working}
 use Rattle.sdl_run.specs.Drivers.{site_of}
 use Rattle.sdl_run.proofs.driver.Driver.first_spent.Given as goal
 

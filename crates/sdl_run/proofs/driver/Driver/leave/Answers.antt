@@ -1,8 +1,8 @@
 use Rattle.std.proofs.Common.{◌+◌, ◌++◌, ◌∷◌, List, [], length, map, None, ◌≡◌, ap, ◌∙◌, arith}
 use Rattle.sdl_block.specs.Workers.{worker_of, behaviours_of}
-use Rattle.sdl_run.specs.Outcome.{Held}
-use Rattle.sdl_run.specs.Driver.{block_hand, env_hand, forwarder_hand}
-use Rattle.sdl_run.specs.Closings.{items_in, held_in}
+use Rattle.sdl_outcome.specs.Outcome.{Held}
+use Rattle.sdl_order.specs.Driver.{block_hand, env_hand, forwarder_hand}
+use Rattle.sdl_outcome.specs.Lists.{items_in, held_in}
 use Rattle.sdl_run.proofs.Rooms.{hand, hand_is, map_push}
 use Rattle.sdl_run.proofs.Closes.{same_outcome, filled, joined, system_kept, less_room}
 use Rattle.sdl_run.proofs.driver.Driver.leave.Goals as goal

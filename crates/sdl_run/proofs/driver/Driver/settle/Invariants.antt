@@ -1,5 +1,5 @@
 use Rattle.sdl_run.specs.Drivers.{site_of, plan_of, IsDriving, IsSameSystem, ReadsOver, WritesOver}
-use Rattle.sdl_run.specs.Measure.{work_left}
+use Rattle.sdl_order.specs.Measure.{work_left}
 use Rattle.sdl_run.proofs.driver.Driver.settle.Given as goal
 
 abbrev pub invariant-loop-worker : goal.invariant-loop-worker

@@ -4,9 +4,9 @@ use Rattle.sdl_routes.specs.declared.parts.Station.TheVariants.{Outlet}
 use Rattle.sdl_instances.specs.Legal.{IsLegal}
 use Rattle.sdl_instances.specs.Core.{signals_of, sets_of}
 use Rattle.sdl_forward.specs.Boards.{waiting}
-use Rattle.sdl_run.specs.EnvironmentWork.{GoesOut}
+use Rattle.sdl_outcome.specs.EnvironmentWork.{GoesOut}
 use Rattle.sdl_run.specs.Drivers.{site_of, plan_of}
-use Rattle.sdl_run.proofs.StepEnvironment.{outlet_goes}
+use Rattle.sdl_order.proofs.StepEnvironment.{outlet_goes}
 use Rattle.sdl_run.proofs.Drives.{reads_by, writes_by}
 use Rattle.sdl_run.proofs.driver.Driver.step_environment.Goals as goal
 

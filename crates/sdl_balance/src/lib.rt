@@ -1,0 +1,4 @@
+//! The ledger of every run balances.
+#![tactic(auto)]
+
+pub mod balance;

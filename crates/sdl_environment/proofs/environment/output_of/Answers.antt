@@ -1,0 +1,19 @@
+use Rattle.std.proofs.Common.{None, Some, refl, subst}
+use Rattle.sdl_routes.specs.declared.parts.Goal.{Goal}
+use Rattle.sdl_routes.specs.declared.parts.Source.TheVariants as source
+use Rattle.sdl_routes.specs.declared.parts.Via.TheVariants as via
+use Rattle.sdl_routes.specs.Routes.{IsChoice}
+use Rattle.sdl_instances.proofs.Choosing.{none_fits}
+use Rattle.sdl_instances.proofs.Takes.{at_pick_fits}
+use Rattle.sdl_outcome.specs.EnvironmentWork.{wish_for}
+use Rattle.sdl_environment.proofs.environment.output_of.Goals as goal
+
+pub returns-in-Some : goal.returns-in-Some
+returns-in-Some c =
+    let P : Goal → Type 0 = λ to. IsChoice c.args.routes.now (record { source = source.Gate c.args.line.gate; signal = c.args.line.signal.id; goal = to; via = via.Any }) c.args.pick (Some c.in-Some.route) in
+    (refl, at_pick_fits c.args.routes.now c.args.pick (wish_for c.args.line) c.in-Some.route (subst P c.goal_to.ensures c.in-Some.ensures.choice))
+
+pub returns-in-None : goal.returns-in-None
+returns-in-None c =
+    let P : Goal → Type 0 = λ to. IsChoice c.args.routes.now (record { source = source.Gate c.args.line.gate; signal = c.args.line.signal.id; goal = to; via = via.Any }) c.args.pick None in
+    (refl, refl, none_fits c.args.routes.now (wish_for c.args.line) c.args.pick (subst P c.goal_to.ensures c.in-None.ensures.choice))

@@ -1,0 +1,343 @@
+//! The environment at work: it reads lines and outputs their signals, and writes what it receives as lines.
+ghost use Rattle.std.specs.Prelude.{◌≡◌, ◌<◌, ℕ, List, [], ◌∷◌, ◌++◌, Option, All, None, length};
+ghost use Rattle.sdl_signal.specs.declared.values.Item.{Item};
+ghost use Rattle.sdl_parts.specs.Structure.{Structure, IsStructure};
+ghost use Rattle.sdl_routes.specs.declared.parts.Row.{Row};
+ghost use Rattle.sdl_routes.specs.declared.parts.Station.{Station};
+ghost use Rattle.sdl_routes.specs.Routes.{AreRoutesOf};
+ghost use Rattle.sdl_routes.specs.declared.parts.Station.TheVariants.{Outlet};
+ghost use Rattle.sdl_forward.specs.Boards.{waiting, IsBoardOf};
+ghost use Rattle.sdl_hand.specs.declared.hand.Stepped.{Stepped};
+ghost use Rattle.sdl_hand.specs.Puts.{AreRouted, IsRouted, PutsOut};
+ghost use Rattle.sdl_outcome.specs.EnvironmentWork.{EnvWorking, OwnEnd, IsEnvFresh, IsEnvSound, IsLegalItem, GoesOut, EnvStepsAs, HasReadSoFar, HasReadAll, HasWrittenSoFar, HasWritten, IsOutputOf, sent_of, goal_to, end_gate_of, received_text, input_end};
+ghost use Rattle.sdl_environment.specs.EnvPhases.{IsWritable, HasReadBy, HasWrittenBy, Reads, Receives, EnvStepsTo};
+
+use arrayvec::ArrayVec;
+use sdl_forward::Board;
+use sdl_hand::{Hand, Refused, Stepped, answer_of};
+use sdl_instances::copies::copied_item;
+use sdl_outcome::EnvOut;
+use sdl_parts::Structure;
+use sdl_routes::{Goal, Routes, Source, Station, Via, Wish};
+use sdl_signal::{
+    EnvLine, EnvRead, EnvReader, GateId, InputEnd, Item, LineSink, Names, Origin, OutputEnd, Pid,
+    Written, line_of,
+};
+use std::alloc::Global;
+use std::io::{Read, Write};
+use std::marker::Model;
+
+/// The environment's worker: its reading, its outputs, what it has in hand, what it received, and its writing.
+#[derive(Drop)]
+pub struct EnvWorker {
+    number: u32,
+    reader: EnvReader,
+    ended: Option<InputEnd>,
+    put: Vec<EnvOut>,
+    hand: Hand,
+    received: Vec<Item>,
+    sink: LineSink,
+    output: OutputEnd,
+}
+
+impl Model for EnvWorker {
+    ghost use Rattle.std.specs.Prelude.{◌≡◌, ◌≤◌, length, None};
+    ghost use Rattle.sdl_outcome.specs.EnvironmentWork.{EnvWorking, OwnEnd};
+
+    ghost Value = { EnvWorking };
+
+    ghost view = { λ w. record { number = w.number; reading = w.reader; ended = w.ended; put = w.put.items; outgoing = w.hand.outgoing.items; received = w.received.items; output = w.output } };
+
+    ghost invariant = { λ w. (length w.put.items ≡ w.reader.carried) × (w.reader.carried ≤ 16384) × (w.hand.kept ≡ None) × OwnEnd w.ended };
+}
+
+/// What the environment's worker leaves.
+#[derive(Drop)]
+pub struct EnvParts {
+    /// What became of the lines that were read, in order.
+    pub put: Vec<EnvOut>,
+    /// What was sent and could not be put.
+    pub hand: Hand,
+    /// What was received, in order.
+    pub received: Vec<Item>,
+    /// How the reading ended: where it did not, it stopped after so many lines.
+    pub input: InputEnd,
+    /// Whether all that was received could be written.
+    pub output: OutputEnd,
+}
+
+impl EnvWorker {
+    /// The environment's worker of this number, before anything was read. No memory is taken.
+    pub fn new(alloc: Global, number: u32) -> EnvWorker
+        ensures { IsEnvFresh number result }
+    {
+        EnvWorker {
+            number,
+            reader: EnvReader::new(),
+            ended: None,
+            put: Vec::new(alloc),
+            hand: Hand {
+                kept: None,
+                outgoing: ArrayVec::new(),
+            },
+            received: Vec::new(alloc),
+            sink: LineSink::new(),
+            output: OutputEnd::Whole,
+        }
+    }
+
+    /// A step. It puts out what is in hand. Unless its reading has ended, it reads one line and outputs its signal, with the
+    /// line's gate as the source. It then takes one item from the outlet and writes its line, unless a write failed before.
+    /// A refusal ends the step, and the next one goes on there. `pick` chooses among the routes.
+    pub fn step_serial<R: Read, W: Write>(
+        &mut self,
+        structure: &Structure,
+        routes: &Routes,
+        board: &mut Board,
+        pick: u32,
+        input: &mut R,
+        output: &mut W,
+    ) -> Stepped
+        requires structure { IsStructure structure.now }
+        requires routes { AreRoutesOf structure.now routes.now }
+        requires sound { IsEnvSound structure.now routes.now self.old.number self.old }
+        requires board { IsBoardOf routes.now board.old }
+        requires outlet { All (λ i. IsLegalItem structure.now routes.now self.old.number i × GoesOut routes.now i) (waiting board.old Outlet) }
+        ensures step { EnvStepsAs structure.now routes.now self.old.number self.old board.old result self.new board.new }
+        ensures reading { (start : Option (List ℕ)) → HasReadSoFar structure.now routes.now self.old.number start (R.remaining input.old) self.old
+            → HasReadSoFar structure.now routes.now self.old.number start (R.remaining input.new) self.new }
+        ensures writing { (start : Option (List ℕ)) → HasWrittenSoFar structure.now routes.now self.old.number start (W.contents output.old) self.old
+            → HasWrittenSoFar structure.now routes.now self.old.number start (W.contents output.new) self.new }
+        ensures board { IsBoardOf routes.now board.new }
+    {
+        answer_of(self.try_step(structure, routes, board, pick, input, output))
+    }
+
+    /// A step, which says whether it did anything.
+    fn try_step<R: Read, W: Write>(
+        &mut self,
+        structure: &Structure,
+        routes: &Routes,
+        board: &mut Board,
+        pick: u32,
+        input: &mut R,
+        output: &mut W,
+    ) -> Result<bool, Refused>
+        requires structure { IsStructure structure.now }
+        requires routes { AreRoutesOf structure.now routes.now }
+        requires sound { IsEnvSound structure.now routes.now self.old.number self.old }
+        requires board { IsBoardOf routes.now board.old }
+        requires outlet { All (λ i. IsLegalItem structure.now routes.now self.old.number i × GoesOut routes.now i) (waiting board.old Outlet) }
+        ensures step { EnvStepsTo structure.now routes.now self.old.number self.old board.old result self.new board.new }
+        ensures reading { (start : Option (List ℕ)) → HasReadSoFar structure.now routes.now self.old.number start (R.remaining input.old) self.old
+            → HasReadSoFar structure.now routes.now self.old.number start (R.remaining input.new) self.new }
+        ensures writing { (start : Option (List ℕ)) → HasWrittenSoFar structure.now routes.now self.old.number start (W.contents output.old) self.old
+            → HasWrittenSoFar structure.now routes.now self.old.number start (W.contents output.new) self.new }
+        ensures board { IsBoardOf routes.now board.new }
+    {
+        let names = structure.names();
+        let put = self.put_out(routes, board)?;
+        let read = self.read_one(names, routes, pick, input)?;
+        self.put_out(routes, board)?;
+        let received = self.receive_one(names, routes, board, output)?;
+        Ok(put | read | received)
+    }
+
+    /// Puts out what is in hand, and says whether there was anything.
+    fn put_out(&mut self, routes: &Routes, board: &mut Board) -> Result<bool, Refused>
+        requires routed { AreRouted routes.now self.old.outgoing }
+        requires board { IsBoardOf routes.now board.old }
+        ensures put { PutsOut routes.now self.old.outgoing board.old result self.new.outgoing board.new }
+        ensures rest { self.new ≡ record self.old { outgoing = self.new.outgoing } }
+        ensures board { IsBoardOf routes.now board.new }
+    {
+        self.hand.put_out(routes, board)
+    }
+
+    /// Reads a line, unless the reading has ended, and outputs its signal. It says whether the reading went on.
+    fn read_one<R: Read>(
+        &mut self,
+        names: &Names,
+        routes: &Routes,
+        pick: u32,
+        input: &mut R,
+    ) -> Result<bool, Refused>
+        requires hand { self.old.outgoing ≡ [] }
+        ensures read { Reads names.now routes.now self.old result self.new }
+        ensures reading { (start : Option (List ℕ)) → HasReadBy names.now routes.now self.old.number start (R.remaining input.old) self.old
+            → HasReadBy names.now routes.now self.old.number start (R.remaining input.new) self.new }
+    {
+        if self.ended.is_some() {
+            return Ok(false);
+        }
+        if self.put.reserve(1).is_err() {
+            return Err(Refused);
+        }
+        match self.reader.next(names, input) {
+            EnvRead::Line(line) => {
+                let origin = Origin {
+                    worker: self.number,
+                    number: self.put.len() as u64,
+                };
+                let out = output_of(routes, pick, origin, line);
+                send(&mut self.hand, &out);
+                self.put.push_reserved(out);
+                Ok(true)
+            }
+            EnvRead::Ended(end) => {
+                self.ended = Some(end);
+                Ok(true)
+            }
+        }
+    }
+
+    /// Takes an item from the outlet, and writes its line. It says whether there was one.
+    fn receive_one<W: Write>(
+        &mut self,
+        names: &Names,
+        routes: &Routes,
+        board: &mut Board,
+        output: &mut W,
+    ) -> Result<bool, Refused>
+        requires outlet { All (IsWritable names.now routes.now) (waiting board.old Outlet) }
+        ensures received { Receives self.old board.old result self.new board.new }
+        ensures writing { (start : Option (List ℕ)) → HasWrittenBy names.now routes.now start (W.contents output.old) self.old
+            → HasWrittenBy names.now routes.now start (W.contents output.new) self.new }
+    {
+        if self.received.reserve(1).is_err() {
+            return Err(Refused);
+        }
+        let Some(item) = board.take(Station::Outlet) else {
+            return Ok(false);
+        };
+        self.output = write(&mut self.sink, self.output, names, routes, &item, output);
+        self.received.push_reserved(item);
+        Ok(true)
+    }
+
+    /// What the worker leaves. No memory is taken.
+    pub fn into_parts(self) -> EnvParts
+        ensures put { result.put.items ≡ self.put }
+        ensures kept { result.hand.kept ≡ None }
+        ensures outgoing { result.hand.outgoing.items ≡ self.outgoing }
+        ensures received { result.received.items ≡ self.received }
+        ensures input { result.input ≡ input_end self }
+        ensures own { OwnEnd self.ended }
+        ensures output { result.output ≡ self.output }
+    {
+        let input = match self.ended {
+            Some(end) => end,
+            None => InputEnd::Stopped(self.put.len() as u32),
+        };
+        EnvParts {
+            put: self.put,
+            hand: self.hand,
+            received: self.received,
+            input,
+            output: self.output,
+        }
+    }
+}
+
+/// Takes into the hand what of an output goes along a route.
+fn send(hand: &mut Hand, out: &EnvOut)
+    requires { length hand.old.outgoing.items < 8 }
+    ensures outgoing { hand.new.outgoing.items ≡ hand.old.outgoing.items ++ sent_of out.now }
+    ensures kept { hand.new.kept ≡ hand.old.kept }
+{
+    match out {
+        EnvOut::Sent(item) => hand.outgoing.push(copied_item(item)),
+        EnvOut::NoRoute(_, _) => {}
+    }
+}
+
+/// Writes the line of an item at the gate where its route ends, unless a write failed before, and says how the writing then
+/// stands.
+fn write<W: Write>(
+    sink: &mut LineSink,
+    end: OutputEnd,
+    names: &Names,
+    routes: &Routes,
+    item: &Item,
+    output: &mut W,
+) -> OutputEnd
+    requires { IsWritable names.now routes.now item.now }
+    ensures { (start : Option (List ℕ)) (text : List ℕ) → HasWritten start (W.contents output.old) text end
+        → HasWritten start (W.contents output.new) (text ++ received_text names.now routes.now (item.now ∷ [])) result }
+{
+    match end {
+        OutputEnd::WriteFault => return OutputEnd::WriteFault,
+        OutputEnd::Whole => {}
+    }
+    let line = line_of(names, end_gate(routes, item), &item.signal);
+    match sink.write(output, line.as_slice()) {
+        Written::Whole => OutputEnd::Whole,
+        Written::Fault(_) => OutputEnd::WriteFault,
+    }
+}
+
+/// The gate at which the item's route ends.
+fn end_gate(routes: &Routes, item: &Item) -> GateId
+    requires { IsRouted routes.now item.now }
+    ensures { result ≡ end_gate_of routes.now item.now }
+{
+    match routes.get(item.route) {
+        Some(route) => route.end_gate,
+        None => unreachable!(),
+    }
+}
+
+/// The goal that the TO part of a line names.
+fn goal_to(to: Option<Pid>) -> Goal
+    ensures { result ≡ goal_to to }
+{
+    match to {
+        None => Goal::Anywhere,
+        Some(Pid::Null) => Goal::Null,
+        Some(Pid::Env) => Goal::Environment,
+        Some(Pid::Inst(set, _)) => Goal::Set(set),
+    }
+}
+
+/// The output of a line: along the fitting route at this pick, or none fits.
+fn output_of(routes: &Routes, pick: u32, origin: Origin, line: EnvLine) -> EnvOut
+    ensures { IsOutputOf routes.now origin.worker origin.number line result }
+{
+    let wish = Wish {
+        source: Source::Gate(line.gate),
+        signal: line.signal.id,
+        goal: goal_to(line.to),
+        via: Via::Any,
+    };
+    match routes.choose(&wish, pick) {
+        Some(route) => EnvOut::Sent(Item {
+            origin,
+            stamp: 0,
+            signal: line.signal,
+            sender: Pid::Env,
+            to: line.to,
+            route,
+        }),
+        None => EnvOut::NoRoute(origin, line),
+    }
+}
+
+/// Wherever a run stops, what was read so far is the whole reading: each line gave one output. (This function does nothing: it
+/// carries the proof.)
+pub fn stops_reading()
+    ensures { (structure : Structure) (routes : List Row) (worker : ℕ) (start now : Option (List ℕ)) (w : EnvWorking) → IsEnvSound structure routes worker w
+        → HasReadSoFar structure routes worker start now w → HasReadAll structure routes worker start now w.put (input_end w) }
+{}
+
+/// Before anything was read, nothing was read or written, and a step can be made. After a step the next one can be made, and what
+/// waits in the outlet may leave there. (This function does nothing: it carries the proof.)
+pub fn goes_on()
+    ensures read { (structure : Structure) (routes : List Row) (worker : ℕ) (start : Option (List ℕ)) (w : EnvWorking) → IsEnvFresh worker w → HasReadSoFar structure routes worker start start w }
+    ensures written { (structure : Structure) (routes : List Row) (worker : ℕ) (start : Option (List ℕ)) (w : EnvWorking) → IsEnvFresh worker w → HasWrittenSoFar structure routes worker start start w }
+    ensures sound { (structure : Structure) (routes : List Row) (worker : ℕ) (w : EnvWorking) → IsEnvFresh worker w → IsEnvSound structure routes worker w }
+    ensures again { (structure : Structure) (routes : List Row) (worker : ℕ) (old : EnvWorking) (before : List (Station × List Item)) (answer : Stepped) (new : EnvWorking) (after : List (Station × List Item))
+        → EnvStepsAs structure routes worker old before answer new after → IsEnvSound structure routes worker old → IsEnvSound structure routes worker new }
+    ensures outlet { (structure : Structure) (routes : List Row) (worker : ℕ) (old : EnvWorking) (before : List (Station × List Item)) (answer : Stepped) (new : EnvWorking) (after : List (Station × List Item))
+        → EnvStepsAs structure routes worker old before answer new after → AreRoutesOf structure routes → IsEnvSound structure routes worker old
+        → All (λ i. IsLegalItem structure routes worker i × GoesOut routes i) (waiting before Outlet) → All (λ i. IsLegalItem structure routes worker i × GoesOut routes i) (waiting after Outlet) }
+{}

@@ -1,0 +1,6 @@
+//! The environment at work: it reads lines and outputs their signals, and writes what it receives as lines.
+#![tactic(auto)]
+
+pub mod environment;
+
+pub use environment::{EnvParts, EnvWorker};

@@ -1,0 +1,6 @@
+//! The ledger of a run: where every signal went.
+#![tactic(auto)]
+
+mod ledger;
+
+pub use ledger::Ledger;

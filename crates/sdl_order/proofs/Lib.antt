@@ -1,0 +1,16 @@
+pub mod Keeps
+pub mod Stamps
+pub mod Whole
+pub mod Starts
+pub mod BlockStep
+pub mod ForwarderStep
+pub mod FirstAt
+pub mod Forwarding
+pub mod Between
+pub mod Ending
+pub mod Quiet
+pub mod Measure
+pub mod Lowers
+pub mod StepEnvironment
+pub mod LowersEnvironment
+pub mod Rows

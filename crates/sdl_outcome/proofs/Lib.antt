@@ -1,0 +1,8 @@
+pub mod Comparisons
+pub mod Lists
+pub mod Way
+pub mod Along
+pub mod Ways
+pub mod Sums
+pub mod Lines
+pub mod Workers

@@ -1,0 +1,55 @@
+-- Each delaying path stands once among those of a structure.
+use Rattle.std.proofs.Common.{ℕ, ◌+◌, ◌≤◌, Bool, true, false, cond, List, [], ◌∷◌, ◌++◌, ◌≡◌, ◌≢◌, refl, ap, sym, ◌∙◌, arith}
+use Rattle.std.specs.List.{AllByRecursion}
+use Rattle.std.proofs.lemmas.Bool.{cond_both, false≢true}
+use Rattle.sdl_signal.specs.declared.ids.SignalId.{SignalId}
+use Rattle.sdl_parts.specs.declared.parts.Channel.{Channel}
+use Rattle.sdl_routes.specs.declared.parts.Hop.{Hop}
+use Rattle.sdl_routes.specs.Routes.{EachOnce}
+use Rattle.sdl_outcome.specs.Plan.{path_line, lines_from}
+use Rattle.sdl_outcome.proofs.Lists.{all_append, all_weaker}
+
+-- the paths of one channel
+abbrev lines_at : ℕ → Channel → List Hop
+lines_at n c = cond c.nodelay [] (path_line n false c.forth.items ++ path_line n true c.back.items)
+
+path_at : (n : ℕ) (back : Bool) (xs : List SignalId) → AllByRecursion (λ (h : Hop). (h.channel.0 ≡ n) × (h.back ≡ back)) (path_line n back xs)
+path_at n back [] = tt
+path_at n back (x ∷ xs) = ((refl, refl), tt)
+
+lines_at_are : (n : ℕ) (c : Channel) → AllByRecursion (λ (h : Hop). h.channel.0 ≡ n) (lines_at n c)
+lines_at_are n c =
+    cond_both c.nodelay [] (path_line n false c.forth.items ++ path_line n true c.back.items) (AllByRecursion (λ (h : Hop). h.channel.0 ≡ n)) (λ e. tt)
+    (λ e. all_append (λ (h : Hop). h.channel.0 ≡ n) (path_line n false c.forth.items) (path_line n true c.back.items)
+    (all_weaker (λ (h : Hop). (h.channel.0 ≡ n) × (h.back ≡ false)) (λ (h : Hop). h.channel.0 ≡ n) (λ h p. p.0) (path_line n false c.forth.items) (path_at n false c.forth.items))
+    (all_weaker (λ (h : Hop). (h.channel.0 ≡ n) × (h.back ≡ true)) (λ (h : Hop). h.channel.0 ≡ n) (λ h p. p.0) (path_line n true c.back.items) (path_at n true c.back.items)))
+
+lines_above : (n : ℕ) (cs : List Channel) → AllByRecursion (λ (h : Hop). n ≤ h.channel.0) (lines_from n cs)
+lines_above n [] = tt
+lines_above n (c ∷ cs) =
+    all_append (λ (h : Hop). n ≤ h.channel.0) (lines_at n c) (lines_from (n + 1) cs)
+    (all_weaker (λ (h : Hop). h.channel.0 ≡ n) (λ (h : Hop). n ≤ h.channel.0) (λ h e. omega arith) (lines_at n c) (lines_at_are n c))
+    (all_weaker (λ (h : Hop). n + 1 ≤ h.channel.0) (λ (h : Hop). n ≤ h.channel.0) (λ h e. omega arith) (lines_from (n + 1) cs) (lines_above (n + 1) cs))
+
+-- two lists, each of elements that stand once, and none of the first in the second
+once_both : (P Q : Hop → Type 0) → ((h k : Hop) → P h → Q k → h ≡ k → ⊥) → (xs ys : List Hop) → AllByRecursion P xs → AllByRecursion Q ys → EachOnce xs → EachOnce ys → EachOnce (xs ++ ys)
+once_both P Q apart [] ys p q o u = u
+once_both P Q apart (x ∷ xs) ys p q o u =
+    (all_append (λ y. x ≢ y) xs ys o.0 (all_weaker Q (λ y. x ≢ y) (λ y qy e. apart x y p.0 qy e) ys q), once_both P Q apart xs ys p.1 q o.1 u)
+
+path_once : (n : ℕ) (back : Bool) (xs : List SignalId) → EachOnce (path_line n back xs)
+path_once n back [] = tt
+path_once n back (x ∷ xs) = (tt, tt)
+
+lines_at_once : (n : ℕ) (c : Channel) → EachOnce (lines_at n c)
+lines_at_once n c =
+    cond_both c.nodelay [] (path_line n false c.forth.items ++ path_line n true c.back.items) EachOnce (λ e. tt)
+    (λ e. once_both (λ (h : Hop). (h.channel.0 ≡ n) × (h.back ≡ false)) (λ (h : Hop). (h.channel.0 ≡ n) × (h.back ≡ true))
+    (λ h k p q same. false≢true (sym p.1 ∙ (ap (λ (x : Hop). x.back) same ∙ q.1)))
+    (path_line n false c.forth.items) (path_line n true c.back.items) (path_at n false c.forth.items) (path_at n true c.back.items) (path_once n false c.forth.items) (path_once n true c.back.items))
+
+pub lines_once : (n : ℕ) (cs : List Channel) → EachOnce (lines_from n cs)
+lines_once n [] = tt
+lines_once n (c ∷ cs) =
+    once_both (λ (h : Hop). h.channel.0 ≡ n) (λ (h : Hop). n + 1 ≤ h.channel.0) (λ h k p q same. let e = ap (λ (x : Hop). x.channel.0) same in omega arith)
+    (lines_at n c) (lines_from (n + 1) cs) (lines_at_are n c) (lines_above (n + 1) cs) (lines_at_once n c) (lines_once (n + 1) cs)

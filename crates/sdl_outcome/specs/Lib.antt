@@ -1,0 +1,10 @@
+pub mod Stations
+pub mod Books
+pub mod Steps
+pub mod Causes
+pub mod Plan
+pub mod EnvironmentWork
+pub mod Outcome
+pub mod Lists
+pub mod Ends
+pub mod Ring
