@@ -3,7 +3,7 @@
 use crate::systems::checked;
 use crate::walks;
 use sdl_examples::{ECHO, RELAY, RING, SPAWN};
-use sdl_routes::{EndPoint, Hop, RouteFault, Routes, Station};
+use sdl_routes::{EndPoint, Hop, Route, RouteFault, Routes, Station};
 use sdl_signal::{BlockId, ChannelId, GateId, RouteId, SetId};
 use std::alloc::{AllocError, Global};
 use std::test::Fail;
@@ -15,21 +15,30 @@ fn hop(channel: u32, back: bool) -> Hop {
     }
 }
 
-/// The routes in a line each: the signal's number, the gate's at the start, the channels with `+` forth and `-` back, and the
-/// gate's at the end.
+/// The hop's channel with `+` forth and `-` back.
+fn append_hop(alloc: Global, text: &mut String, hop: &Hop) -> Result<(), AllocError> {
+    let direction = if hop.back { '-' } else { '+' };
+    let part = format!(in alloc; " {}{direction}", hop.channel.0)?;
+    text.push_str(part.as_str())
+}
+
+/// The signal's number, the gate's at the start, the hops, and the gate's at the end.
+fn append_route(alloc: Global, text: &mut String, route: &Route) -> Result<(), AllocError> {
+    let start = format!(in alloc; "{} from {} by", route.signal.0, route.start.0)?;
+    text.push_str(start.as_str())?;
+    for hop in route.hops.as_slice() {
+        append_hop(alloc, text, hop)?;
+    }
+    let end = format!(in alloc; " to {}\n", route.end_gate.0)?;
+    text.push_str(end.as_str())
+}
+
+/// The routes in a line each.
 fn described(alloc: Global, routes: &Routes) -> Result<String, AllocError> {
     let mut text = String::new(alloc);
     for number in 0..routes.len() {
         if let Some(route) = routes.get(RouteId(number as u32)) {
-            text.push_str(format!(in alloc;
-                "{} from {} by",
-                route.signal.0, route.start.0
-            )?.as_str())?;
-            for hop in route.hops.as_slice() {
-                let direction = if hop.back { '-' } else { '+' };
-                text.push_str(format!(in alloc; " {}{direction}", hop.channel.0)?.as_str())?;
-            }
-            text.push_str(format!(in alloc; " to {}\n", route.end_gate.0)?.as_str())?;
+            append_route(alloc, &mut text, route)?;
         }
     }
     Ok(text)

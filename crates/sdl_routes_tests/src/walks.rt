@@ -59,18 +59,19 @@ fn is_route(structure: &Structure, signal: SignalId, hops: &[Hop]) -> bool {
     }
 }
 
+fn add_both(hops: &mut Vec<Hop>, channel: ChannelId) -> Result<(), AllocError> {
+    for back in [false, true] {
+        hops.push(Hop { channel, back })?;
+    }
+    Ok(())
+}
+
+/// All hops, forth and back.
 fn hops(alloc: Global, structure: &Structure) -> Result<Vec<Hop>, AllocError> {
     let mut all = Vec::new(alloc);
     for channel in 0..64u32 {
         if (channel as usize) < structure.channels().len() {
-            all.push(Hop {
-                channel: ChannelId(channel),
-                back: false,
-            })?;
-            all.push(Hop {
-                channel: ChannelId(channel),
-                back: true,
-            })?;
+            add_both(&mut all, ChannelId(channel))?;
         }
     }
     Ok(all)

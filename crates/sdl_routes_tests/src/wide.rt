@@ -15,34 +15,61 @@ fn all_signals(alloc: Global) -> Result<String, AllocError> {
     Ok(list)
 }
 
+/// The tables of all signals.
+fn append_signals(alloc: Global, text: &mut String) -> Result<(), AllocError> {
+    for signal in 0..64u32 {
+        let part = format!(in alloc; "[[signal]]\nname = 's{signal}'\n")?;
+        text.push_str(part.as_str())?;
+    }
+    Ok(())
+}
+
+/// A channel with all signals, as a table of the list.
+fn append_channel(
+    alloc: Global,
+    text: &mut String,
+    list: &str,
+    name: &str,
+    ends: &str,
+) -> Result<(), AllocError> {
+    let part = format!(in alloc; "[[{list}]]\nname = '{name}'\nends = [{ends}]\nforth = [")?;
+    text.push_str(part.as_str())?;
+    text.push_str(all_signals(alloc)?.as_str())?;
+    text.push_str("]\n")
+}
+
+/// The block and its set, each with a gate for all signals.
+fn append_block(alloc: Global, text: &mut String) -> Result<(), AllocError> {
+    let signals = all_signals(alloc)?;
+    text.push_str("[[block]]\nname = 'B'\ngate = [{ name = 'g', inward = [")?;
+    text.push_str(signals.as_str())?;
+    text.push_str("] }]\nset = [{ name = 'E', gate = [{ name = 'p', inward = [")?;
+    text.push_str(signals.as_str())?;
+    text.push_str("] }] }]\n")
+}
+
 /// A system with 64 signals, one block and one set, and this many channels from the system's gate to the block's, and 8 from
 /// there to the set's, each with all signals.
 fn wide_file(alloc: Global, outer: u32) -> Result<String, AllocError> {
-    let signals = all_signals(alloc)?;
-    let signals = signals.as_str();
     let mut text = String::new(alloc);
-    text.push_str("version = 1\nsystem = 'Wide'\n")?;
-    text.push_str(format!(in alloc;
-        "gate = [{{ name = 'a', inward = [{signals}] }}]\n"
-    )?.as_str())?;
-    for signal in 0..64u32 {
-        text.push_str(format!(in alloc; "[[signal]]\nname = 's{signal}'\n")?.as_str())?;
-    }
+    text.push_str("version = 1\nsystem = 'Wide'\ngate = [{ name = 'a', inward = [")?;
+    text.push_str(all_signals(alloc)?.as_str())?;
+    text.push_str("] }]\n")?;
+    append_signals(alloc, &mut text)?;
     for channel in 0..outer {
-        text.push_str(format!(in alloc;
-            "[[channel]]\nname = 'o{channel}'\nends = ['env.a', 'B.g']\nforth = [{signals}]\n"
-        )?.as_str())?;
+        let name = format!(in alloc; "o{channel}")?;
+        append_channel(alloc, &mut text, "channel", name.as_str(), "'env.a', 'B.g'")?;
     }
-    text.push_str(format!(in alloc;
-        "[[block]]\nname = 'B'\ngate = [{{ name = 'g', inward = [{signals}] }}]\n"
-    )?.as_str())?;
-    text.push_str(format!(in alloc;
-        "set = [{{ name = 'E', gate = [{{ name = 'p', inward = [{signals}] }}] }}]\n"
-    )?.as_str())?;
+    append_block(alloc, &mut text)?;
     for channel in 0..8u32 {
-        text.push_str(format!(in alloc;
-            "[[block.channel]]\nname = 'i{channel}'\nends = ['env.g', 'E.p']\nforth = [{signals}]\n"
-        )?.as_str())?;
+        let name = format!(in alloc; "i{channel}")?;
+        append_channel(
+            alloc,
+            &mut text,
+            "block.channel",
+            name.as_str(),
+            "'env.g', 'E.p'",
+        )?;
     }
     Ok(text)
 }
