@@ -24,9 +24,24 @@ pub fn first_core<S: Agents + Drop>(
     ensures parts { IfOk result (λ both. CanFire S.may (parts_of both.1)) }
 {
     let (checked, routes, blocks) = bound.into_blocks();
-    let parts = first_parts(&checked, &routes, blocks)?;
-    let core = core_with(alloc, &checked, parts, budget)?;
+    let core = first_of(alloc, &checked, &routes, blocks, budget)?;
     Ok((routes, core))
+}
+
+/// The core of the first of the blocks of one system.
+fn first_of<S: Agents + Drop>(
+    alloc: Global,
+    checked: &Checked,
+    routes: &Routes,
+    blocks: Vec<BlockParts<S>>,
+    budget: u32,
+) -> Result<BlockCore<S>, Stop>
+    requires { AreOneSystem S.may checked.now routes.now blocks.items }
+    ensures sound { IfOk result (λ core. (routes : _) → IsSound S.may (system_in core routes) (core_of core)) }
+    ensures parts { IfOk result (λ core. CanFire S.may (parts_of core)) }
+{
+    let parts = first_parts(checked, routes, blocks)?;
+    core_with(alloc, checked, parts, budget)
 }
 
 /// Takes the first of the blocks.

@@ -8,6 +8,6 @@ returns g c =
     record {
       start = c.requires.start;
       rows =
-        rw (filter_from_retain _ (λ row. nat_eq row.signal.0 c.args.signals.0.0 || nat_eq row.signal.0 c.args.signals.1.0) (λ p x b q k. search (rules, k)) _ _ _ c.retain.ensures.filtered)
-        (All-filter (λ row. nat_eq row.signal.0 c.args.signals.0.0 || nat_eq row.signal.0 c.args.signals.1.0) (λ row. IsAllowedRow g.S.Agents.may row) c.args.behaviour.now.rows.items c.requires.rows);
+          rw (filter_from_retain _ (λ row. nat_eq row.signal.0 c.args.signals.0.0 || nat_eq row.signal.0 c.args.signals.1.0) (λ p x b q k. search (rules, k)) _ _ _ c.retain.ensures.filtered)
+          (All-filter (λ row. nat_eq row.signal.0 c.args.signals.0.0 || nat_eq row.signal.0 c.args.signals.1.0) (λ row. IsAllowedRow g.S.Agents.may row) c.args.behaviour.now.rows.items c.requires.rows);
     }
