@@ -16,7 +16,7 @@ ForPing offer = IsIdleOffer 1 (Some (sorted 0 (sort.Integer ∷ []))) (offered 1
 pub ping_is_of_offer : (n : ℤ) (frame : Frame) (offer : Offer) → IsPingFrame n frame → ForPing offer → IsFrameOf offer frame
 ping_is_of_offer n frame offer f o = record {
   state = rw (f.state, o.state) refl;
-  trigger = rw (f.signal, o.signal, o.sets_are) (refl, refl, All-cons (IsLegalValue 1) (value.Integer n) [] tt (All-nil (IsLegalValue 1)));
+  trigger = rw (f.signal, o.signal_is, o.sets_are) (refl, refl, All-cons (IsLegalValue 1) (value.Integer n) [] tt (All-nil (IsLegalValue 1)));
   sorts = rw (f.vars, o.vars) refl;
   values = rw (f.vars, o.sets_are) (All-nil (IsLegalValue 1));
   self_pid = rw (f.self_pid, o.sets_are) (omega arith, omega arith);

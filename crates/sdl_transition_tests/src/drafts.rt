@@ -9,7 +9,7 @@ use arrayvec::ArrayVec;
 use sdl_agents::steps::idle;
 use sdl_parts::{Checked, check};
 use sdl_routes::Routes;
-use sdl_signal::{SetId, SignalId, Sort, StateId};
+use sdl_signal::{Name, SetId, SignalId, Sort, StateId};
 use sdl_structure::read_structure;
 use sdl_transition::{
     Behaviour, BindFault, BlockParts, Bound, Frame, Kind, Named, Offer, OfferedOutput, Row, Run,
@@ -202,13 +202,40 @@ fn bound_outcome(bound: Bound<Anything>) -> Outcome
     }
 }
 
-/// Makes the closures, stores them and binds the behaviours. `None` where memory was refused before that.
-pub fn bind_drafts(alloc: Global, file: &str, drafts: &[Draft]) -> Option<Outcome> {
+/// Binds the behaviours to the structure of the file. `None` where memory was refused before that.
+fn bind_to_file(
+    alloc: Global,
+    file: &str,
+    behaviours: Vec<Behaviour<Anything>>,
+) -> Option<Outcome> {
     let structure = read_structure(alloc, file).ok()?;
     let checked = check(structure).ok()?;
     let routes = Routes::build(alloc, &checked).ok()?;
+    Some(bind_or_retry(alloc, checked, routes, behaviours))
+}
+
+/// The numbers that a draft uses, with their names.
+fn uses_of(alloc: Global, draft: &Draft) -> Option<Vec<Named>> {
+    let mut uses = Vec::new(alloc);
+    for (kind, number, text) in draft.uses {
+        uses.push(named(*kind, *number, text)?).ok()?;
+    }
+    Some(uses)
+}
+
+/// The one state of a draft.
+fn states() -> Option<ArrayVec<Name, 16>> {
+    let mut states = ArrayVec::new();
+    states.push(sdl_signal::name("idle")?);
+    Some(states)
+}
+
+/// Makes the closures, stores them and binds the behaviours. `None` where memory was refused before that.
+pub fn bind_drafts(alloc: Global, file: &str, drafts: &[Draft]) -> Option<Outcome> {
     let mut behaviours = Vec::new(alloc);
     for draft in drafts {
+        let uses = uses_of(alloc, draft)?;
+        let states = states()?;
         let run: Run = Box::new(alloc, |_frame: &Frame| idle(ArrayVec::new())).ok()?;
         let start: Transition<Anything> = Transition::store(0, offer_of(draft.sets, None), run);
         let mut rows = Vec::new(alloc);
@@ -222,12 +249,6 @@ pub fn bind_drafts(alloc: Global, file: &str, drafts: &[Draft]) -> Option<Outcom
             })
             .ok()?;
         }
-        let mut uses = Vec::new(alloc);
-        for (kind, number, text) in draft.uses {
-            uses.push(named(*kind, *number, text)?).ok()?;
-        }
-        let mut states = ArrayVec::new();
-        states.push(sdl_signal::name("idle")?);
         behaviours
             .push(Behaviour {
                 set: SetId(draft.set),
@@ -239,5 +260,5 @@ pub fn bind_drafts(alloc: Global, file: &str, drafts: &[Draft]) -> Option<Outcom
             })
             .ok()?;
     }
-    Some(bind_or_retry(alloc, checked, routes, behaviours))
+    bind_to_file(alloc, file, behaviours)
 }
