@@ -15,7 +15,7 @@ use Rattle.sdl_block.specs.declared.worker.BlockWorker.{BlockWorker}
 use Rattle.sdl_hand.specs.Work.{Working, with_core}
 use Rattle.sdl_block.specs.Workers.{worker_of, behaviours_of}
 use Rattle.sdl_run.specs.Serial.{IsNew, first_core}
-use Rattle.sdl_run.proofs.Rooms.{map_push}
+use Rattle.sdl_driver.proofs.Rooms.{map_push}
 use Rattle.sdl_outcome.proofs.Lists.{all_append}
 
 pub one_over : {X : Type 0} (done later all : List X) (x : X) (rest fewer : List X) → rest ≡ x ∷ fewer → later ≡ done ++ x ∷ [] → done ++ rest ≡ all → later ++ fewer ≡ all

@@ -22,26 +22,26 @@ use Rattle.sdl_forward.specs.Boards.{waiting, IsBoardOf}
 use Rattle.sdl_block.specs.declared.worker.BlockWorker.{BlockWorker}
 use Rattle.sdl_hand.specs.Work.{Working}
 use Rattle.sdl_block.specs.Workers.{worker_of, behaviours_of, system_around}
-use Rattle.sdl_run.specs.declared.driver.Driver.{Driver}
+use Rattle.sdl_driver.specs.declared.driver.Driver.{Driver}
 use Rattle.sdl_outcome.specs.declared.end.RunEnd.{RunEnd}
-use Rattle.sdl_run.specs.declared.closing.Room.{Room}
-use Rattle.sdl_run.specs.Closings.{HasRoom, HasReadIn, HasWrittenIn, plan_of_bound}
-use Rattle.sdl_run.specs.declared.closing.Closing.{Closing}
+use Rattle.sdl_driver.specs.declared.closing.Room.{Room}
+use Rattle.sdl_driver.specs.Closings.{HasRoom, HasReadIn, HasWrittenIn, plan_of_bound}
+use Rattle.sdl_driver.specs.declared.closing.Closing.{Closing}
 use Rattle.sdl_outcome.specs.EnvironmentWork.{EnvWorking, HasReadSoFar, HasWrittenSoFar, IsEnvFresh}
 use Rattle.sdl_outcome.specs.Outcome.{Outcome}
 use Rattle.sdl_ledger.specs.declared.ledger.Ledger.{Ledger}
-use Rattle.sdl_run.specs.Ended.{HasEnded}
+use Rattle.sdl_driver.specs.Ended.{HasEnded}
 use Rattle.sdl_outcome.specs.Plan.{Plan, blocks_in, lines_from, system_at}
 use Rattle.sdl_order.specs.Driver.{IsCoreAt, IsFresh}
-use Rattle.sdl_run.specs.Drivers.{site_of, plan_of, IsDriving, IsSameSystem, ReadsOver, WritesOver}
+use Rattle.sdl_driver.specs.Drivers.{site_of, plan_of, IsDriving, IsSameSystem, ReadsOver, WritesOver}
 use Rattle.sdl_run.specs.Starting.{idle_at}
 use Rattle.sdl_run.specs.Serial.{IsNew, plan_of_parts}
 use Rattle.sdl_outcome.proofs.Lists.{all_at}
 use Rattle.sdl_order.proofs.Between.{starts_in_order}
-use Rattle.sdl_run.proofs.Drives.{map_map, same_plan}
-use Rattle.sdl_run.proofs.Driving.{system_is}
-use Rattle.sdl_run.proofs.Readings.{reads_none, writes_none}
-use Rattle.sdl_run.proofs.Rooms.{room_as}
+use Rattle.sdl_driver.proofs.Drives.{map_map, same_plan}
+use Rattle.sdl_driver.proofs.Driving.{system_is}
+use Rattle.sdl_driver.proofs.Readings.{reads_none, writes_none}
+use Rattle.sdl_driver.proofs.Rooms.{room_as}
 use Rattle.sdl_order.proofs.Starts.{block}
 
 got : {X Y : Type 0} (f : X → Y) (xs : List X) (n : ℕ) (y : Y) → slice_get (map f xs) n ≡ Some y → (x : X) × (slice_get xs n ≡ Some x) × (f x ≡ y)

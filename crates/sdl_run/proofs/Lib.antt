@@ -1,14 +1,3 @@
-pub mod Driving
-pub mod Drives
-pub mod Rounds
-pub mod Scans
-pub mod Stops
 pub mod Beginning
-pub mod Rooms
-pub mod Readings
-pub mod Closes
 pub mod Begins
 pub mod Fresh
-pub mod Meeting
-pub mod Finish
-pub mod Waits

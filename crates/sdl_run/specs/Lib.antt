@@ -12,8 +12,8 @@ pub use Rattle.sdl_order.specs.Driver
 pub use Rattle.sdl_order.specs.Measure
 pub use Rattle.sdl_ledger.specs.Counts
 pub use Rattle.sdl_environment.specs.EnvPhases
-pub mod Ended
-pub mod Drivers
-pub mod Closings
+pub use Rattle.sdl_driver.specs.Ended
+pub use Rattle.sdl_driver.specs.Drivers
+pub use Rattle.sdl_driver.specs.Closings
 pub mod Starting
 pub mod Serial

@@ -11,7 +11,7 @@ pub mod ledger;
 pub mod serial;
 mod start;
 
-pub use closing::{Closing, StartFault};
+pub use sdl_driver::{Closing, StartFault};
 pub use sdl_ledger::Ledger;
 pub use sdl_outcome::{EnvOut, RunEnd, Worker};
 pub use serial::run_serial;

@@ -5,17 +5,17 @@ ghost use Rattle.sdl_transition.specs.Bound.{AreOneSystem, IsBound, structure_of
 ghost use Rattle.sdl_transition.specs.Rules.{block_rules};
 ghost use Rattle.sdl_instances.specs.Core.{IsBoundIn, signals_of, sets_of};
 ghost use Rattle.sdl_block.specs.Workers.{behaviours_of};
-ghost use Rattle.sdl_run.specs.Closings.{HasRoom, HasReadIn, HasWrittenIn, StopsByMemory, IsSameBound, IsSystemOf, outcome_in, plan_of_bound};
-ghost use Rattle.sdl_run.specs.Drivers.{plan_of, IsDriving};
-ghost use Rattle.sdl_run.specs.Ended.{HasEnded};
+ghost use Rattle.sdl_driver.specs.Closings.{HasRoom, HasReadIn, HasWrittenIn, StopsByMemory, IsSameBound, IsSystemOf, outcome_in, plan_of_bound};
+ghost use Rattle.sdl_driver.specs.Drivers.{plan_of, IsDriving};
+ghost use Rattle.sdl_driver.specs.Ended.{HasEnded};
 ghost use Rattle.sdl_outcome.specs.Plan.{blocks_in};
 ghost use Rattle.sdl_outcome.specs.EnvironmentWork.{IsEnvFresh};
 ghost use Rattle.sdl_run.specs.Serial.{IsNew, IsSpace, IsBoundOf, IsBackIn, plan_of_parts};
 
-use crate::closing::{Closing, Room, StartFault, take_first};
-use crate::driver::Driver;
 use crate::start::forwarders_of;
 use sdl_block::BlockWorker;
+use sdl_driver::Driver;
+use sdl_driver::closing::{Closing, Room, StartFault, take_first};
 use sdl_environment::EnvWorker;
 use sdl_forward::{Board, Forwarder};
 use sdl_instances::BlockCore;
@@ -35,6 +35,17 @@ pub struct Space<S> {
     pub workers: Vec<BlockWorker<S>>,
 }
 
+/// Empty lists, with room for what so many blocks and so many workers leave.
+fn make_room<S: Agents>(alloc: Global, blocks: usize, workers: usize) -> Result<Room<S>, AllocError>
+    ensures empty { IfOk result (λ r. (r.parts.items ≡ []) × (r.logs.items ≡ []) × (r.hands.items ≡ [])) }
+    ensures room { IfOk result (λ r. HasRoom blocks workers r) }
+{
+    let parts = Vec::with_capacity(alloc, blocks)?;
+    let logs = Vec::with_capacity(alloc, blocks)?;
+    let hands = Vec::with_capacity(alloc, workers)?;
+    Ok(Room { parts, logs, hands })
+}
+
 /// Takes what a run of so many blocks needs, before any block starts.
 fn make_space<S: Agents>(
     alloc: Global,
@@ -48,7 +59,7 @@ fn make_space<S: Agents>(
     let structure = checked.structure();
     let board = Board::new(alloc, routes)?;
     let forwarders = forwarders_of(alloc, structure.channels())?;
-    let room = Room::new(alloc, blocks, blocks + 1 + forwarders.len())?;
+    let room = make_room(alloc, blocks, blocks + 1 + forwarders.len())?;
     let workers = Vec::with_capacity(alloc, blocks)?;
     Ok(Space {
         board,

@@ -1,4 +1,4 @@
-use Rattle.sdl_run.specs.Closings.{outcome_in}
+use Rattle.sdl_driver.specs.Closings.{outcome_in}
 use Rattle.sdl_run.proofs.Fresh.{system_same, room_same, ended_same, reading_same, writing_same}
 use Rattle.sdl_run.proofs.serial.drive.Goals as goal
 

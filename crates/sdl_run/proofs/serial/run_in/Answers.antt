@@ -2,9 +2,9 @@ use Rattle.std.proofs.Common.{◌≡◌, ◌+◌, map, length, sym, ◌∙◌, a
 use Rattle.sdl_transition.specs.Rules.{block_rules}
 use Rattle.sdl_instances.specs.Core.{IsBoundIn, signals_of, sets_of}
 use Rattle.sdl_block.specs.Workers.{behaviours_of}
-use Rattle.sdl_run.specs.Closings.{outcome_in}
+use Rattle.sdl_driver.specs.Closings.{outcome_in}
 use Rattle.sdl_run.proofs.Begins.{room_for}
-use Rattle.sdl_run.proofs.Closes.{system_kept}
+use Rattle.sdl_driver.proofs.Closes.{system_kept}
 use Rattle.sdl_run.proofs.Fresh.{all_same, parts_count, env_fresh, driving, ended_of}
 use Rattle.sdl_run.proofs.serial.run_in.Goals as goal
 

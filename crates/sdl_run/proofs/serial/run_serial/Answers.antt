@@ -1,4 +1,4 @@
-use Rattle.sdl_run.specs.Closings.{outcome_in}
+use Rattle.sdl_driver.specs.Closings.{outcome_in}
 use Rattle.sdl_run.proofs.Fresh.{ended_bound, reading_bound, writing_bound}
 use Rattle.sdl_run.proofs.serial.run_serial.Goals as goal
 

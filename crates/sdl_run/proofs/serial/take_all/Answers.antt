@@ -1,5 +1,5 @@
 use Rattle.std.proofs.Common.{◌+◌, length, arith}
-use Rattle.sdl_run.proofs.Rooms.{fewer_by_one}
+use Rattle.sdl_driver.proofs.Rooms.{fewer_by_one}
 use Rattle.sdl_run.proofs.Begins.{one_over, room_for, none_left}
 use Rattle.sdl_run.proofs.serial.take_all.Goals as goal
 

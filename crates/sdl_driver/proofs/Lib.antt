@@ -1,0 +1,11 @@
+pub mod Driving
+pub mod Drives
+pub mod Rounds
+pub mod Scans
+pub mod Stops
+pub mod Rooms
+pub mod Readings
+pub mod Closes
+pub mod Meeting
+pub mod Finish
+pub mod Waits

@@ -1,0 +1,27 @@
+use Rattle.std.proofs.Common.{◌≡◌, ◌+◌, map, length, arith}
+use Rattle.sdl_block.specs.Workers.{worker_of, behaviours_of}
+use Rattle.sdl_outcome.specs.Lists.{items_in, held_in}
+use Rattle.sdl_order.specs.Driver.{block_hand}
+use Rattle.sdl_driver.proofs.Rooms.{come_over, fewer_by_one, room_as}
+use Rattle.sdl_driver.proofs.closing.take_blocks.Goals as goal
+
+pub loop-rest-preserved : goal.loop-rest-preserved
+loop-rest-preserved g c =
+    let inv = c.loop-rest.invariant in
+    let w = c.take_first-worker.result in
+    let rest = c.loop-rest.rest.items in
+    let fewer = c.take_first-worker.new.list.items in
+    let cut = c.take_first-worker.ensures in
+    let one = fewer_by_one w rest fewer cut in
+    record {
+      room = c.take_block.ensures.room (length fewer) (length fewer) (room_as c.loop-rest.room (length rest) (length rest) (length fewer + 1) (length fewer + 1) one one inv.room);
+      parts = come_over behaviours_of c.loop-rest.room.parts.items c.take_block.new.self.parts.items _ w rest fewer cut c.take_block.ensures.parts inv.parts;
+      logs = come_over (λ v. (worker_of v).core.log) (map items_in c.loop-rest.room.logs.items) (map items_in c.take_block.new.self.logs.items) _ w rest fewer cut c.take_block.ensures.logs inv.logs;
+      hands = come_over (λ v. block_hand (worker_of v)) (map held_in c.loop-rest.room.hands.items) (map held_in c.take_block.new.self.hands.items) _ w rest fewer cut c.take_block.ensures.hands inv.hands;
+      more = λ m h. c.take_block.ensures.room (length fewer) (length fewer + m) (room_as c.loop-rest.room (length rest) (length rest + m) (length fewer + 1) (length fewer + m + 1) one (omega arith) (inv.more m h));
+    }
+
+pub returns-clause-room : goal.returns-clause-room
+returns-clause-room g c = λ m h.
+    let none : length c.loop-rest.rest.items ≡ 0 = omega (arith, c.loop-rest-test.false, c.len.ensures) in
+    room_as c.loop-rest.room (length c.loop-rest.rest.items) (length c.loop-rest.rest.items + m) 0 m none (omega arith) (c.loop-rest.invariant.more m h)

@@ -1,0 +1,27 @@
+use Rattle.std.proofs.Common.{◌≡◌, sym, ◌∙◌}
+use Rattle.sdl_instances.specs.Run.{turns}
+use Rattle.sdl_hand.specs.Work.{Working}
+use Rattle.sdl_block.specs.Workers.{worker_of}
+use Rattle.sdl_driver.specs.Drivers.{site_of}
+use Rattle.sdl_driver.proofs.Scans.{one_further, all_seen, mapped_in, past_in}
+use Rattle.sdl_driver.proofs.driver.Driver.first_spent.Goals as goal
+
+pub returns-then-made-self : goal.returns-then-made-self
+returns-then-made-self g c = (
+  (
+    worker_of c.block-item.result,
+    mapped_in worker_of c.args.self.now.blocks.items c.deref-block-items.result.now c.deref-block-items.ensures.value c.loop-number.number c.block-item.result c.loop-number-test.true c.block-item.is,
+    sym c.made.ensures ∙ c.if-made-self.true,
+  ),
+  λ a v less at used. c.loop-number.invariant a v less at used,
+)
+
+pub loop-number-preserved : goal.loop-number-preserved
+loop-number-preserved g c =
+    one_further (λ (w : Working). turns w.core.log ≡ c.args.self.now.budget → ⊥) (site_of c.args.self.now).blocks c.loop-number.number (worker_of c.block-item.result)
+    (mapped_in worker_of c.args.self.now.blocks.items c.deref-block-items.result.now c.deref-block-items.ensures.value c.loop-number.number c.block-item.result c.loop-number-test.true c.block-item.is)
+    (λ used. c.if-made-self.false (c.made.ensures ∙ used)) c.loop-number.invariant
+
+pub returns : goal.returns
+returns g c = all_seen (λ (w : Working). turns w.core.log ≡ c.args.self.now.budget → ⊥) (site_of c.args.self.now).blocks c.loop-number.number
+    (past_in worker_of c.args.self.now.blocks.items c.deref-block-items.result.now c.deref-block-items.ensures.value c.loop-number.number c.loop-number-test.false) c.loop-number.invariant

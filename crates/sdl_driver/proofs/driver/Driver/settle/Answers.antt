@@ -1,0 +1,38 @@
+use Rattle.std.proofs.Common.{subst}
+use Rattle.sdl_driver.specs.declared.driver.Round.{Round}
+use Rattle.sdl_driver.specs.Drivers.{site_of, plan_of, RoundAnswers}
+use Rattle.sdl_driver.proofs.Drives.{reads_on, writes_on}
+use Rattle.sdl_driver.proofs.Rounds.{less_by, same_still}
+use Rattle.sdl_driver.proofs.driver.Driver.settle.Goals as goal
+
+pub loop-worker-smaller : goal.loop-worker-smaller
+loop-worker-smaller g c =
+    let now = c.loop-worker.self in
+    let next = c.round.new.self in
+    less_by c.args.self.now now next c.loop-worker.invariant.same
+    (subst (λ (a : Round). RoundAnswers (plan_of now) a (site_of now) (site_of next)) c.in-Did.is c.round.ensures.answer)
+
+pub loop-worker-preserved : goal.loop-worker-preserved
+loop-worker-preserved g c =
+    let start = c.args.self.now in
+    let now = c.loop-worker.self in
+    let next = c.round.new.self in
+    let inv = c.loop-worker.invariant in
+    record {
+      driving = c.round.ensures.driving;
+      same = same_still start now next inv.same c.round.ensures.same;
+      reading = reads_on start now next inv.same _ _ _ inv.reading c.round.ensures.reading;
+      writing = writes_on start now next inv.same _ _ _ inv.writing c.round.ensures.writing;
+    }
+
+pub returns-in-Idle-clause-reading : goal.returns-in-Idle-clause-reading
+returns-in-Idle-clause-reading g c = reads_on c.args.self.now c.loop-worker.self c.round.new.self c.loop-worker.invariant.same _ _ _ c.loop-worker.invariant.reading c.round.ensures.reading
+
+pub returns-in-Idle-clause-writing : goal.returns-in-Idle-clause-writing
+returns-in-Idle-clause-writing g c = writes_on c.args.self.now c.loop-worker.self c.round.new.self c.loop-worker.invariant.same _ _ _ c.loop-worker.invariant.writing c.round.ensures.writing
+
+pub returns-in-Refused-clause-reading : goal.returns-in-Refused-clause-reading
+returns-in-Refused-clause-reading g c = reads_on c.args.self.now c.loop-worker.self c.round.new.self c.loop-worker.invariant.same _ _ _ c.loop-worker.invariant.reading c.round.ensures.reading
+
+pub returns-in-Refused-clause-writing : goal.returns-in-Refused-clause-writing
+returns-in-Refused-clause-writing g c = writes_on c.args.self.now c.loop-worker.self c.round.new.self c.loop-worker.invariant.same _ _ _ c.loop-worker.invariant.writing c.round.ensures.writing

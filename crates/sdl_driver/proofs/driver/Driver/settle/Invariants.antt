@@ -1,0 +1,14 @@
+use Rattle.sdl_driver.specs.Drivers.{site_of, plan_of, IsDriving, IsSameSystem, ReadsOver, WritesOver}
+use Rattle.sdl_order.specs.Measure.{work_left}
+use Rattle.sdl_driver.proofs.driver.Driver.settle.Given as goal
+
+abbrev pub invariant-loop-worker : goal.invariant-loop-worker
+invariant-loop-worker g l = record {
+  driving : IsDriving g.S.Agents.may l.self;
+  same : IsSameSystem l.fn.self l.self;
+  reading : ReadsOver (plan_of l.fn.self) l.fn.self.environment (g.R.Read.remaining l.fn.input) l.self.environment (g.R.Read.remaining l.input);
+  writing : WritesOver (plan_of l.fn.self) l.fn.self.environment (g.W.Write.contents l.fn.output) l.self.environment (g.W.Write.contents l.output);
+}
+
+abbrev pub decreases-loop-worker : goal.decreases-loop-worker
+decreases-loop-worker g l = work_left (plan_of l.fn.self) (site_of l.self)

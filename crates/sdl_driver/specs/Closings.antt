@@ -1,0 +1,78 @@
+-- What a contract sees of a closing, and of the lists that become one.
+use Rattle.std.specs.Prelude.{◌≡◌, ℕ, ◌+◌, ◌≤◌, List, map, Option, None, Some, Bool, vec_len, vec_capacity, if◌then◌else◌}
+use Rattle.sdl_transition.specs.declared.binding.Bound.{Bound}
+use Rattle.sdl_transition.specs.Bound.{structure_of, routes_of, blocks_of}
+use Rattle.sdl_transition.specs.Rules.{block_rules}
+use Rattle.sdl_forward.specs.Boards.{lists_of}
+use Rattle.sdl_outcome.specs.declared.end.RunEnd.{RunEnd}
+use Rattle.sdl_outcome.specs.declared.end.RunEnd.TheVariants as run_end
+use Rattle.sdl_driver.specs.declared.closing.Closing.{Closing}
+use Rattle.sdl_driver.specs.declared.closing.Left.{Left}
+use Rattle.sdl_driver.specs.declared.closing.Room.{Room}
+use Rattle.sdl_driver.specs.declared.driver.Driver.{Driver}
+use Rattle.sdl_block.specs.Workers.{behaviours_of}
+use Rattle.sdl_signal.specs.declared.ends.InputEnd.{InputEnd}
+use Rattle.sdl_signal.specs.declared.ends.InputEnd.TheVariants as input
+use Rattle.sdl_parts.specs.Structure.{lexicon_of}
+use Rattle.sdl_outcome.specs.EnvironmentWork.{HasReadAll, HasWritten, received_text}
+use Rattle.sdl_outcome.specs.Plan.{Plan, blocks_in}
+use Rattle.sdl_outcome.specs.Outcome.{Outcome}
+use Rattle.sdl_outcome.specs.Lists.{items_in, held_in}
+
+-- the plan of a bound system with this budget
+abbrev pub plan_of_bound : {S I : Type 0} {F : I → Type 0} {g : _} → Bound S I F g → ℕ → Plan
+plan_of_bound b budget = record { structure = structure_of b; routes = routes_of b; rules = map block_rules (blocks_of b); budget = budget }
+
+-- what a closing shows of its run
+abbrev pub outcome_in : {S I : Type 0} {F : I → Type 0} {g : _} → Closing S I F g → Outcome
+outcome_in c =
+    record {
+      logs = map items_in c.logs.items;
+      env_put = c.env_put.items;
+      env_received = c.env_received.items;
+      hands = map held_in c.hands.items;
+      rests = lists_of c.rests.items;
+    }
+
+-- and what the workers leave that become one
+abbrev pub outcome_left : {S I : Type 0} {F : I → Type 0} {g : _} → Left S I F g → Outcome
+outcome_left l =
+    record {
+      logs = map items_in l.logs.items;
+      env_put = l.env_put.items;
+      env_received = l.env_received.items;
+      hands = map held_in l.hands.items;
+      rests = lists_of l.rests.items;
+    }
+
+-- in a closing, all that the environment read, and all that it wrote
+abbrev pub HasReadIn : {S I : Type 0} {F : I → Type 0} {g : _} → Plan → Option (List ℕ) → Option (List ℕ) → Closing S I F g → Type 0
+HasReadIn plan start now c = HasReadAll plan.structure plan.routes (blocks_in plan) start now c.env_put.items c.input
+
+abbrev pub HasWrittenIn : {S I : Type 0} {F : I → Type 0} {g : _} → Plan → Option (List ℕ) → Option (List ℕ) → Closing S I F g → Type 0
+HasWrittenIn plan start now c = HasWritten start now (received_text (lexicon_of plan.structure) plan.routes c.env_received.items) c.output
+
+-- the reading stopped before its end only where memory was refused to a worker
+abbrev pub StopsByMemory : InputEnd → RunEnd → Type 0
+StopsByMemory reading end = (n : ℕ) → reading ≡ input.Stopped n → (w : ℕ) × (end ≡ run_end.Memory w)
+
+-- it is the system that was handed in
+abbrev pub IsSameBound : {S I : Type 0} {F : I → Type 0} {g : _} → Bound S I F g → Bound S I F g → Type 0
+IsSameBound old new = (structure_of new ≡ structure_of old) × (routes_of new ≡ routes_of old) × (blocks_of new ≡ blocks_of old)
+
+-- there is room for so many blocks and hands more
+pub record HasRoom {S I : Type 0} {F : I → Type 0} {g : _} (more_blocks more_hands : ℕ) (r : Room S I F g) : Type 0 where
+  pub parts : vec_len r.parts + more_blocks ≤ vec_capacity r.parts
+  pub logs : vec_len r.logs + more_blocks ≤ vec_capacity r.logs
+  pub hands : vec_len r.hands + more_hands ≤ vec_capacity r.hands
+
+-- The end of a run, from the worker that was refused memory, the least block whose budget is used, and whether nothing is
+-- left.
+abbrev pub end_by : Option ℕ → Option ℕ → Bool → RunEnd
+end_by (Some w) spent quiet = run_end.Memory w
+end_by None None quiet = run_end.Quiet
+end_by None (Some b) quiet = if quiet then run_end.Quiet else run_end.Spent (record { 0 = b })
+
+-- the system is the driver's
+abbrev pub IsSystemOf : {S I : Type 0} {F : I → Type 0} {g : _} → Driver S I F g → Bound S I F g → Type 0
+IsSystemOf d b = (structure_of b ≡ d.checked) × (routes_of b ≡ d.routes) × (blocks_of b ≡ map behaviours_of d.blocks.items)

@@ -1,0 +1,17 @@
+pub use Rattle.sdl_outcome.specs.Stations
+pub use Rattle.sdl_outcome.specs.Books
+pub use Rattle.sdl_outcome.specs.Steps
+pub use Rattle.sdl_outcome.specs.Causes
+pub use Rattle.sdl_outcome.specs.Plan
+pub use Rattle.sdl_outcome.specs.EnvironmentWork
+pub use Rattle.sdl_outcome.specs.Outcome
+pub use Rattle.sdl_outcome.specs.Lists
+pub use Rattle.sdl_outcome.specs.Ends
+pub use Rattle.sdl_outcome.specs.Ring
+pub use Rattle.sdl_order.specs.Driver
+pub use Rattle.sdl_order.specs.Measure
+pub use Rattle.sdl_ledger.specs.Counts
+pub use Rattle.sdl_environment.specs.EnvPhases
+pub mod Ended
+pub mod Drivers
+pub mod Closings
