@@ -1,196 +1,107 @@
-//! Runs of Ring, and what each is to leave.
+//! Runs of a system under a plan, and what each left.
 ghost use Rattle.std.specs.Prelude.{◌≤◌, IfErr};
 ghost use Rattle.sdl_transition.specs.Bound.{IsBound};
 ghost use Rattle.sdl_run.specs.Serial.{IsBackIn};
 
-use super::ring_stop::Stop;
-use crate::{Closing, Ledger, RunEnd, StartFault, run_serial};
-use arrayvec::ArrayVec;
-use sdl_block::Hand;
+use sdl_hand::Hand;
+use sdl_instances::Event;
 use sdl_queue::Rest;
 use sdl_routes::Station;
-use sdl_signal::{
-    BlockId, InputEnd, Item, Origin, OutputEnd, Pid, RouteId, SetId, Signal, SignalId, Value,
-};
+use sdl_run::{Closing, EnvOut, Ledger, RunEnd, StartFault, run_serial};
+use sdl_signal::{InputEnd, Item, OutputEnd};
+use sdl_test_systems::Stop;
 use sdl_transition::{Agents, Bound};
 use std::alloc::Global;
-use std::process::Abort;
-
-/// Two blocks, the environment, and the forwarders of three channels, forth and back.
-const WORKERS: usize = 9;
 
 /// How many turns each block may have, and the schedule.
-#[derive(Drop)]
+#[derive(Clone, Copy)]
 pub struct Plan<'a> {
     pub budget: u32,
     pub schedule: &'a [u32],
 }
 
+/// What a run left but its system, and what it wrote.
+#[derive(Drop)]
+pub struct Left {
+    pub logs: Vec<Vec<Event>>,
+    pub env_put: Vec<EnvOut>,
+    pub env_received: Vec<Item>,
+    pub hands: Vec<Hand>,
+    pub rests: Vec<(Station, Rest)>,
+    pub ledger: Ledger,
+    pub end: RunEnd,
+    pub input: InputEnd,
+    pub output: OutputEnd,
+    pub written: Vec<u8>,
+}
+
 /// Runs the system with an empty input. Where memory was refused before the first step, it is run again.
 pub fn carry_out<S: Agents + Drop>(
-    rt: &impl Abort,
     alloc: Global,
     plan: &Plan,
     bound: Bound<S>,
-) -> Result<(), Stop>
+) -> Result<Left, Stop>
     requires { IsBound S.may bound }
 {
     if plan.budget < 1 || plan.budget > 1_000_000 {
         return Err(Stop::Wrong("no such budget"));
     }
     match run_once(alloc, plan, bound) {
-        Ok((closing, written)) => look(rt, plan, &closing, written.as_slice()),
+        Ok(left) => Ok(left),
         Err(StartFault::Memory(bound)) => match run_once(alloc, plan, bound) {
-            Ok((closing, written)) => look(rt, plan, &closing, written.as_slice()),
+            Ok(left) => Ok(left),
             Err(_) => Err(Stop::Memory),
         },
     }
 }
 
-/// Runs the system with an empty input, and gives what it wrote.
+/// Runs the system with an empty input.
 fn run_once<S: Agents + Drop>(
     alloc: Global,
     plan: &Plan,
     bound: Bound<S>,
-) -> Result<(Closing<S>, Vec<u8>), StartFault<S>>
+) -> Result<Left, StartFault<S>>
     requires budget { (1 ≤ plan.now.budget) × (plan.now.budget ≤ 1000000) }
     requires bound { IsBound S.may bound }
     ensures back { IfErr result (IsBackIn S.may bound) }
 {
     let mut input: &[u8] = &[];
-    let mut output = Vec::new(alloc);
+    let mut written = Vec::new(alloc);
     let closing = run_serial(
         alloc,
         bound,
         plan.budget,
         plan.schedule,
         &mut input,
-        &mut output,
+        &mut written,
     )?;
-    Ok((closing, output))
+    Ok(left_by(closing, written))
 }
 
-/// Looks at what the run left: all that Ring leaves, or, where memory was refused, what balances.
-fn look<S: Agents>(
-    rt: &impl Abort,
-    plan: &Plan,
-    closing: &Closing<S>,
-    written: &[u8],
-) -> Result<(), Stop> {
-    assert_eq!(rt; written.len(), 0);
-    balances(rt, &closing.ledger);
-    match closing.end {
-        RunEnd::Memory(worker) => assert!(rt; (worker as usize) < WORKERS),
-        end => {
-            assert_eq!(rt; end, RunEnd::Spent(BlockId(0)));
-            is_row(rt, plan.budget.saturating_sub(1), closing)?;
-        }
-    }
-    Ok(())
-}
-
-/// Each output is accounted for, and each signal that entered.
-fn balances(rt: &impl Abort, ledger: &Ledger) {
-    let ends = [
-        ledger.no_route,
-        ledger.entered,
-        ledger.no_instance,
-        ledger.gone,
-        ledger.left,
-    ];
-    assert_eq!(rt; ledger.output, sum(&ends));
-    let uses = [
-        ledger.fired,
-        ledger.implicit,
-        ledger.stopped,
-        ledger.waiting,
-        ledger.environment,
-    ];
-    assert_eq!(rt; ledger.entered, sum(&uses));
-}
-
-/// The sum of these counts.
-fn sum(counts: &[u64]) -> u64 {
-    let mut total: u64 = 0;
-    for count in counts {
-        total = total.saturating_add(*count);
-    }
-    total
-}
-
-/// Each block made its start and this many turns more, on the tokens that entered. The token that follows is in the inlet of Q.
-fn is_row<S: Agents>(rt: &impl Abort, turns: u32, closing: &Closing<S>) -> Result<(), Stop> {
-    let last = 2 * u64::from(turns);
-    assert_eq!(rt; closing.logs.len(), 2);
-    for log in closing.logs.iter() {
-        assert_eq!(rt; log.len() as u64, last + 1);
-    }
-    let ledger = Ledger {
-        output: last + 1,
-        entered: last,
-        left: 1,
-        fired: last,
-        ..Ledger::default()
-    };
-    assert_eq!(rt; closing.ledger, ledger);
-    assert_eq!(rt; closing.env_put.len(), 0);
-    assert_eq!(rt; closing.env_received.len(), 0);
-    assert_eq!(rt;
-        (closing.input, closing.output),
-        (InputEnd::Whole, OutputEnd::Whole)
-    );
-    are_empty(rt, closing.hands.as_slice());
-    one_is_left(rt, closing.rests.as_slice(), turns)
-}
-
-/// No worker holds anything.
-fn are_empty(rt: &impl Abort, hands: &[Hand]) {
-    assert_eq!(rt; hands.len(), WORKERS);
-    for hand in hands {
-        assert_eq!(rt; hand.kept, None);
-        assert_eq!(rt; hand.outgoing.len(), 0);
-    }
-}
-
-/// Only at the inlet of Q anything is left: X's output of this number.
-fn one_is_left(rt: &impl Abort, rests: &[(Station, Rest)], number: u32) -> Result<(), Stop> {
-    assert_eq!(rt; rests.len(), 8);
-    for (station, rest) in rests {
-        if *station == Station::Inlet(BlockId(1)) {
-            assert_eq!(rt; rest.len(), 1);
-            let item = front(rest).ok_or("nothing left")?;
-            assert_eq!(rt; *item, token(number));
-        } else {
-            assert_eq!(rt; rest.len(), 0);
-        }
-    }
-    Ok(())
-}
-
-/// The item at the front.
-fn front(rest: &Rest) -> Option<&Item> {
-    match rest {
-        Rest::Serial(queue) => queue.left().next(),
-        Rest::Ruled(_) => None,
-    }
-}
-
-/// X's output of this number: it counts the steps of the token, of which each second one is X's.
-fn token(number: u32) -> Item {
-    let mut params = ArrayVec::new();
-    params.push(Value::Integer(2 * i64::from(number)));
-    Item {
-        origin: Origin {
-            worker: 0,
-            number: u64::from(number),
-        },
-        stamp: 2 * u64::from(number),
-        signal: Signal {
-            id: SignalId(0),
-            params,
-        },
-        sender: Pid::Inst(SetId(0), 1),
-        to: None,
-        route: RouteId(0),
+/// What is left, without the system.
+fn left_by<S: Agents + Drop>(closing: Closing<S>, written: Vec<u8>) -> Left {
+    let Closing {
+        bound: _,
+        logs,
+        env_put,
+        env_received,
+        hands,
+        rests,
+        ledger,
+        end,
+        input,
+        output,
+    } = closing;
+    Left {
+        logs,
+        env_put,
+        env_received,
+        hands,
+        rests,
+        ledger,
+        end,
+        input,
+        output,
+        written,
     }
 }

@@ -1,7 +1,7 @@
 //! Whole runs of Ring.
-use super::ring;
-use super::ring_plan::Plan;
-use super::ring_stop::Stop;
+use crate::plan::Plan;
+use crate::ring;
+use sdl_test_systems::Stop;
 use std::alloc::{AllocError, Global};
 use std::process::Abort;
 use std::test::Fail;
@@ -14,7 +14,7 @@ fn run(rt: &impl Abort, alloc: Global, schedule: &[u32]) -> Result<(), Stop> {
         budget: BUDGET,
         schedule,
     };
-    ring::run(rt, alloc, &plan)
+    ring::run(rt, alloc, plan)
 }
 
 /// So many numbers of a fixed rule: each is the one before by 1,664,525 and 1,013,904,223 more, modulo 2 to the 32.
