@@ -2,6 +2,10 @@
 #![tactic(auto)]
 
 #[cfg(test)]
+mod failing_reads;
+#[cfg(test)]
+mod failing_writes;
+#[cfg(test)]
 mod lines;
 #[cfg(test)]
 mod streams;

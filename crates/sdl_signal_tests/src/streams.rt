@@ -159,7 +159,7 @@ fn a_sink_counts_interruptions_over_its_life(rt: HostRuntime) {
 }
 
 /// The gate `line` and the signal `ping` with a parameter of the sort Integer.
-fn ping_names(alloc: Global, line: Name, ping: Name) -> Result<Names, AllocError>
+pub fn ping_names(alloc: Global, line: Name, ping: Name) -> Result<Names, AllocError>
     requires line { IsName line.bytes }
     requires ping { IsName ping.bytes }
 {
