@@ -5,8 +5,8 @@ ghost use Rattle.sdl_parts.specs.Rules.{IsBlockGate};
 ghost use Rattle.sdl_routes.specs.Routes.{hop_path, last_of, Carries, Joins, JoinsLast, is_delaying as is_delaying_hop};
 
 use crate::parts::Hop;
-use sdl_signal::{GateId, SignalId};
 use sdl_parts::{End, Owner, Side, Structure};
+use sdl_signal::{GateId, SignalId};
 
 /// Whether the path of the hop carries the signal.
 pub fn carries(structure: &Structure, signal: SignalId, hop: Hop) -> bool

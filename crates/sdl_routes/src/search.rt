@@ -11,8 +11,8 @@ use crate::parts::{Hop, Row};
 use crate::rows::{copied, row_of};
 use crate::table::RouteFault;
 use arrayvec::ArrayVec;
-use sdl_signal::{ChannelId, SignalId};
 use sdl_parts::Structure;
+use sdl_signal::{ChannelId, SignalId};
 use std::alloc::Global;
 
 /// The most routes of a table.
