@@ -3,7 +3,25 @@ use super::bench::{Bench, line};
 use sdl_examples::{ECHO, SPAWN};
 use sdl_routes::Station;
 use sdl_signal::BlockId;
+use std::alloc::Global;
+use std::process::Abort;
 use std::test::Fail;
+
+/// The board of the structure has an empty queue for each of these stations, and for no other.
+fn has_queues(
+    rt: &impl Abort,
+    alloc: Global,
+    file: &str,
+    expected: &[Station],
+) -> Result<(), Fail> {
+    let rests = Bench::new(alloc, file)?.board.into_rests();
+    assert_eq!(rt; rests.len(), expected.len());
+    for ((station, rest), one) in rests.iter().zip(expected) {
+        assert_eq!(rt; station, one);
+        assert_eq!(rt; rest.len(), 0);
+    }
+    Ok(())
+}
 
 #[test]
 fn a_board_has_a_queue_for_each_station_of_some_route(rt: HostRuntime) -> Result<(), Fail> {
@@ -26,16 +44,8 @@ fn a_board_has_a_queue_for_each_station_of_some_route(rt: HostRuntime) -> Result
         inlet,
         Station::Outlet,
     ];
-    for (file, expected) in [(ECHO, echo.as_slice()), (SPAWN, spawn.as_slice())] {
-        let rests = Bench::new(rt.alloc(), file)?.board.into_rests();
-        assert_eq!(rt; rests.len(), expected.len());
-        for place in 0..rests.len() {
-            let (station, rest) = rests.get(place).ok_or("no such rest")?;
-            assert_eq!(rt; Some(*station), expected.get(place).copied());
-            assert_eq!(rt; rest.len(), 0);
-        }
-    }
-    Ok(())
+    has_queues(&rt, rt.alloc(), ECHO, &echo)?;
+    has_queues(&rt, rt.alloc(), SPAWN, &spawn)
 }
 
 #[test]

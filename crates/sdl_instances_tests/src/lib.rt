@@ -4,6 +4,8 @@
 #[cfg(test)]
 mod acts;
 #[cfg(test)]
+mod asking;
+#[cfg(test)]
 mod many;
 #[cfg(test)]
 mod plan;

@@ -4,9 +4,10 @@ ghost use Rattle.sdl_instances.specs.Core.{IsSound};
 ghost use Rattle.sdl_instances.specs.Cores.{CanFire, core_of, parts_of, system_in};
 
 use super::acts::{Arriving, arrive, turn};
+use super::asking::ask_all;
 use super::shown::{On, Saw, Shown, answer_of, quiet};
 use super::spawn::{ASK, DIE, HELLO, MAKE, boss, kid};
-use sdl_instances::{Arrival, BlockCore, Cause, Done, Event, Turned};
+use sdl_instances::{Arrival, BlockCore, Cause, Done, Event};
 use sdl_routes::Routes;
 use sdl_signal::{Pid, SignalId, Value};
 use sdl_test_systems::Stop;
@@ -17,15 +18,15 @@ use std::process::Abort;
 /// The serial numbers of the living Kids in the order of their creation, the last one given out, and what the random
 /// numbers go on from.
 #[derive(Drop)]
-struct Known {
-    living: Vec<u32>,
+pub struct Known {
+    pub living: Vec<u32>,
     last: u32,
     seed: u64,
 }
 
 impl Known {
     /// The next number of a linear congruential rule.
-    fn pick(&mut self) -> u32 {
+    pub fn pick(&mut self) -> u32 {
         self.seed = self
             .seed
             .wrapping_mul(6_364_136_223_846_793_005)
@@ -35,7 +36,7 @@ impl Known {
 }
 
 /// An item of route k and signal k.
-fn along(route: SignalId, value: Option<Value>, sender: Pid, to: Option<Pid>) -> Arriving {
+pub fn along(route: SignalId, value: Option<Value>, sender: Pid, to: Option<Pid>) -> Arriving {
     Arriving {
         route: route.0,
         signal: route,
@@ -47,7 +48,7 @@ fn along(route: SignalId, value: Option<Value>, sender: Pid, to: Option<Pid>) ->
 }
 
 /// A turn, as its event shows it.
-fn next_turn<S: Agents>(
+pub fn next_turn<S: Agents>(
     rt: &impl Abort,
     core: &mut BlockCore<S>,
     routes: &Routes,
@@ -185,108 +186,6 @@ fn compare(rt: &impl Abort, log: &[Event], known: &Known) {
     assert_eq!(rt; ever, now);
 }
 
-/// Asks the Kid at this place in the order of creation.
-fn ask_at<S: Agents>(
-    rt: &impl Abort,
-    core: &mut BlockCore<S>,
-    routes: &Routes,
-    pick: u32,
-    serial: u32,
-) -> Result<(), Stop>
-    requires sound { IsSound S.may (system_in core.old routes.now) (core_of core.old) }
-    requires parts { CanFire S.may (parts_of core.old) }
-    ensures sound { IfOk result (λ _. IsSound S.may (system_in core.new routes.now) (core_of core.new)) }
-    ensures parts { IfOk result (λ _. CanFire S.may (parts_of core.new)) }
-{
-    let ask = along(ASK, Some(Value::Integer(1)), Pid::Env, None);
-    let arrival = arrive(rt, core, routes, &ask, pick)?;
-    assert_eq!(rt; arrival, Arrival::Entered(kid(serial)));
-    Ok(())
-}
-
-/// Asks each of the Kids, of which there are so many at most, by its place in the order of creation.
-fn ask_each<S: Agents>(
-    rt: &impl Abort,
-    core: &mut BlockCore<S>,
-    routes: &Routes,
-    living: &[u32],
-    most: u32,
-) -> Result<(), Stop>
-    requires sound { IsSound S.may (system_in core.old routes.now) (core_of core.old) }
-    requires parts { CanFire S.may (parts_of core.old) }
-    ensures sound { IfOk result (λ _. IsSound S.may (system_in core.new routes.now) (core_of core.new)) }
-    ensures parts { IfOk result (λ _. CanFire S.may (parts_of core.new)) }
-{
-    for pick in 0..most {
-        match living.get(pick as usize) {
-            Some(serial) => ask_at(rt, core, routes, pick, *serial)?,
-            None => return Ok(()),
-        }
-    }
-    Ok(())
-}
-
-/// Lets the ready Kid at the pick in the order of creation let `ask` go.
-fn ignore_at<S: Agents>(
-    rt: &impl Abort,
-    core: &mut BlockCore<S>,
-    routes: &Routes,
-    ready: &mut Vec<u32>,
-    pick: u32,
-) -> Result<(), Stop>
-    requires sound { IsSound S.may (system_in core.old routes.now) (core_of core.old) }
-    requires parts { CanFire S.may (parts_of core.old) }
-    ensures sound { IfOk result (λ _. IsSound S.may (system_in core.new routes.now) (core_of core.new)) }
-    ensures parts { IfOk result (λ _. CanFire S.may (parts_of core.new)) }
-{
-    if ready.is_empty() {
-        return Err(Stop::Wrong("none is ready"));
-    }
-    let place = pick as usize % ready.len();
-    let pid = kid(ready.remove(place));
-    let shown = next_turn(rt, core, routes, pick)?;
-    assert_eq!(rt; (shown.pid, shown.on), (pid, On::Implicit(ASK)));
-    Ok(())
-}
-
-/// Lets each of the Kids let `ask` go, whichever is at the pick among those that have not yet.
-fn ignore_each<S: Agents>(
-    rt: &impl Abort,
-    core: &mut BlockCore<S>,
-    routes: &Routes,
-    known: &mut Known,
-) -> Result<(), Stop>
-    requires sound { IsSound S.may (system_in core.old routes.now) (core_of core.old) }
-    requires parts { CanFire S.may (parts_of core.old) }
-    ensures sound { IfOk result (λ _. IsSound S.may (system_in core.new routes.now) (core_of core.new)) }
-    ensures parts { IfOk result (λ _. CanFire S.may (parts_of core.new)) }
-{
-    let mut ready = known.living.clone()?;
-    for _ in 0..known.living.len() {
-        ignore_at(rt, core, routes, &mut ready, known.pick())?;
-    }
-    let turned = turn(rt, core, routes, 0)?;
-    assert!(rt; matches!(turned, Turned::Idle));
-    Ok(())
-}
-
-/// The Kids are counted, and each is found, as the walk knows them; and so are those that are ready.
-fn ask_all<S: Agents>(
-    rt: &impl Abort,
-    core: &mut BlockCore<S>,
-    routes: &Routes,
-    known: &mut Known,
-    most: u32,
-) -> Result<(), Stop>
-    requires sound { IsSound S.may (system_in core.old routes.now) (core_of core.old) }
-    requires parts { CanFire S.may (parts_of core.old) }
-    ensures sound { IfOk result (λ _. IsSound S.may (system_in core.new routes.now) (core_of core.new)) }
-    ensures parts { IfOk result (λ _. CanFire S.may (parts_of core.new)) }
-{
-    ask_each(rt, core, routes, known.living.as_slice(), most)?;
-    ignore_each(rt, core, routes, known)
-}
-
 /// A step of the walk.
 fn walk_on<S: Agents>(
     rt: &impl Abort,
@@ -305,6 +204,30 @@ fn walk_on<S: Agents>(
         0 => make_one(rt, core, routes, known, most),
         1 => ask_one(rt, core, routes, known),
         _ => stop_one(rt, core, routes, known),
+    }
+}
+
+/// Looks at the log after each 64th step, and at all Kids after each 512th.
+fn look<S: Agents>(
+    rt: &impl Abort,
+    core: &mut BlockCore<S>,
+    routes: &Routes,
+    known: &mut Known,
+    most: u32,
+    step: u32,
+) -> Result<(), Stop>
+    requires sound { IsSound S.may (system_in core.old routes.now) (core_of core.old) }
+    requires parts { CanFire S.may (parts_of core.old) }
+    ensures sound { IfOk result (λ _. IsSound S.may (system_in core.new routes.now) (core_of core.new)) }
+    ensures parts { IfOk result (λ _. CanFire S.may (parts_of core.new)) }
+{
+    if step % 64 == 0 {
+        compare(rt, core.log().as_slice(), known);
+    }
+    if step % 512 == 0 {
+        ask_all(rt, core, routes, known, most)
+    } else {
+        Ok(())
     }
 }
 
@@ -334,12 +257,7 @@ pub fn walk<S: Agents>(
     for step in 0..steps {
         let choice = if step <= most { 0 } else { known.pick() % 4 };
         walk_on(rt, core, routes, &mut known, most, choice)?;
-        if step % 64 == 0 {
-            compare(rt, core.log().as_slice(), &known);
-        }
-        if step % 512 == 0 {
-            ask_all(rt, core, routes, &mut known, most)?;
-        }
+        look(rt, core, routes, &mut known, most, step)?;
     }
     assert!(rt; known.living.is_empty());
     compare(rt, core.log().as_slice(), &known);
