@@ -173,17 +173,17 @@ read_whole names (Some input) now after old new carried still next few (left, li
 -- The reader failed.
 pub read_fault : (names : Lexicon) (start now after : Option (List ℕ)) (old : Reading) (new : Source) (carried : List EnvLine)
     → (old.source.ended ≡ Some ended.Done → ⊥)
-    → (old.source.ended ≡ None → Keeps (to_come old.source now) (to_come new after) × HasNoNewline new.ahead)
+    → (old.source.ended ≡ None → Keeps (to_come old.source now) (to_come new after) × HasNoNewline new.ahead × (length new.ahead ≤ 320))
     → old.carried ≤ most_lines → HasCarried names start now old carried → HasRead names start after carried ends.ReadFault
 read_fault names None now after old new carried still next few h = tt
 read_fault names (Some input) now after old new carried still next few (left, lines, is, read, count, come) =
     let here = is_open input lines old.source left still come in
-    let P : Option (List ℕ) → Type 0 = λ o. Keeps (to_come old.source o) (to_come new after) × HasNoNewline new.ahead in
-    let (keeps, none) = subst P is (next here.ended) in
+    let P : Option (List ℕ) → Type 0 = λ o. Keeps (to_come old.source o) (to_come new after) × HasNoNewline new.ahead × (length new.ahead ≤ 320) in
+    let (keeps, none, short) = subst P is (next here.ended) in
     let front = flat_map ended_line lines in (
       front ++ new.ahead,
       given_is input after front new.ahead (kept_given input front new.ahead (old.source.ahead ++ left) after here.split keeps),
-      (lines, new.ahead, refl, here.each, none, read, omega (arith, count, few)),
+      (lines, new.ahead, refl, here.each, none, short, read, omega (arith, count, few)),
     )
 
 -- The next line is too long: a fault, or one line more than the limit.

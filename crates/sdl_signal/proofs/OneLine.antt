@@ -13,7 +13,7 @@ use Rattle.sdl_signal.specs.declared.reading.LineFault.TheVariants.{TooLong, Not
 use Rattle.sdl_signal.specs.Names.{Lexicon, Declared, IsLexicon}
 use Rattle.sdl_signal.specs.Line.{space, LineFits, PidFits, pid_text, to_part, value_text, value_texts, line_text}
 use Rattle.sdl_signal.specs.Writing.{spaced}
-use Rattle.sdl_signal.specs.Reading.{fields, value_fields, to_field, line_signal, Fails, IsFirstFault, NamesFirst, PidNamesFirst, ValueNamesFirst, HasDistinctNames, IsPidText, HasBadValue}
+use Rattle.sdl_signal.specs.Reading.{IsReading, fields, value_fields, to_field, line_signal, Fails, IsFirstFault, NamesFirst, PidNamesFirst, ValueNamesFirst, HasDistinctNames, IsPidText, HasBadValue}
 use Rattle.sdl_signal.specs.declared.values.Sort.{Sort}
 use Rattle.sdl_signal.specs.declared.values.Sort.TheVariants as sort
 use Rattle.sdl_signal.specs.declared.values.Pid.TheVariants as pid
@@ -170,6 +170,19 @@ module _ (names : Lexicon) (h : HasDistinctNames names) where
         values_are_first p.signal.sorts l.signal.params.items p.values p.values_are,
         to_is_first l.to p.to p.to_is,
       )
+
+-- where the names differ, a text is that of one line, which breaks no rule, and reading it gives that line
+pub one_text : (names : Lexicon) (l m : EnvLine) (text : List ℕ) → IsLexicon names → HasDistinctNames names → LineFits l → LineFits m → line_text names l ≡ Some text → line_text names m ≡ Some text → l ≡ m
+one_text names l m text lex h fl fm el em = one_line names l m text lex fl fm (names_are_first names h l text el) (names_are_first names h m text em) el em
+
+pub breaks_no_rule : (names : Lexicon) (l : EnvLine) (text : List ℕ) (f : LineFault) → IsLexicon names → HasDistinctNames names → LineFits l → line_text names l ≡ Some text → ¬ IsFirstFault names text f
+breaks_no_rule names l text f lex h fl e fault =
+    let p = parts_of names l text e in
+    no_fault names l text p (cut_of names l text p lex fl) fl (names_are_first names h l text e) f fault.0
+
+pub reads_back : (names : Lexicon) (l : EnvLine) (text : List ℕ) (read : Result EnvLine LineFault) → IsLexicon names → HasDistinctNames names → LineFits l → line_text names l ≡ Some text → IsReading names text read → read ≡ Ok l
+reads_back names l text (Ok m) lex h fl e r = ap Ok (one_text names m l text lex h r.0.2 fl r.0.0 e)
+reads_back names l text (Err f) lex h fl e r = absurd (breaks_no_rule names l text f lex h fl e r.1)
 
 -- a line that was read can be written without its TO part
 pub without_to : (names : Lexicon) (l : EnvLine) (line : List ℕ) → line_text names l ≡ Some line → IsSome (line_text names (record l { to = None }))

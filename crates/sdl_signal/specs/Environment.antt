@@ -32,7 +32,7 @@ NextIsBad names input fault =
     ((fault ≡ TooLong) × BeginsTooLong input) ⊎ ((line rest : List ℕ) × IsFirstLine input line rest × IsFirstFault names line fault)
 
 -- The environment's reading of an input, of which the reader gave some bytes: which lines were carried out, up to the end, a
--- fault or the limit.
+-- fault or the limit. At a read fault at most 320 bytes of a further line had come.
 abbrev pub IsReadingOf : Lexicon → List ℕ → List ℕ → List EnvLine → InputEnd → Type 0
 IsReadingOf names input given carried ends.Whole =
     (lines : List (List ℕ)) × BeginsWithLines input lines [] × AreRead names lines carried × (length lines ≤ most_lines)
@@ -40,8 +40,8 @@ IsReadingOf names input given carried (ends.BadLine n fault) =
     (lines : List (List ℕ)) × (rest : List ℕ) × BeginsWithLines input lines rest × AreRead names lines carried × (length lines < most_lines)
     × (n ≡ length lines + 1) × NextIsBad names rest fault
 IsReadingOf names input given carried ends.ReadFault =
-    (lines : List (List ℕ)) × (partial : List ℕ) × (given ≡ flat_map ended_line lines ++ partial) × AllByRecursion HasNoNewline lines × HasNoNewline partial
-    × AreRead names lines carried × (length lines ≤ most_lines)
+    (lines : List (List ℕ)) × (partial : List ℕ) × (given ≡ flat_map ended_line lines ++ partial) × AllByRecursion HasNoNewline lines
+    × HasNoNewline partial × (length partial ≤ 320) × AreRead names lines carried × (length lines ≤ most_lines)
 IsReadingOf names input given carried ends.TooMuch =
     (lines : List (List ℕ)) × (rest : List ℕ) × BeginsWithLines input lines rest × AreRead names lines carried × (length lines ≡ most_lines) × (0 < length rest)
 IsReadingOf names input given carried (ends.Stopped n) =

@@ -4,5 +4,6 @@ pub mod Reading
 pub mod Writing
 pub mod Bytes
 pub mod Source
+pub mod Sink
 pub mod Environment
 pub mod View

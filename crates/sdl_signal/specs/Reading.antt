@@ -1,16 +1,18 @@
 -- The rules by which a line is read, in their order.
-use Rattle.std.specs.Prelude.{◌≡◌, ◌≢◌, ℕ, ◌-◌, ◌<◌, ◌⊎◌, Bool, ◌&&◌, nat_lt, ◌==◌, if◌then◌else◌, List, [], ◌∷◌, length, take, drop, Option, Some, None, option_map, option_and_then, IsSomeAnd, slice_get, slice_index_or, codes, bytes_eq, find, Any, Contains, IfSome, ⊤}
+use Rattle.std.specs.Prelude.{◌≡◌, ◌≢◌, Result, IfOk, IfErr, ℕ, ◌-◌, ◌<◌, ◌⊎◌, Bool, ◌&&◌, nat_lt, ◌==◌, if◌then◌else◌, List, [], ◌∷◌, length, take, drop, Option, Some, None, option_map, option_and_then, IsSomeAnd, slice_get, slice_index_or, codes, bytes_eq, find, Any, Contains, IfSome, ⊤}
 use Rattle.std.specs.List.{slice_split, AllByRecursion}
 use Rattle.sdl_signal.specs.declared.values.Sort.{Sort}
 use Rattle.sdl_signal.specs.declared.values.Pid.{Pid}
 use Rattle.sdl_signal.specs.declared.values.Pid.TheVariants as pid
 use Rattle.sdl_signal.specs.declared.values.Value.{Value}
 use Rattle.sdl_signal.specs.declared.values.Value.TheVariants as value
+use Rattle.sdl_signal.specs.declared.ids.GateId.{GateId}
+use Rattle.sdl_signal.specs.declared.values.Signal.{Signal}
 use Rattle.sdl_signal.specs.declared.values.EnvLine.{EnvLine}
 use Rattle.sdl_signal.specs.declared.reading.LineFault.{LineFault}
 use Rattle.sdl_signal.specs.declared.reading.LineFault.TheVariants.{TooLong, NotAscii, Missing, UnknownGate, UnknownSignal, WrongCount, BadValue, BadTo}
 use Rattle.sdl_signal.specs.Names.{Lexicon, Declared}
-use Rattle.sdl_signal.specs.Line.{space, PidFits, ValueFits, pid_text, value_text, ◌>>=◌}
+use Rattle.sdl_signal.specs.Line.{space, PidFits, ValueFits, LineFits, pid_text, value_text, line_text, ◌>>=◌}
 
 -- the line, cut at each space
 abbrev pub fields : List ℕ → List (List ℕ)
@@ -113,3 +115,13 @@ NamesFirst names line =
     × IsFirstNamed (λ s. s.name) names.signals line.signal.id.0
     × AllByRecursion (ValueNamesFirst names) line.signal.params.items
     × IfSome line.to (PidNamesFirst names)
+
+-- what the reading of a text answers: a line that has this text, whose names are each the first of its name, or the first
+-- rule that fails
+abbrev pub IsReading : Lexicon → List ℕ → Result EnvLine LineFault → Type 0
+IsReading names text read =
+    IfOk read (λ l. (line_text names l ≡ Some text) × NamesFirst names l × LineFits l) × IfErr read (IsFirstFault names text)
+
+-- a signal at a gate, without a TO part
+abbrev pub plain_line : GateId → Signal → EnvLine
+plain_line gate signal = record { gate = gate; signal = signal; to = None }

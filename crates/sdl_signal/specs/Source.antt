@@ -31,11 +31,12 @@ HandsOut before after line end =
     ⊎ (Consumes before after line × (0 < length line) × IsAtEnd after × (end ≡ Some ended.Done))
 
 -- What a source that had not ended answers, and how it then stands, by the bytes that were to come before and after the call.
+-- At a fault of the reader at most 320 bytes of a line wait: with more the reader was not to be asked again.
 abbrev pub IsNextLine : Option (List ℕ) → Option (List ℕ) → Source → LineRead → Type 0
 IsNextLine before after new (reads.Line line) = HasNoNewline line.items × (length line.items ≤ 320) × HandsOut before after line.items new.ended
 IsNextLine before after new reads.Over = IfSome before BeginsTooLong × Keeps before after × (new.ended ≡ Some ended.Over)
 IsNextLine before after new reads.Done = IsAtEnd before × Keeps before after × (new.ended ≡ Some ended.Done)
-IsNextLine before after new reads.Fault = Keeps before after × HasNoNewline new.ahead × (new.ended ≡ Some ended.Fault)
+IsNextLine before after new reads.Fault = Keeps before after × HasNoNewline new.ahead × (length new.ahead ≤ 320) × (new.ended ≡ Some ended.Fault)
 
 -- What the bytes that wait in an open source come to: a whole line, or that it is too long, or no whole line.
 abbrev pub IsWaitingLine : Source → Source → Option LineRead → Type 0

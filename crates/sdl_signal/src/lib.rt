@@ -5,6 +5,7 @@ mod ahead;
 pub mod ends;
 pub mod environment;
 pub mod ids;
+pub mod laws;
 pub mod naming;
 pub mod reading;
 pub mod sinks;

@@ -19,7 +19,7 @@ use values::{read_pid, read_values};
 pub const LONGEST_LINE: usize = 320;
 
 /// Why a line is refused: the first rule that fails. (This project's own.)
-#[derive(Clone, Copy, Debug, PartialEq, Eq, PartialOrd, Ord)]
+#[derive(Clone, Copy, Debug, PartialEq, Eq)]
 pub enum LineFault {
     /// L1: the line has over 320 bytes.
     TooLong,
@@ -145,6 +145,7 @@ fn read_by_rules(names: &Names, line: &[u8]) -> Result<EnvLine, LineFault>
 pub fn read_line(names: &Names, line: &[u8]) -> Result<EnvLine, LineFault>
     ensures read { IfOk result (λ l. line_text names.now l ≡ Some line.now) }
     ensures first_named { IfOk result (λ l. NamesFirst names.now l) }
+    ensures fits { IfOk result LineFits }
     ensures only { (l : EnvLine) → LineFits l → NamesFirst names.now l → line_text names.now l ≡ Some line.now → result ≡ Ok l }
     ensures distinct { HasDistinctNames names.now → (l : EnvLine) → LineFits l → line_text names.now l ≡ Some line.now → result ≡ Ok l }
     ensures fault { IfErr result (λ f. IsFirstFault names.now line.now f) }

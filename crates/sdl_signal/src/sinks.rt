@@ -5,6 +5,7 @@ ghost use Rattle.sdl_signal.specs.Bytes.{IsWritten};
 
 use crate::ahead::RETRIES;
 use std::io::{ErrorKind, Write};
+use std::marker::Model;
 
 /// What the writing of a line came to.
 #[derive(Clone, Copy, Debug, PartialEq, Eq)]
@@ -16,21 +17,36 @@ pub enum Written {
     Fault(usize),
 }
 
-/// Writes lines. Interrupted writes are tried again, 1,000 over the life of the sink.
+/// Writes lines. Interrupted writes are tried again, 1,000 over the life of the sink. Contracts see how many were.
 #[derive(Drop)]
 pub struct LineSink {
     interrupted: u32,
 }
 
+impl Model for LineSink {
+    ghost use Rattle.std.specs.Prelude.{◌≤◌};
+    ghost use Rattle.sdl_signal.specs.Sink.{Sink};
+
+    ghost Value = { Sink };
+
+    ghost view = { λ s. record { interrupted = s.interrupted } };
+
+    ghost invariant = { λ s. s.interrupted ≤ 1000 };
+}
+
 impl LineSink {
-    pub fn new() -> Self {
+    pub fn new() -> Self
+        ensures { result ≡ record { interrupted = 0 } }
+    {
         LineSink { interrupted: 0 }
     }
 
     /// Writes the line and a newline. A write that takes no byte is a fault. After a fault further lines may
     /// be written, each behind what went out.
     pub fn write<W: Write>(&mut self, output: &mut W, line: &[u8]) -> Written
-        ensures { IsWritten (W.contents output.old) (W.contents output.new) line.now result }
+        ensures retries { self.old.interrupted ≤ self.new.interrupted }
+        ensures few { self.new.interrupted ≤ 1000 }
+        ensures written { IsWritten (W.contents output.old) (W.contents output.new) line.now result }
     {
         let sent = self.write_bytes(output, line);
         if sent < line.len() {
@@ -44,6 +60,8 @@ impl LineSink {
 
     /// Writes the bytes, or as many of them as go out, and answers how many went.
     fn write_bytes<W: Write>(&mut self, output: &mut W, bytes: &[u8]) -> usize
+        ensures retries { self.old.interrupted ≤ self.new.interrupted }
+        ensures few { self.new.interrupted ≤ 1000 }
         ensures count { result ≤ length bytes.now }
         ensures bytes { Appends (W.contents output.old) (W.contents output.new) (take result bytes.now) }
     {

@@ -1,9 +1,14 @@
 //! Values, Pids, signals and items.
+ghost use Rattle.std.specs.Prelude.{◌≡◌, pos};
+ghost use Rattle.sdl_signal.specs.declared.values.Sort.TheVariants as sort;
+ghost use Rattle.sdl_signal.specs.declared.values.Pid.TheVariants as pid;
+ghost use Rattle.sdl_signal.specs.declared.values.Value.TheVariants as value;
+
 use crate::ids::{GateId, RouteId, SetId, SignalId};
 use arrayvec::ArrayVec;
 
 /// The sort of a parameter or a variable.
-#[derive(Clone, Copy, Debug, PartialEq, Eq, PartialOrd, Ord, Hash)]
+#[derive(Clone, Copy, Debug, PartialEq, Eq)]
 pub enum Sort {
     /// A signed number of 64 bits.
     Integer,
@@ -12,13 +17,15 @@ pub enum Sort {
 }
 
 impl Default for Sort {
-    fn default() -> Self {
+    fn default() -> Self
+        ensures { result ≡ sort.Integer }
+    {
         Sort::Integer
     }
 }
 
 /// Who an agent instance is (Z.101, Pid sorts).
-#[derive(Clone, Copy, Debug, PartialEq, Eq, PartialOrd, Ord, Hash)]
+#[derive(Clone, Copy, Debug, PartialEq, Eq, Hash)]
 pub enum Pid {
     /// No instance.
     Null,
@@ -30,13 +37,15 @@ pub enum Pid {
 }
 
 impl Default for Pid {
-    fn default() -> Self {
+    fn default() -> Self
+        ensures { result ≡ pid.Null }
+    {
         Pid::Null
     }
 }
 
 /// A value of a sort.
-#[derive(Clone, Copy, Debug, PartialEq, Eq, PartialOrd, Ord, Hash)]
+#[derive(Clone, Copy, Debug, PartialEq, Eq)]
 pub enum Value {
     Integer(i64),
     Boolean(bool),
@@ -44,7 +53,9 @@ pub enum Value {
 }
 
 impl Default for Value {
-    fn default() -> Self {
+    fn default() -> Self
+        ensures { result ≡ value.Integer (pos 0) }
+    {
         Value::Integer(0)
     }
 }
@@ -58,7 +69,7 @@ pub struct Signal {
 
 /// Which output an item came from: the worker that made it, and how many outputs that worker had made before,
 /// those that no route fits included. (This project's own.)
-#[derive(Clone, Copy, Debug, Default, PartialEq, Eq, PartialOrd, Ord, Hash)]
+#[derive(Clone, Copy, Debug, Default, PartialEq, Eq)]
 pub struct Origin {
     pub worker: u32,
     pub number: u64,

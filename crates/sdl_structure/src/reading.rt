@@ -1,5 +1,5 @@
 //! Reading the structure file. The format, its keys and its rules are this project's own (docs/FORMATS.md).
-ghost use Rattle.std.specs.Prelude.{◌≡◌, IfOk, IfErr, IfSome, None, IsSomeAnd};
+ghost use Rattle.std.specs.Prelude.{◌≡◌, ◌≢◌, ◌⊎◌, IfOk, IfErr, Err, None, IsSomeAnd};
 ghost use Rattle.toml.specs.Parse.{parse_document};
 ghost use Rattle.sdl_structure.specs.File.{IsFileOf};
 ghost use Rattle.sdl_structure.specs.Faults.{IsBroken};
@@ -131,7 +131,8 @@ impl From<AllocError> for FileFault {
 pub fn read_structure(alloc: Global, text: &str) -> Result<Structure, FileFault>
     ensures ok { IfOk result (λ s. IsSomeAnd (parse_document text.now) (λ table. IsFileOf table s)) }
     ensures not_toml { IfErr result (λ f. f ≡ FileFault.NotToml → parse_document text.now ≡ None) }
-    ensures broken { IfErr result (λ f. IfSome (parse_document text.now) (λ table. IsBroken table f)) }
+    ensures no_table { parse_document text.now ≡ None → (result ≡ Err FileFault.NotToml) ⊎ (result ≡ Err FileFault.Memory) }
+    ensures broken { IfErr result (λ f. f ≢ FileFault.NotToml → f ≢ FileFault.Memory → IsSomeAnd (parse_document text.now) (λ table. IsBroken table f)) }
 {
     match toml::table_from_str(alloc, text) {
         Ok(table) => file::read_system(alloc, &table),

@@ -61,5 +61,5 @@ returns-in-Fault-clause-reading g c start carried h =
     let a = c.self.inside in
     let P : Reading → Type 0 = λ r. HasCarried c.args.names.now start (g.R.Read.remaining c.args.input.now) r carried in
     read_fault _ start (g.R.Read.remaining c.args.input.now) (g.R.Read.remaining c.next.new.input) (record { source = a.source; carried = a.carried }) c.next.new.self carried
-    (λ e. let same = (c.in-Fault.ensures.ended _ e).0 in cc) (λ e. let n = c.in-Fault.ensures.next e in (n.0, n.1)) c.self.invariant
+    (λ e. let same = (c.in-Fault.ensures.ended _ e).0 in cc) (λ e. let n = c.in-Fault.ensures.next e in (n.0, n.1, n.2)) c.self.invariant
     (subst P (sym c.self.view_is) h)
