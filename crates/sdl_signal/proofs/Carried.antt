@@ -1,19 +1,17 @@
 -- How the environment's reading goes on, by what its source of lines answers.
-use Rattle.std.proofs.Common.{◌≡◌, ◌⊎◌, ℕ, ◌+◌, ◌<◌, ◌≤◌, List, [], ◌∷◌, ◌++◌, length, Option, Some, None, IfSome, flat_map, refl, sym, ap, ◌∙◌, subst, append_assoc, append-nil, inl, inr, arith, length-append, zero, suc}
+use Rattle.std.proofs.Common.{◌≡◌, ℕ, ◌+◌, ◌<◌, ◌≤◌, List, [], ◌∷◌, ◌++◌, length, Option, Some, None, IfSome, flat_map, refl, sym, ap, ◌∙◌, subst, append_assoc, append-nil, inl, inr, arith, length-append}
 use Rattle.std.specs.List.{AllByRecursion}
 use Rattle.std.specs.Io.KnownBytes.{Keeps, Consumes, IsAtEnd, prepend_known}
 use Rattle.sdl_signal.specs.Bytes.{newline, HasNoNewline, IsFirstLine, BeginsWithLines, BeginsTooLong, ended_line}
-use Rattle.sdl_signal.specs.Source.{Source, HandsOut, IsNextLine, to_come, last_answer}
+use Rattle.sdl_signal.specs.Source.{Source, HandsOut, to_come}
 use Rattle.sdl_signal.specs.Names.{Lexicon}
 use Rattle.sdl_signal.specs.Line.{line_text}
 use Rattle.sdl_signal.specs.Reading.{IsFirstFault, NamesFirst}
-use Rattle.sdl_signal.specs.Environment.{AreRead, NextIsBad, IsReadingOf, Reading, HasCome, HasCarried, HasRead, most_lines}
+use Rattle.sdl_signal.specs.Environment.{AreRead, Reading, HasCome, HasCarried, HasRead, most_lines}
 use Rattle.sdl_signal.specs.declared.values.EnvLine.{EnvLine}
 use Rattle.sdl_signal.specs.declared.reading.LineFault.{LineFault}
 use Rattle.sdl_signal.specs.declared.reading.LineFault.TheVariants.{TooLong}
 use Rattle.sdl_signal.specs.declared.ends.InputEnd.TheVariants as ends
-use Rattle.sdl_signal.specs.declared.sources.LineRead.{LineRead}
-use Rattle.sdl_signal.specs.declared.sources.LineRead.TheVariants as reads
 use Rattle.sdl_signal.specs.declared.sources.Ended.{Ended}
 use Rattle.sdl_signal.specs.declared.sources.Ended.TheVariants as ended
 

@@ -1,8 +1,7 @@
 -- A line cut at its spaces, and its parts.
-use Rattle.std.proofs.Common.{◌≡◌, ◌≢◌, ℕ, zero, suc, ◌+◌, ◌-◌, ◌<◌, ◌≤◌, ◌⊎◌, Bool, true, false, cond, eqb, ◌==◌, ltb, ◌&&◌, List, [], ◌∷◌, ◌++◌, length, get_or, map, take, drop, Option, Some, None, refl, sym, ap, ◌∙◌, subst, inl, inr, codes, bytes_eq, arith, length-append}
-use Rattle.std.specs.List.{AllByRecursion, Contains, slice_split, join_with_byte, All}
+use Rattle.std.proofs.Common.{◌≡◌, ◌≢◌, ℕ, zero, suc, ◌<◌, true, ◌==◌, List, [], ◌∷◌, length, get_or, refl, sym, subst, arith}
+use Rattle.std.specs.List.{AllByRecursion, Contains}
 use Rattle.std.proofs.lemmas.Bool.Decides.{nat_tests}
-use Rattle.std.proofs.lemmas.List.Splits.{slice_split_none, slice_split_at}
 
 -- no field is empty
 pub none_is_empty : (fs : List (List ℕ)) → AllByRecursion (λ f. f ≢ []) fs → ¬ Contains fs []

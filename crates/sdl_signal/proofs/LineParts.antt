@@ -1,12 +1,12 @@
 -- The parts of a line's fields: the values and the TO part.
-use Rattle.std.proofs.Common.{◌≡◌, ◌≢◌, ℕ, zero, suc, ◌+◌, ◌-◌, ◌<◌, ◌≤◌, ◌⊎◌, Bool, true, false, cond, eqb, ltb, ◌&&◌, List, [], ◌∷◌, ◌++◌, length, get_or, map, take, drop, Option, Some, None, refl, sym, ap, ◌∙◌, subst, inl, inr, codes, bytes_eq, slice_get, arith, length-append, Bor, append-nil, length-drop}
+use Rattle.std.proofs.Common.{◌≡◌, ◌≢◌, ℕ, zero, suc, ◌+◌, ◌-◌, ◌<◌, ◌≤◌, Bool, true, false, cond, ltb, ◌&&◌, List, [], ◌∷◌, ◌++◌, length, get_or, map, take, drop, Some, None, refl, sym, ap, ◌∙◌, codes, bytes_eq, slice_get, arith, length-append, Bor, append-nil, length-drop}
 use Rattle.std.specs.List.{AllByRecursion}
 use Rattle.std.proofs.lemmas.Bool.{false≢true}
 use Rattle.std.proofs.lemmas.Bool.Decides.{nat_tests}
 use Rattle.std.proofs.lemmas.List.{take-append-drop, take-map, drop-map, drop-take, length-take-le, length-map}
 use Rattle.std.proofs.lemmas.Option.{slice_get-get_or}
 use Rattle.std.proofs.Math.ListN.{get_or-map, get_or-append, drop_of_length-le}
-use Rattle.std.proofs.Math.Seq.{take-append_seam, get_or-append_seam, get_or-append-add, drop-cons, drop-append-add}
+use Rattle.std.proofs.Math.Seq.{take-append_seam, get_or-append_seam, get_or-append-add, drop-cons}
 use Rattle.std.proofs.lemmas.Slice.Eq.{bytes_eq-Decides}
 use Rattle.sdl_signal.specs.Line.{to_part}
 use Rattle.sdl_signal.specs.Reading.{has_to, to_field, value_fields}

@@ -1,27 +1,18 @@
 -- The text of a line: it breaks no rule, and it is the text of one line alone.
-use Rattle.std.proofs.Common.{◌≡◌, ◌≢◌, ℕ, zero, suc, ◌+◌, ◌*◌, ◌-◌, ◌<◌, ◌≤◌, ◌⊎◌, ◌==◌, Bool, true, false, eqb, List, [], ◌∷◌, ◌++◌, length, get_or, Option, Some, None, Ok, Err, Result, refl, sym, ap, ◌∙◌, subst, inl, inr, codes, option_map, slice_get, IfSome, IsSome, arith, length-append, append-nil, append_assoc}
-use Rattle.std.specs.List.{AllByRecursion, All, Any, Contains, slice_split, join_with_byte}
-use Rattle.std.specs.Option.{option_and_then}
-use Rattle.std.proofs.lemmas.Bool.{false≢true}
+use Rattle.std.proofs.Common.{◌≡◌, ◌≢◌, ℕ, zero, suc, ◌*◌, ◌<◌, ◌≤◌, ◌==◌, false, List, [], ◌∷◌, ◌++◌, length, Option, Some, None, refl, sym, ap, ◌∙◌, subst, codes, option_map, slice_get, IfSome, arith, length-append, append-nil, append_assoc}
+use Rattle.std.specs.List.{AllByRecursion, All, slice_split, join_with_byte}
 use Rattle.std.proofs.lemmas.Bool.Decides.{nat_tests}
 use Rattle.std.proofs.lemmas.List.Splits.{slice_split_none, slice_split_at}
 use Rattle.std.proofs.lemmas.Option.{same_Some, none-some, option_and_then_some}
-use Rattle.sdl_signal.specs.declared.values.Sort.{Sort}
 use Rattle.sdl_signal.specs.declared.values.Pid.{Pid}
-use Rattle.sdl_signal.specs.declared.values.Value.{Value}
 use Rattle.sdl_signal.specs.declared.values.EnvLine.{EnvLine}
-use Rattle.sdl_signal.specs.declared.reading.LineFault.{LineFault}
-use Rattle.sdl_signal.specs.declared.reading.LineFault.TheVariants.{TooLong, NotAscii, Missing, UnknownGate, UnknownSignal, WrongCount, BadValue, BadTo}
 use Rattle.sdl_signal.specs.Names.{Lexicon, Declared, IsLexicon, IsName}
-use Rattle.sdl_signal.specs.Line.{space, LineFits, PidFits, ValueFits, pid_text, value_texts, to_part, to_texts, line_fields, line_text, ◌>>=◌}
+use Rattle.sdl_signal.specs.Line.{space, LineFits, PidFits, pid_text, value_texts, to_part, to_texts, line_fields, line_text, ◌>>=◌}
 use Rattle.sdl_signal.specs.Writing.{spaced}
-use Rattle.sdl_signal.specs.Reading.{fields, value_fields, to_field, line_signal, Fails, NamesFirst, PidNamesFirst, IsFirstNamed, HasDistinctNames, IsPidText}
-use Rattle.sdl_signal.proofs.Named.{first_is_one}
+use Rattle.sdl_signal.specs.Reading.{fields, value_fields, to_field}
 use Rattle.sdl_signal.proofs.Texts.{IsGraphic, IsWord, all_at, all_append, name_word, map_is}
-use Rattle.sdl_signal.proofs.ValueTexts.{length-value_texts, no_bad_value}
 use Rattle.sdl_signal.proofs.LineParts.{parts_with_to, parts_without_to}
-use Rattle.sdl_signal.proofs.Words.{IsValueWord, value_words, pid_word, pid_one, values_one}
-use Rattle.sdl_signal.proofs.Rules.{gate_known, signal_known, signal_is_known, count_right, value_good, at_and}
+use Rattle.sdl_signal.proofs.Words.{IsValueWord, value_words, pid_word}
 
 pub join-spaced : (f : List ℕ) (fs : List (List ℕ)) → join_with_byte space (f ∷ fs) ≡ f ++ spaced fs
 join-spaced f [] = sym (append-nil f)

@@ -1,19 +1,17 @@
 -- A line's text breaks no rule, and no other line has it.
-use Rattle.std.proofs.Common.{◌≡◌, ◌≢◌, ℕ, zero, suc, ◌+◌, ◌*◌, ◌-◌, ◌<◌, ◌≤◌, ◌⊎◌, List, [], ◌∷◌, ◌++◌, length, get_or, Option, Some, None, Ok, Err, Result, refl, sym, ap, ◌∙◌, subst, inl, inr, codes, option_map, slice_get, IfSome, IsSome, IfOk, IfErr, arith, length-append}
-use Rattle.std.specs.List.{AllByRecursion, Any, Contains}
+use Rattle.std.proofs.Common.{◌≡◌, ◌≢◌, ℕ, zero, suc, ◌+◌, ◌<◌, ◌≤◌, List, [], ◌∷◌, ◌++◌, length, get_or, Option, Some, None, Ok, Err, Result, refl, sym, ap, ◌∙◌, subst, inl, inr, option_map, slice_get, IfSome, IsSome, IfOk, IfErr, arith, length-append}
+use Rattle.std.specs.List.{AllByRecursion}
 use Rattle.std.specs.Option.{IsSomeAnd}
 use Rattle.std.proofs.lemmas.Option.{same_Some, none-some}
-use Rattle.sdl_signal.specs.declared.ids.GateId.{GateId}
 use Rattle.sdl_signal.specs.declared.values.Pid.{Pid}
-use Rattle.sdl_signal.specs.declared.values.Signal.{Signal}
 use Rattle.sdl_signal.specs.declared.values.Value.{Value}
 use Rattle.sdl_signal.specs.declared.values.EnvLine.{EnvLine}
 use Rattle.sdl_signal.specs.declared.reading.LineFault.{LineFault}
 use Rattle.sdl_signal.specs.declared.reading.LineFault.TheVariants.{TooLong, NotAscii, Missing, UnknownGate, UnknownSignal, WrongCount, BadValue, BadTo}
 use Rattle.sdl_signal.specs.Names.{Lexicon, Declared, IsLexicon}
-use Rattle.sdl_signal.specs.Line.{space, LineFits, PidFits, pid_text, to_part, value_text, value_texts, line_text}
+use Rattle.sdl_signal.specs.Line.{LineFits, PidFits, pid_text, to_part, value_text, value_texts, line_text}
 use Rattle.sdl_signal.specs.Writing.{spaced}
-use Rattle.sdl_signal.specs.Reading.{IsReading, fields, value_fields, to_field, line_signal, Fails, IsFirstFault, NamesFirst, PidNamesFirst, ValueNamesFirst, HasDistinctNames, IsPidText, HasBadValue}
+use Rattle.sdl_signal.specs.Reading.{IsReading, fields, line_signal, Fails, IsFirstFault, NamesFirst, PidNamesFirst, ValueNamesFirst, HasDistinctNames, IsPidText, HasBadValue}
 use Rattle.sdl_signal.specs.declared.values.Sort.{Sort}
 use Rattle.sdl_signal.specs.declared.values.Sort.TheVariants as sort
 use Rattle.sdl_signal.specs.declared.values.Pid.TheVariants as pid

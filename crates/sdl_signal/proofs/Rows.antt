@@ -1,5 +1,5 @@
 -- Worked lines, on the names of Echo.
-use Rattle.std.proofs.Common.{◌≡◌, ◌≢◌, ℕ, ap, zero, suc, get_or, ◌++◌, ◌+◌, ◌<◌, ◌≤◌, List, [], ◌∷◌, length, Some, None, refl, codes, arith, pos, inl, inr}
+use Rattle.std.proofs.Common.{◌≡◌, ℕ, ap, zero, suc, get_or, ◌++◌, ◌<◌, [], ◌∷◌, Some, None, refl, codes, arith, pos, inl, inr}
 use Rattle.std.specs.Fmt.{digits}
 use Rattle.sdl_signal.specs.declared.values.Sort.TheVariants as sort
 use Rattle.sdl_signal.specs.declared.values.Pid.TheVariants as pid

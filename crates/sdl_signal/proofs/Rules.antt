@@ -1,21 +1,20 @@
 -- The rules of a line in their order: which hold before a rule, and where each is broken.
-use Rattle.std.proofs.Common.{◌≡◌, ◌≢◌, ℕ, zero, suc, ◌+◌, ◌-◌, ◌<◌, ◌≤◌, ◌⊎◌, List, [], ◌∷◌, ◌++◌, length, get_or, map, take, drop, Option, Some, None, refl, sym, ap, ◌∙◌, subst, inl, inr, slice_get, option_map, option_and_then, arith, Bor}
-use Rattle.std.specs.List.{AllByRecursion, Contains, Any, join_with_byte}
+use Rattle.std.proofs.Common.{◌≡◌, ◌≢◌, ℕ, zero, suc, ◌+◌, ◌<◌, ◌≤◌, List, [], ◌∷◌, ◌++◌, length, get_or, map, take, drop, Option, Some, None, refl, sym, ap, ◌∙◌, subst, inl, inr, slice_get, option_map, option_and_then, arith, Bor}
+use Rattle.std.specs.List.{Contains, join_with_byte}
 use Rattle.std.specs.Option.{IsSomeAnd}
 use Rattle.std.proofs.lemmas.Bool.{cases_lt}
 use Rattle.std.proofs.lemmas.List.{length-take-le, length-map, take_all, take-append-drop}
 use Rattle.std.proofs.Math.ListN.{get_or-append, get_or-map}
 use Rattle.std.proofs.lemmas.List.Splits.{join_with_byte-slice_split}
-use Rattle.std.proofs.lemmas.Option.{slice_get-get_or, slice_get_within, get_or_from_slice_get, same_Some, none-some}
-use Rattle.std.proofs.lemmas.Iterator.Adapters.{option_map_id}
+use Rattle.std.proofs.lemmas.Option.{slice_get-get_or, get_or_from_slice_get, none-some}
 use Rattle.sdl_signal.specs.declared.reading.LineFault.{LineFault}
 use Rattle.sdl_signal.specs.declared.reading.LineFault.TheVariants.{TooLong, NotAscii, Missing, UnknownGate, UnknownSignal, WrongCount, BadValue, BadTo}
 use Rattle.sdl_signal.specs.Names.{Lexicon, Declared}
-use Rattle.sdl_signal.specs.Reading.{Fails, IsFirstFault, Passes, IsNamedAt, IsNowhere, HasBadValue, IsPidText, fields, line_signal, signal_named, value_fields, to_field, rule_number}
+use Rattle.sdl_signal.specs.Reading.{Fails, Passes, IsNamedAt, IsNowhere, HasBadValue, fields, line_signal, signal_named, value_fields, to_field, rule_number}
 use Rattle.sdl_signal.proofs.Named.{find_named, find_nowhere, nowhere_not_in, contains_at}
 use Rattle.sdl_signal.proofs.LineParts.{nine_are_many, parts_are_whole}
 use Rattle.sdl_signal.specs.declared.values.EnvLine.{EnvLine}
-use Rattle.sdl_signal.specs.Line.{space, line_text, line_fields, value_texts, to_texts, to_part, ◌>>=◌}
+use Rattle.sdl_signal.specs.Line.{space, line_text, value_texts, to_texts, to_part, ◌>>=◌}
 
 rule_at : ℕ → LineFault
 rule_at (suc (suc zero)) = NotAscii

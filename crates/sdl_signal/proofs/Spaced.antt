@@ -1,8 +1,8 @@
 -- The texts of values, as they are appended to a line.
-use Rattle.std.proofs.Common.{◌≡◌, ℕ, zero, suc, ◌+◌, ◌<◌, ◌≤◌, List, [], ◌∷◌, ◌++◌, length, get_or, map, take, Option, Some, None, refl, sym, ap, ◌∙◌, subst, IsSome, IfSome, unwrap_or, arith, append-nil, append_assoc}
+use Rattle.std.proofs.Common.{◌≡◌, ℕ, zero, suc, ◌+◌, ◌<◌, List, [], ◌∷◌, ◌++◌, length, get_or, map, take, Option, Some, None, refl, sym, ap, ◌∙◌, subst, IsSome, IfSome, unwrap_or, arith, append-nil, append_assoc}
 use Rattle.std.specs.List.{join_with_byte}
 use Rattle.std.proofs.lemmas.List.{take_more}
-use Rattle.std.proofs.lemmas.Option.{same_Some, none-some}
+use Rattle.std.proofs.lemmas.Option.{none-some}
 use Rattle.std.proofs.lemmas.Bool.{false≢true}
 use Rattle.sdl_signal.specs.declared.values.Sort.{Sort}
 use Rattle.sdl_signal.specs.declared.values.Sort.TheVariants as sort
@@ -11,7 +11,7 @@ use Rattle.sdl_signal.specs.declared.values.Value.TheVariants as value
 use Rattle.sdl_signal.specs.Names.{Lexicon}
 use Rattle.sdl_signal.specs.Line.{space, value_text, value_texts}
 use Rattle.sdl_signal.specs.Writing.{sort_of, spaced}
-use Rattle.sdl_signal.proofs.ValueTexts.{texts_of_cons, length-value_texts}
+use Rattle.sdl_signal.proofs.ValueTexts.{texts_of_cons}
 use Rattle.sdl_signal.proofs.LineText.{spaced-append, join-spaced}
 
 pub some_of : {A : Type 0} (o : Option A) (d : A) → IsSome o → o ≡ Some (unwrap_or o d)

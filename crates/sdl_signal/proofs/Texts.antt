@@ -1,31 +1,23 @@
 -- The texts of names and values: what bytes they have, how long they are, and that each tells its value.
-use Rattle.std.proofs.Common.{◌≡◌, ◌≢◌, ℕ, zero, suc, ◌+◌, ◌*◌, ◌-◌, ◌^◌, ◌<◌, ◌≤◌, ℤ, pos, negsuc, Bool, true, false, cond, eqb, ◌==◌, ltb, leb, not, ◌&&◌, ◌||◌, ◌⊎◌, List, [], ◌∷◌, ◌++◌, length, get_or, take, drop, Option, Some, None, refl, sym, ap, ◌∙◌, subst, inl, inr, codes, decimal, bytes_eq, arith, length-append, add-one, drop-cons}
+use Rattle.std.proofs.Common.{◌≡◌, ◌≢◌, ℕ, zero, suc, ◌+◌, ◌^◌, ◌<◌, ◌≤◌, Bool, true, false, cond, eqb, ◌==◌, ltb, leb, not, ◌&&◌, List, [], ◌∷◌, ◌++◌, length, get_or, take, drop, Option, Some, None, refl, sym, ap, ◌∙◌, subst, codes, decimal, bytes_eq, arith, add-one, drop-cons}
 use Rattle.std.specs.List.{position, position_from, slice_get, list_all, AllByRecursion}
 use Rattle.std.specs.Option.{option_map}
-use Rattle.std.specs.Fmt.{signed_decimal}
 use Rattle.std.specs.Str.Parse.{AllDigits}
 use Rattle.std.proofs.lemmas.Str.Parse.{digit_from_value}
-use Rattle.std.proofs.lemmas.Fmt.{decimal_is_IsNumeral, decimal_injective, signed_decimal_injective, length-decimal-le, length_signed_le}
+use Rattle.std.proofs.lemmas.Fmt.{decimal_is_IsNumeral, length-decimal-le}
 use Rattle.std.proofs.lemmas.Bool.{false≢true}
 use Rattle.std.proofs.lemmas.Bool.Decides.{nat_tests}
 use Rattle.std.proofs.lemmas.Option.{same_Some, none-some}
 use Rattle.std.proofs.lemmas.Iterator.Adapters.{option_map_id, position_from-zero}
 use Rattle.sdl_signal.specs.declared.ids.SetId.{SetId}
-use Rattle.sdl_signal.specs.declared.values.Sort.{Sort}
-use Rattle.sdl_signal.specs.declared.values.Sort.TheVariants as sort
-use Rattle.sdl_signal.specs.declared.values.Pid.{Pid}
 use Rattle.sdl_signal.specs.declared.values.Pid.TheVariants as pid
-use Rattle.sdl_signal.specs.declared.values.Value.{Value}
-use Rattle.sdl_signal.specs.declared.values.Value.TheVariants as value
-use Rattle.sdl_signal.specs.Names.{Lexicon, IsLexicon, IsName, is_name, is_name_byte, is_letter, is_spelled}
-use Rattle.sdl_signal.specs.Line.{colon, PidFits, ValueFits, pid_text, value_text}
+use Rattle.sdl_signal.specs.Names.{Lexicon, IsLexicon, IsName, is_name_byte, is_letter, is_spelled}
+use Rattle.sdl_signal.specs.Line.{colon, pid_text}
 use Rattle.std.proofs.lemmas.List.{take-append-drop}
 use Rattle.std.proofs.lemmas.List.Quantifiers.{position-Some}
 use Rattle.std.proofs.lemmas.Bool.Decides.{Decides-eqb}
 use Rattle.std.proofs.Math.Seq.{take-append_seam, drop-append-add}
-use Rattle.sdl_signal.specs.Reading.{IsNowhere, IsPidText, IsFirstNamed, PidNamesFirst, ValueNamesFirst}
-use Rattle.sdl_signal.proofs.Named.{first_is_one}
-use Rattle.sdl_signal.proofs.Numbers.{mag_of_integer}
+use Rattle.sdl_signal.specs.Reading.{IsNowhere, IsPidText}
 
 -- a byte that can be seen
 abbrev pub IsGraphic : ℕ → Type 0

@@ -1,13 +1,11 @@
 -- The texts of values as fields: how long they are, what bytes they have, and that each tells its value.
-use Rattle.std.proofs.Common.{◌≡◌, ◌≢◌, ℕ, zero, suc, ◌+◌, ◌*◌, ◌-◌, ◌^◌, ◌<◌, ◌≤◌, ℤ, pos, negsuc, Bool, true, false, List, [], ◌∷◌, ◌++◌, length, get_or, Option, Some, None, refl, sym, ap, ◌∙◌, subst, codes, decimal, option_map, slice_get, IfSome, arith, length-append}
+use Rattle.std.proofs.Common.{◌≡◌, ◌≢◌, ℕ, suc, ◌^◌, ◌<◌, ◌≤◌, ℤ, pos, negsuc, Bool, true, false, List, [], ◌∷◌, ◌++◌, length, get_or, Some, refl, sym, ap, ◌∙◌, subst, codes, decimal, option_map, arith, length-append}
 use Rattle.std.specs.List.{AllByRecursion}
 use Rattle.std.specs.Fmt.{signed_decimal}
 use Rattle.std.specs.Str.Parse.{AllDigits}
 use Rattle.std.proofs.lemmas.Str.Parse.{digit_from_value}
-use Rattle.std.proofs.lemmas.Fmt.{decimal_is_IsNumeral, decimal_injective, signed_decimal_injective, length_signed_le}
-use Rattle.std.proofs.lemmas.Bool.{false≢true}
+use Rattle.std.proofs.lemmas.Fmt.{decimal_is_IsNumeral, decimal_injective, signed_decimal_injective}
 use Rattle.std.proofs.lemmas.Option.{same_Some, none-some}
-use Rattle.std.proofs.lemmas.Iterator.Adapters.{option_map_id}
 use Rattle.sdl_signal.specs.declared.ids.SetId.{SetId}
 use Rattle.sdl_signal.specs.declared.values.Sort.{Sort}
 use Rattle.sdl_signal.specs.declared.values.Sort.TheVariants as sort
@@ -20,7 +18,7 @@ use Rattle.sdl_signal.specs.Line.{colon, PidFits, ValueFits, IsInteger, pid_text
 use Rattle.sdl_signal.specs.Reading.{PidNamesFirst, ValueNamesFirst}
 use Rattle.sdl_signal.proofs.Named.{first_is_one}
 use Rattle.sdl_signal.proofs.Numbers.{mag_of_integer}
-use Rattle.sdl_signal.proofs.Texts.{IsGraphic, IsPlain, IsWord, IsPlainWord, IsInstText, inst_text, inst_is_not_plain, set_is_plain, plain_decimal, plain_digits, seen_of_plain, word_of_plain, one_colon, null_is_plain, env_is_plain, to_is_plain, all_append}
+use Rattle.sdl_signal.proofs.Texts.{IsGraphic, IsPlain, IsWord, IsPlainWord, IsInstText, inst_text, inst_is_not_plain, set_is_plain, plain_decimal, seen_of_plain, word_of_plain, one_colon, null_is_plain, env_is_plain, to_is_plain, all_append}
 use Rattle.sdl_signal.proofs.ValueTexts.{texts_of_cons}
 
 -- a field of a value: 1 to 43 bytes that can be seen, and not `to`

@@ -1,18 +1,15 @@
 -- The text of a line of the environment: a gate, a signal, its parameters and an optional TO part, with one space between.
-use Rattle.std.specs.Prelude.{◌≡◌, ℕ, ◌^◌, ◌-◌, ◌<◌, ◌≤ℤ◌, ℤ, pos, negsuc, Bool, true, false, nat_lt, if◌then◌else◌, List, [], ◌∷◌, ◌++◌, Option, Some, None, option_map, option_and_then, codes, decimal, slice_get, IfSome, ⊤}
+use Rattle.std.specs.Prelude.{ℕ, ◌^◌, ◌-◌, ◌<◌, ◌≤ℤ◌, ℤ, pos, negsuc, nat_lt, if◌then◌else◌, List, [], ◌∷◌, ◌++◌, Option, Some, None, option_map, option_and_then, codes, decimal, slice_get, IfSome, ⊤}
 use Rattle.std.specs.List.{join_with_byte, AllByRecursion}
 use Rattle.std.specs.Fmt.{signed_decimal}
-use Rattle.sdl_signal.specs.declared.ids.SignalId.{SignalId}
-use Rattle.sdl_signal.specs.declared.ids.GateId.{GateId}
 use Rattle.sdl_signal.specs.declared.values.Sort.{Sort}
 use Rattle.sdl_signal.specs.declared.values.Sort.TheVariants as sort
 use Rattle.sdl_signal.specs.declared.values.Pid.{Pid}
 use Rattle.sdl_signal.specs.declared.values.Pid.TheVariants as pid
 use Rattle.sdl_signal.specs.declared.values.Value.{Value}
 use Rattle.sdl_signal.specs.declared.values.Value.TheVariants as value
-use Rattle.sdl_signal.specs.declared.values.Signal.{Signal}
 use Rattle.sdl_signal.specs.declared.values.EnvLine.{EnvLine}
-use Rattle.sdl_signal.specs.Names.{Lexicon, Declared}
+use Rattle.sdl_signal.specs.Names.{Lexicon}
 
 abbrev pub space : ℕ
 space = 32

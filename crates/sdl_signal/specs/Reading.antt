@@ -1,5 +1,5 @@
 -- The rules by which a line is read, in their order.
-use Rattle.std.specs.Prelude.{◌≡◌, ◌≢◌, Result, IfOk, IfErr, ℕ, ◌-◌, ◌<◌, ◌⊎◌, Bool, ◌&&◌, nat_lt, ◌==◌, if◌then◌else◌, List, [], ◌∷◌, length, take, drop, Option, Some, None, option_map, option_and_then, IsSomeAnd, slice_get, slice_index_or, codes, bytes_eq, find, Any, Contains, IfSome, ⊤}
+use Rattle.std.specs.Prelude.{◌≡◌, ◌≢◌, Result, IfOk, IfErr, ℕ, ◌-◌, ◌<◌, ◌⊎◌, Bool, ◌&&◌, nat_lt, ◌==◌, if◌then◌else◌, List, [], ◌∷◌, length, take, drop, Option, Some, None, option_map, IsSomeAnd, slice_get, slice_index_or, codes, bytes_eq, find, Any, Contains, IfSome, ⊤}
 use Rattle.std.specs.List.{slice_split, AllByRecursion}
 use Rattle.sdl_signal.specs.declared.values.Sort.{Sort}
 use Rattle.sdl_signal.specs.declared.values.Pid.{Pid}

@@ -14,6 +14,10 @@ pub record Source : Type 0 where
   pub ahead : List ℕ
   pub ended : Option Ended
 
+-- among the bytes are those of a whole line, or the first 321 of one
+abbrev pub HoldsLine : List ℕ → Type 0
+HoldsLine ahead = ¬ (HasNoNewline ahead × (length ahead ≤ 320))
+
 -- what a source that ended answers for ever
 abbrev pub last_answer : Ended → LineRead
 last_answer ended.Over = reads.Over

@@ -1,7 +1,7 @@
 //! The lines of an input.
 ghost use Rattle.std.specs.Prelude.{◌≡◌, ◌≢◌, ◌≤◌, ◌<◌, ◌+◌, ℕ, [], ◌∷◌, ◌++◌, length, take, drop, Some, None, IfSome, IfNone, slice_index};
 ghost use Rattle.sdl_signal.specs.Bytes.{newline, HasNoNewline};
-ghost use Rattle.sdl_signal.specs.Source.{IsNextLine, IsWaitingLine, IsLastLine, last_answer, to_come};
+ghost use Rattle.sdl_signal.specs.Source.{HoldsLine, IsNextLine, IsWaitingLine, IsLastLine, last_answer, to_come};
 
 use crate::ahead::{Ahead, BlockRead};
 use crate::reading::LONGEST_LINE;
@@ -56,11 +56,12 @@ impl LineSource {
         }
     }
 
-    /// The next line. After any other answer it is the same for ever. Where the input has ended, nothing more
-    /// is read.
+    /// The next line. After any other answer it is the same for ever. Where the input has ended, and where a whole line or
+    /// 321 bytes of one wait, nothing more is read.
     pub fn next<R: Read>(&mut self, input: &mut R) -> LineRead
         ensures next { self.old.ended ≡ None
             → IsNextLine (to_come self.old (R.remaining input.old)) (to_come self.new (R.remaining input.new)) self.new result }
+        ensures unread { self.old.ended ≡ None → HoldsLine self.old.ahead → input.new ≡ input.old }
         ensures ended { (e : _) → self.old.ended ≡ Some e
             → (result ≡ last_answer e) × (self.new ≡ self.old) × (input.new ≡ input.old) }
     {
@@ -74,7 +75,8 @@ impl LineSource {
 
     fn next_open<R: Read>(&mut self, input: &mut R) -> LineRead
         requires { self.old.ended ≡ None }
-        ensures { IsNextLine (to_come self.old (R.remaining input.old)) (to_come self.new (R.remaining input.new)) self.new result }
+        ensures unread { HoldsLine self.old.ahead → input.new ≡ input.old }
+        ensures next { IsNextLine (to_come self.old (R.remaining input.old)) (to_come self.new (R.remaining input.new)) self.new result }
     {
         loop {
             if let Some(read) = self.waiting_line() {

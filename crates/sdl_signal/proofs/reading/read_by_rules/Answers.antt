@@ -1,9 +1,9 @@
-use Rattle.std.proofs.Common.{◌≡◌, ◌≢◌, ℕ, ◌≤◌, ◌<◌, List, [], length, get_or, map, take, Some, None, option_map, slice_get, sym, ap, ◌∙◌, subst, arith, Bor}
+use Rattle.std.proofs.Common.{◌≡◌, ◌≢◌, ℕ, ◌≤◌, List, [], length, get_or, map, take, Some, option_map, slice_get, sym, ap, ◌∙◌, subst, arith, Bor}
 use Rattle.std.proofs.lemmas.List.{length-map}
 use Rattle.std.proofs.lemmas.Iterator.Adapters.{option_map_id}
 use Rattle.sdl_signal.specs.Names.{Lexicon, Declared}
 use Rattle.sdl_signal.specs.Line.{value_texts, to_texts, to_part}
-use Rattle.sdl_signal.specs.Reading.{fields, line_signal, value_fields, to_field, Passes, HasBadValue, IsPidText}
+use Rattle.sdl_signal.specs.Reading.{fields, line_signal, value_fields, to_field, HasBadValue, IsPidText}
 use Rattle.sdl_signal.proofs.Rules.{field_is, gate_unknown, signal_unknown, signal_known, count_wrong, value_bad, passes_to_signals, passes_to_counts, passes_to_values, passes_to_to, kept_two, kept_all, kept_count, some_and_map, text_from_parts}
 use Rattle.sdl_signal.proofs.ValueTexts.{no_bad_value}
 use Rattle.sdl_signal.proofs.reading.read_by_rules.Goals as goal

@@ -1,4 +1,3 @@
-use Rattle.std.proofs.Common.{◌≡◌}
 use Rattle.sdl_signal.proofs.OneLine.{only_line, names_are_first, all_without_to}
 use Rattle.sdl_signal.proofs.reading.read_line.Goals as goal
 

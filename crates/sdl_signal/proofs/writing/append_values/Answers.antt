@@ -1,5 +1,5 @@
-use Rattle.std.proofs.Common.{◌≡◌, ◌≤◌, ◌<◌, ℕ, pos, List, [], ◌++◌, length, map, take, get_or, Some, unwrap_or, sym, ap, ◌∙◌, subst, refl, arith, length-append, ◌∷◌}
-use Rattle.std.proofs.lemmas.List.{length-map, take_all}
+use Rattle.std.proofs.Common.{◌≡◌, ◌<◌, ℕ, pos, List, [], ◌++◌, length, map, take, get_or, Some, unwrap_or, ap, ◌∙◌, refl, arith, length-append, ◌∷◌}
+use Rattle.std.proofs.lemmas.List.{take_all}
 use Rattle.sdl_signal.specs.declared.values.Value.TheVariants as value
 use Rattle.sdl_signal.specs.Line.{value_text, value_texts}
 use Rattle.sdl_signal.specs.Writing.{sort_of, spaced}

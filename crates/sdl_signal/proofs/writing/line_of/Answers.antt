@@ -1,9 +1,9 @@
-use Rattle.std.proofs.Common.{◌≡◌, ◌≤◌, ℕ, List, [], ◌∷◌, ◌++◌, length, map, take, Some, None, unwrap_or, refl, sym, ap, ◌∙◌, subst, slice_get, IsSome, arith, length-append, append-nil, append_assoc}
+use Rattle.std.proofs.Common.{◌≡◌, ℕ, List, [], ◌++◌, map, Some, None, unwrap_or, refl, sym, ap, ◌∙◌, slice_get, IsSome}
 use Rattle.std.proofs.lemmas.Option.{same_Some}
 use Rattle.sdl_signal.specs.declared.values.EnvLine.{EnvLine}
 use Rattle.sdl_signal.specs.declared.values.Value.{Value}
 use Rattle.sdl_signal.specs.Names.{Lexicon, Declared}
-use Rattle.sdl_signal.specs.Line.{space, value_texts, line_text}
+use Rattle.sdl_signal.specs.Line.{value_texts, line_text}
 use Rattle.sdl_signal.specs.Writing.{sort_of, spaced}
 use Rattle.sdl_signal.proofs.Spaced.{some_of, is_some_of, if_some_at, sorts_are, line_joined}
 use Rattle.sdl_signal.proofs.LineText.{AreParts, parts_of}

@@ -1,4 +1,4 @@
-use Rattle.std.proofs.Common.{◌≡◌, ◌+◌, ◌-◌, ◌≤◌, length, take, drop, ℕ, arith, min, sym, ap, ◌∙◌}
+use Rattle.std.proofs.Common.{◌+◌, ◌-◌, ◌≤◌, length, take, drop, arith, sym, ap, ◌∙◌}
 use Rattle.std.proofs.lemmas.List.{length-take}
 use Rattle.sdl_signal.proofs.Waiting.{drop-slice_range}
 use Rattle.sdl_signal.proofs.ahead.Ahead.consume.Goals as goal

@@ -1,4 +1,4 @@
-use Rattle.std.proofs.Common.{◌≡◌, ◌+◌, ◌<◌, List, ℕ, Option, Some, ap, sym, subst, ◌∙◌, arith}
+use Rattle.std.proofs.Common.{◌≡◌, ◌<◌, Some, ap, sym, subst, ◌∙◌, arith}
 use Rattle.sdl_signal.specs.Environment.{Reading, HasCarried, most_lines}
 use Rattle.sdl_signal.proofs.Carried.{carried_more, read_whole, read_fault, read_over, too_much_over, read_bad, too_much_line}
 use Rattle.sdl_signal.proofs.environment.EnvReader.next.Goals as goal

@@ -1,4 +1,4 @@
-use Rattle.std.proofs.Common.{◌≡◌, List, Some, None, sym, ap, ◌∙◌, subst, position, bytes_eq}
+use Rattle.std.proofs.Common.{◌≡◌, Some, None, sym, ap, ◌∙◌, subst, position, bytes_eq}
 use Rattle.arrayvec.specs.declared.array_string.ArrayString.{ArrayString}
 use Rattle.sdl_signal.specs.Reading.{IsNamedAt, IsNowhere}
 use Rattle.sdl_signal.proofs.Named.{named_from_position, nowhere_from_position, named_in_map, nowhere_in_map}

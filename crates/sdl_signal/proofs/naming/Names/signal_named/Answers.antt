@@ -1,4 +1,4 @@
-use Rattle.std.proofs.Common.{◌≡◌, List, Some, None, sym, ap, ◌∙◌, subst, position, bytes_eq}
+use Rattle.std.proofs.Common.{◌≡◌, Some, None, sym, ap, ◌∙◌, subst, position, bytes_eq}
 use Rattle.sdl_signal.specs.declared.naming.SignalEntry.{SignalEntry}
 use Rattle.sdl_signal.specs.Names.{Declared}
 use Rattle.sdl_signal.specs.Reading.{IsNamedAt, IsNowhere}

@@ -1,4 +1,4 @@
-use Rattle.std.proofs.Common.{◌≡◌, codes, rules}
+use Rattle.std.proofs.Common.{rules}
 use Rattle.sdl_signal.proofs.LineParts.{taken_values, taken_to}
 use Rattle.sdl_signal.proofs.reading.fields.parts.Goals as goal
 

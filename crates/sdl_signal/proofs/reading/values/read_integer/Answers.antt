@@ -1,4 +1,4 @@
-use Rattle.std.proofs.Common.{◌≡◌, ℤ, Ok, Err, sym, ap, ◌∙◌, subst}
+use Rattle.std.proofs.Common.{◌≡◌, sym, ◌∙◌}
 use Rattle.sdl_signal.proofs.Numbers.{integer_is_text, integer_parses, printed_integer}
 use Rattle.std.proofs.lemmas.Bool.{false≢true}
 use Rattle.sdl_signal.proofs.Named.{bytes_eq-same}

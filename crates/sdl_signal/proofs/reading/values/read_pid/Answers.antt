@@ -1,4 +1,4 @@
-use Rattle.std.proofs.Common.{◌≡◌, ◌≢◌, ◌+◌, codes, sym, ap, ◌∙◌, rules}
+use Rattle.std.proofs.Common.{◌≢◌, ◌+◌, codes, sym, ◌∙◌, rules}
 use Rattle.std.proofs.lemmas.List.{take_rest}
 use Rattle.sdl_signal.proofs.Texts.{no_pid_without_colon, no_pid_without_set, no_pid_without_serial, inst_from_parts}
 use Rattle.sdl_signal.proofs.reading.values.read_pid.Goals as goal

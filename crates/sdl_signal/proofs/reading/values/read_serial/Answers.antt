@@ -1,4 +1,4 @@
-use Rattle.std.proofs.Common.{◌≡◌, ℕ, Ok, Err, sym, ap, ◌∙◌, subst, decimal, arith}
+use Rattle.std.proofs.Common.{◌≡◌, sym, ap, ◌∙◌, decimal, arith}
 use Rattle.sdl_signal.proofs.Numbers.{serial_is_text, serial_parses}
 use Rattle.std.proofs.lemmas.Bool.{false≢true}
 use Rattle.sdl_signal.proofs.Named.{bytes_eq-same}

@@ -1,4 +1,4 @@
-use Rattle.std.proofs.Common.{◌≡◌, ◌≤◌, ◌+◌, ◌∷◌, ◌++◌, List, ℕ, length, take, drop, arith, refl, sym, ap, ◌∙◌, subst, None}
+use Rattle.std.proofs.Common.{◌≡◌, ◌≤◌, ◌+◌, ◌++◌, List, ℕ, length, take, drop, arith, refl, sym, ap, ◌∙◌, subst, None}
 use Rattle.std.proofs.lemmas.List.{length-take-le}
 use Rattle.sdl_signal.specs.Bytes.{HasNoNewline, BeginsTooLong, ended_line}
 use Rattle.sdl_signal.proofs.Waiting.{first_line, no_line_yet, too_long_line}
