@@ -5,12 +5,12 @@ use Rattle.sdl_signal.specs.declared.ids.StateId.{StateId}
 use Rattle.sdl_signal.specs.declared.values.Sort.{Sort}
 use Rattle.sdl_signal.specs.declared.values.Sort.TheVariants as sort
 use Rattle.sdl_routes.specs.declared.parts.Via.TheVariants as via
-use Rattle.sdl_transition.specs.declared.step.Frame.{Frame}
-use Rattle.sdl_transition.specs.declared.step.Step.{Step}
-use Rattle.sdl_transition.specs.declared.offer.SignalSorts.{SignalSorts}
-use Rattle.sdl_transition.specs.declared.offer.OfferedOutput.{OfferedOutput}
-use Rattle.sdl_transition.specs.declared.offer.Offer.{Offer}
-use Rattle.sdl_transition.specs.Offers.{IsFrameOf, Conforms}
+use Rattle.sdl_behaviour.specs.declared.step.Frame.{Frame}
+use Rattle.sdl_behaviour.specs.declared.step.Step.{Step}
+use Rattle.sdl_behaviour.specs.declared.offer.SignalSorts.{SignalSorts}
+use Rattle.sdl_behaviour.specs.declared.offer.OfferedOutput.{OfferedOutput}
+use Rattle.sdl_behaviour.specs.declared.offer.Offer.{Offer}
+use Rattle.sdl_behaviour.specs.Offers.{IsFrameOf, Conforms}
 
 -- a start is for no state, and a row for idle
 abbrev pub state_for : Option SignalSorts → Option StateId

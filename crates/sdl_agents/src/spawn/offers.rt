@@ -8,7 +8,7 @@ use crate::offers::{
     idle_offer, no_sorts, on, one_create, one_integer, one_output, one_pid, pid_and_integer,
 };
 use arrayvec::ArrayVec;
-use sdl_transition::Offer;
+use sdl_behaviour::Offer;
 
 /// The offer of the row for `make`.
 pub fn make_offer(sets: u32) -> Offer
