@@ -9,15 +9,15 @@ use Rattle.sdl_signal.specs.declared.values.Sort.TheVariants as sort
 use Rattle.sdl_signal.specs.declared.values.Pid.{Pid}
 use Rattle.sdl_signal.specs.declared.values.Value.{Value}
 use Rattle.sdl_signal.specs.declared.values.Value.TheVariants as value
-use Rattle.sdl_transition.specs.declared.step.Dest.{Dest}
-use Rattle.sdl_transition.specs.declared.step.Dest.TheVariants as dest
-use Rattle.sdl_transition.specs.declared.step.Action.TheVariants.{Create}
-use Rattle.sdl_transition.specs.declared.step.Frame.{Frame}
-use Rattle.sdl_transition.specs.declared.step.Step.{Step}
-use Rattle.sdl_transition.specs.declared.offer.Offer.{Offer}
-use Rattle.sdl_transition.specs.declared.offer.OfferedOutput.{OfferedOutput}
-use Rattle.sdl_transition.specs.declared.offer.SignalSorts.{SignalSorts}
-use Rattle.sdl_transition.specs.Offers.{IsFrameOf, Conforms, IsActionOf, IsLegalValue, IsLegalPid, IsLegalDest, IsTriggerOf, AreOfSorts}
+use Rattle.sdl_behaviour.specs.declared.step.Dest.{Dest}
+use Rattle.sdl_behaviour.specs.declared.step.Dest.TheVariants as dest
+use Rattle.sdl_behaviour.specs.declared.step.Action.TheVariants.{Create}
+use Rattle.sdl_behaviour.specs.declared.step.Frame.{Frame}
+use Rattle.sdl_behaviour.specs.declared.step.Step.{Step}
+use Rattle.sdl_behaviour.specs.declared.offer.Offer.{Offer}
+use Rattle.sdl_behaviour.specs.declared.offer.OfferedOutput.{OfferedOutput}
+use Rattle.sdl_behaviour.specs.declared.offer.SignalSorts.{SignalSorts}
+use Rattle.sdl_behaviour.specs.Offers.{IsFrameOf, Conforms, IsActionOf, IsLegalValue, IsLegalPid, IsLegalDest, IsTriggerOf, AreOfSorts}
 use Rattle.sdl_agents.specs.Tables.{LeadsToIdle, Stops, output, output_integer, values_of, forwarded_values, made, killed, replied, answered, born, passed_on, next_token}
 use Rattle.sdl_agents.specs.Offered.{IsMakeOffer, IsKillOffer, Offers, OffersOne, OffersStop, offered}
 

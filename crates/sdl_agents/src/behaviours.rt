@@ -2,11 +2,11 @@
 ghost use Rattle.std.specs.Prelude.{◌≡◌, ◌+◌, ◌<◌, ◌≤◌, length, IfOk, vec_len};
 ghost use Rattle.std.specs.List.{AllByRecursion};
 ghost use Rattle.sdl_signal.specs.Names.{IsName};
-ghost use Rattle.sdl_transition.specs.Transitions.{IsAllowed, IsAllowedBehaviour};
+ghost use Rattle.sdl_behaviour.specs.Transitions.{IsAllowed, IsAllowedBehaviour};
 
 use arrayvec::ArrayVec;
+use sdl_behaviour::{Agents, Behaviour, Kind, Named, Row, Transition};
 use sdl_signal::{Name, SetId, SignalId, StateId, name};
-use sdl_transition::{Agents, Behaviour, Kind, Named, Row, Transition};
 use std::alloc::{AllocError, Global};
 
 /// A number that a behaviour uses, with the name that it means by it.

@@ -1,13 +1,13 @@
 //! Echo: E answers `ping(n)` with `pong(n)`.
-ghost use Rattle.sdl_transition.specs.Transitions.{IsAllowed};
+ghost use Rattle.sdl_behaviour.specs.Transitions.{IsAllowed};
 ghost use Rattle.sdl_agents.specs.Tables.{EchoMay};
 
 use crate::behaviours::{Use, with_one_row};
 use crate::offers::{forward_offer, start_offer};
 use crate::runner::Runner;
 use crate::steps::{begin, forward};
+use sdl_behaviour::{Agents, Frame, Kind, Run, Transition};
 use sdl_signal::{SetId, SignalId};
-use sdl_transition::{Agents, Frame, Kind, Run, Transition};
 use std::alloc::{AllocError, Global};
 
 /// The agents of Echo.

@@ -5,9 +5,9 @@ ghost use Rattle.sdl_routes.specs.declared.parts.Via.TheVariants as via;
 ghost use Rattle.sdl_agents.specs.Offered.{IsIdleOffer, Offers, OffersOne, sorted, offered};
 
 use arrayvec::ArrayVec;
+use sdl_behaviour::{Offer, OfferedOutput, SignalSorts};
 use sdl_routes::Via;
 use sdl_signal::{SetId, SignalId, Sort, StateId};
-use sdl_transition::{Offer, OfferedOutput, SignalSorts};
 
 pub fn no_sorts() -> ArrayVec<Sort, 4>
     ensures { result.items ≡ [] }

@@ -1,7 +1,7 @@
 //! Ring: X and Y pass a token round, which counts its steps.
 ghost use Rattle.std.specs.Prelude.{◌≡◌, None, [], ◌∷◌, pos};
 ghost use Rattle.sdl_signal.specs.declared.values.Sort.TheVariants as sort;
-ghost use Rattle.sdl_transition.specs.Transitions.{IsAllowed};
+ghost use Rattle.sdl_behaviour.specs.Transitions.{IsAllowed};
 ghost use Rattle.sdl_agents.specs.Tables.{RingMay, LeadsToIdle, output_integer, passed_on, values_of, next_token};
 ghost use Rattle.sdl_agents.specs.Offered.{IsIdleOffer, Keeps, KeepsTo, OffersOne, offered};
 
@@ -10,8 +10,8 @@ use crate::offers::{forward_offer, idle_offer, one_integer, one_output, start_of
 use crate::runner::Runner;
 use crate::steps::{begin, idle, send_integer, values};
 use arrayvec::ArrayVec;
+use sdl_behaviour::{Agents, Frame, Kind, Offer, Run, Step, Transition};
 use sdl_signal::{SetId, SignalId, Value};
-use sdl_transition::{Agents, Frame, Kind, Offer, Run, Step, Transition};
 use std::alloc::{AllocError, Global};
 
 /// The token.

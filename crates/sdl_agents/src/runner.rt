@@ -1,8 +1,8 @@
 //! Who runs a system.
 ghost use Rattle.std.specs.List.{AllByRecursion};
-ghost use Rattle.sdl_transition.specs.Transitions.{IsAllowedBehaviour};
+ghost use Rattle.sdl_behaviour.specs.Transitions.{IsAllowedBehaviour};
 
-use sdl_transition::{Agents, Behaviour};
+use sdl_behaviour::{Agents, Behaviour};
 
 /// What is done with the behaviours of a system, once they are made: they are bound to a structure and run, or whatever
 /// else. A function that makes closures can't hand them out, so the behaviours are handed to a runner in place of being

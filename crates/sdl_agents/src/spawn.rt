@@ -1,6 +1,6 @@
 //! Spawn: a Boss that makes Kids, kills them and answers their queries.
 ghost use Rattle.std.specs.Prelude.{IfOk};
-ghost use Rattle.sdl_transition.specs.Transitions.{IsAllowed, IsAllowedBehaviour};
+ghost use Rattle.sdl_behaviour.specs.Transitions.{IsAllowed, IsAllowedBehaviour};
 ghost use Rattle.sdl_agents.specs.Tables.{SpawnMay};
 ghost use Rattle.sdl_agents.specs.Stored.{IsAllowedBoss, IsAllowedKid};
 
@@ -12,8 +12,8 @@ use crate::offers::{forward_offer, start_offer};
 use crate::runner::Runner;
 use crate::steps::{begin, forward};
 use offers::{answer_offer, birth_offer, die_offer, kill_offer, make_offer};
+use sdl_behaviour::{Agents, Behaviour, Frame, Kind, Run, Transition};
 use sdl_signal::{SetId, SignalId};
-use sdl_transition::{Agents, Behaviour, Frame, Kind, Run, Transition};
 use std::alloc::{AllocError, Global};
 use steps::{kill, make, reply, stop, tell_answer, tell_birth};
 

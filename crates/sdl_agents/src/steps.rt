@@ -5,9 +5,9 @@ ghost use Rattle.sdl_agents.specs.Tables.{LeadsToIdle, output, output_integer, v
 ghost use Rattle.sdl_agents.specs.Offered.{KeepsTo, Offers, OffersOne};
 
 use arrayvec::ArrayVec;
+use sdl_behaviour::{Action, Dest, Frame, Next, Step};
 use sdl_routes::Via;
 use sdl_signal::{Signal, SignalId, StateId, Value};
-use sdl_transition::{Action, Dest, Frame, Next, Step};
 
 /// The step that does these actions.
 pub fn idle(actions: ArrayVec<Action, 8>) -> Step

@@ -16,8 +16,8 @@ use Rattle.sdl_routes.specs.declared.parts.Hop.{Hop}
 use Rattle.sdl_routes.specs.declared.parts.Row.{Row}
 use Rattle.sdl_routes.specs.declared.parts.Station.{Station}
 use Rattle.sdl_routes.specs.Routes.{EachOnce}
-use Rattle.sdl_transition.specs.declared.step.Frame.{Frame}
-use Rattle.sdl_transition.specs.declared.step.Step.{Step}
+use Rattle.sdl_behaviour.specs.declared.step.Frame.{Frame}
+use Rattle.sdl_behaviour.specs.declared.step.Step.{Step}
 use Rattle.sdl_instances.specs.declared.parts.ProcessSet.{ProcessSet}
 use Rattle.sdl_instances.specs.declared.event.Event.{Event}
 use Rattle.sdl_instances.specs.Machine.{State}

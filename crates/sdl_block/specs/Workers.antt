@@ -5,8 +5,8 @@ use Rattle.sdl_transition.specs.declared.parts.BlockParts.{BlockParts}
 use Rattle.sdl_instances.specs.Machine.{System}
 use Rattle.sdl_routes.specs.declared.parts.Station.{Station}
 use Rattle.sdl_signal.specs.declared.values.Item.{Item}
-use Rattle.sdl_transition.specs.declared.step.Frame.{Frame}
-use Rattle.sdl_transition.specs.declared.step.Step.{Step}
+use Rattle.sdl_behaviour.specs.declared.step.Frame.{Frame}
+use Rattle.sdl_behaviour.specs.declared.step.Step.{Step}
 use Rattle.sdl_instances.specs.Core.{IsSound, IsLegalIn}
 use Rattle.sdl_instances.specs.Cores.{core_of, parts_of, system_in, CanFire}
 use Rattle.sdl_forward.specs.Boards.{IsBoardOf}

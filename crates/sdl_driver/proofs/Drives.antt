@@ -8,8 +8,8 @@ use Rattle.sdl_parts.specs.declared.parts.Channel.{Channel}
 use Rattle.sdl_parts.specs.Structure.{Structure}
 use Rattle.sdl_routes.specs.declared.parts.Hop.{Hop}
 use Rattle.sdl_routes.specs.declared.parts.Row.{Row}
-use Rattle.sdl_transition.specs.declared.step.Frame.{Frame}
-use Rattle.sdl_transition.specs.declared.step.Step.{Step}
+use Rattle.sdl_behaviour.specs.declared.step.Frame.{Frame}
+use Rattle.sdl_behaviour.specs.declared.step.Step.{Step}
 use Rattle.sdl_transition.specs.Rules.{Rules, block_rules}
 use Rattle.sdl_instances.specs.Cores.{CanFire}
 use Rattle.sdl_forward.specs.Forwards.{Forwarding}

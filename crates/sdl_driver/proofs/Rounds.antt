@@ -4,8 +4,8 @@ use Rattle.std.proofs.lemmas.Bool.{cases_lt, false≢true}
 use Rattle.std.proofs.lemmas.Option.{slice_get_within}
 use Rattle.sdl_hand.specs.declared.hand.Stepped.{Stepped}
 use Rattle.sdl_driver.specs.declared.driver.Driver.{Driver}
-use Rattle.sdl_transition.specs.declared.step.Frame.{Frame}
-use Rattle.sdl_transition.specs.declared.step.Step.{Step}
+use Rattle.sdl_behaviour.specs.declared.step.Frame.{Frame}
+use Rattle.sdl_behaviour.specs.declared.step.Step.{Step}
 use Rattle.sdl_hand.specs.declared.hand.Stepped.TheVariants as stepped
 use Rattle.sdl_outcome.specs.Plan.{Plan, workers_of}
 use Rattle.sdl_order.specs.Driver.{Site, IsAtWork, IsIdle}

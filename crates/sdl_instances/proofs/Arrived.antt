@@ -1,8 +1,8 @@
 -- What an arrival that succeeded keeps.
 use Rattle.std.proofs.Common.{◌≡◌, ℕ, [], ◌∷◌, ◌++◌, Result, Ok, Err, IfOk}
 use Rattle.sdl_signal.specs.declared.values.Item.{Item}
-use Rattle.sdl_transition.specs.declared.step.Frame.{Frame}
-use Rattle.sdl_transition.specs.declared.step.Step.{Step}
+use Rattle.sdl_behaviour.specs.declared.step.Frame.{Frame}
+use Rattle.sdl_behaviour.specs.declared.step.Step.{Step}
 use Rattle.sdl_instances.specs.declared.event.Arrival.{Arrival}
 use Rattle.sdl_instances.specs.Machine.{System, Arrives}
 use Rattle.sdl_instances.specs.Core.{Core, IsSound, IsLegalIn, arrival_event}

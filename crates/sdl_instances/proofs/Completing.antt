@@ -5,10 +5,10 @@ use Rattle.sdl_signal.specs.declared.values.Pid.{Pid}
 use Rattle.sdl_signal.specs.declared.values.Value.{Value}
 use Rattle.sdl_signal.specs.declared.values.Item.{Item}
 use Rattle.sdl_routes.specs.declared.parts.Row.{Row}
-use Rattle.sdl_transition.specs.declared.step.Frame.{Frame}
-use Rattle.sdl_transition.specs.declared.step.Step.{Step}
-use Rattle.sdl_transition.specs.declared.step.Next.{Next}
-use Rattle.sdl_transition.specs.declared.step.Next.TheVariants as next_is
+use Rattle.sdl_behaviour.specs.declared.step.Frame.{Frame}
+use Rattle.sdl_behaviour.specs.declared.step.Step.{Step}
+use Rattle.sdl_behaviour.specs.declared.step.Next.{Next}
+use Rattle.sdl_behaviour.specs.declared.step.Next.TheVariants as next_is
 use Rattle.sdl_transition.specs.Rules.{Rules}
 use Rattle.sdl_instances.specs.declared.event.Done.{Done}
 use Rattle.sdl_instances.specs.declared.event.Event.TheVariants as event

@@ -13,11 +13,11 @@ use Rattle.sdl_signal.specs.declared.values.Pid.TheVariants as pid
 use Rattle.sdl_parts.specs.declared.parts.Set.{Set}
 use Rattle.sdl_parts.specs.declared.parts.SignalDecl.{SignalDecl}
 use Rattle.sdl_parts.specs.Structure.{Structure, set_at}
-use Rattle.sdl_transition.specs.declared.behaviour.Named.{Named}
-use Rattle.sdl_transition.specs.declared.behaviour.Row.{Row}
-use Rattle.sdl_transition.specs.declared.offer.Offer.{Offer}
-use Rattle.sdl_transition.specs.declared.offer.OfferedOutput.{OfferedOutput}
-use Rattle.sdl_transition.specs.declared.offer.SignalSorts.{SignalSorts}
+use Rattle.sdl_behaviour.specs.declared.behaviour.Named.{Named}
+use Rattle.sdl_behaviour.specs.declared.behaviour.Row.{Row}
+use Rattle.sdl_behaviour.specs.declared.offer.Offer.{Offer}
+use Rattle.sdl_behaviour.specs.declared.offer.OfferedOutput.{OfferedOutput}
+use Rattle.sdl_behaviour.specs.declared.offer.SignalSorts.{SignalSorts}
 use Rattle.sdl_transition.specs.Offers.{sort_of, IsLegalValue}
 use Rattle.sdl_transition.specs.Declarations.{DeclaredRow, declared_row, HasOne}
 use Rattle.sdl_transition.specs.Faults.{HasUnusedNumber, IsForStart, IsForRow, IsSetPid, HasItsSorts, HasOtherSignal, HasOtherSorts, IsInBlockOf, OffersCreateElsewhere}

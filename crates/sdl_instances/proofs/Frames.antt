@@ -10,8 +10,8 @@ use Rattle.sdl_signal.specs.declared.values.Pid.{Pid}
 use Rattle.sdl_signal.specs.declared.values.Pid.TheVariants as pid
 use Rattle.sdl_signal.specs.declared.values.Signal.{Signal}
 use Rattle.sdl_signal.specs.declared.values.Item.{Item}
-use Rattle.sdl_transition.specs.declared.offer.Offer.{Offer}
-use Rattle.sdl_transition.specs.declared.offer.SignalSorts.{SignalSorts}
+use Rattle.sdl_behaviour.specs.declared.offer.Offer.{Offer}
+use Rattle.sdl_behaviour.specs.declared.offer.SignalSorts.{SignalSorts}
 use Rattle.sdl_transition.specs.Offers.{sort_of, IsLegalPid, IsTriggerOf, IsFrameOf}
 use Rattle.sdl_instances.specs.Record.{Record}
 use Rattle.sdl_transition.specs.Rules.{Rule, RowRule, Rules, row_for}

@@ -13,14 +13,14 @@ use Rattle.sdl_signal.specs.declared.values.Value.{Value}
 use Rattle.sdl_signal.specs.declared.values.Signal.{Signal}
 use Rattle.sdl_signal.specs.declared.values.Item.{Item}
 use Rattle.sdl_routes.specs.declared.parts.Via.{Via}
-use Rattle.sdl_transition.specs.declared.step.Frame.{Frame}
-use Rattle.sdl_transition.specs.declared.step.Step.{Step}
-use Rattle.sdl_transition.specs.declared.step.Dest.{Dest}
-use Rattle.sdl_transition.specs.declared.step.Dest.TheVariants as dest
-use Rattle.sdl_transition.specs.declared.step.Action.{Action}
-use Rattle.sdl_transition.specs.declared.step.Action.TheVariants as action
-use Rattle.sdl_transition.specs.declared.offer.Offer.{Offer}
-use Rattle.sdl_transition.specs.declared.offer.OfferedOutput.{OfferedOutput}
+use Rattle.sdl_behaviour.specs.declared.step.Frame.{Frame}
+use Rattle.sdl_behaviour.specs.declared.step.Step.{Step}
+use Rattle.sdl_behaviour.specs.declared.step.Dest.{Dest}
+use Rattle.sdl_behaviour.specs.declared.step.Dest.TheVariants as dest
+use Rattle.sdl_behaviour.specs.declared.step.Action.{Action}
+use Rattle.sdl_behaviour.specs.declared.step.Action.TheVariants as action
+use Rattle.sdl_behaviour.specs.declared.offer.Offer.{Offer}
+use Rattle.sdl_behaviour.specs.declared.offer.OfferedOutput.{OfferedOutput}
 use Rattle.sdl_transition.specs.Offers.{sort_of, IsLegalPid, IsLegalValue, IsLegalDest, IsOfferedAs, IsActionOf}
 use Rattle.sdl_instances.specs.Record.{Record}
 use Rattle.sdl_instances.specs.declared.event.Done.{Done}

@@ -9,8 +9,8 @@ use Rattle.sdl_signal.specs.declared.values.Pid.{Pid}
 use Rattle.sdl_signal.specs.declared.values.Pid.TheVariants as pid
 use Rattle.sdl_signal.specs.declared.values.Value.{Value}
 use Rattle.sdl_signal.specs.declared.values.Item.{Item}
-use Rattle.sdl_transition.specs.declared.step.Next.{Next}
-use Rattle.sdl_transition.specs.declared.step.Next.TheVariants as next_is
+use Rattle.sdl_behaviour.specs.declared.step.Next.{Next}
+use Rattle.sdl_behaviour.specs.declared.step.Next.TheVariants as next_is
 use Rattle.sdl_transition.specs.Offers.{sort_of, IsLegalPid, IsLegalValue}
 use Rattle.sdl_instances.specs.Record.{Record}
 use Rattle.sdl_transition.specs.Rules.{Rules}

@@ -1,8 +1,8 @@
 -- The system that a core works in stays the same.
 use Rattle.std.proofs.Common.{◌≡◌, ℕ, List, ap, sym, subst, ◌∙◌}
 use Rattle.sdl_routes.specs.declared.parts.Row.{Row}
-use Rattle.sdl_transition.specs.declared.step.Frame.{Frame}
-use Rattle.sdl_transition.specs.declared.step.Step.{Step}
+use Rattle.sdl_behaviour.specs.declared.step.Frame.{Frame}
+use Rattle.sdl_behaviour.specs.declared.step.Step.{Step}
 use Rattle.sdl_transition.specs.Rules.{Rules}
 use Rattle.sdl_instances.specs.Machine.{System}
 use Rattle.sdl_instances.specs.Core.{Core, IsSound, system_of}

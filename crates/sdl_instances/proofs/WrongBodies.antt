@@ -3,8 +3,8 @@ use Rattle.std.proofs.Common.{arith, ◌≡◌, ℕ, zero, suc, ◌+◌, ◌<◌
 use Rattle.sdl_signal.specs.declared.values.Pid.{Pid}
 use Rattle.sdl_signal.specs.declared.values.Pid.TheVariants as pid
 use Rattle.sdl_signal.specs.declared.values.Item.{Item}
-use Rattle.sdl_transition.specs.declared.step.Action.TheVariants as action
-use Rattle.sdl_transition.specs.declared.step.Frame.{Frame}
+use Rattle.sdl_behaviour.specs.declared.step.Action.TheVariants as action
+use Rattle.sdl_behaviour.specs.declared.step.Frame.{Frame}
 use Rattle.sdl_instances.specs.declared.event.Event.TheVariants as event
 use Rattle.sdl_instances.specs.declared.event.Cause.TheVariants as cause
 use Rattle.sdl_instances.specs.declared.event.Done.TheVariants as done

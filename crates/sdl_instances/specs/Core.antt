@@ -11,11 +11,11 @@ use Rattle.sdl_signal.specs.declared.values.Item.{Item}
 use Rattle.sdl_parts.specs.declared.parts.Set.{Set}
 use Rattle.sdl_parts.specs.Structure.{Structure}
 use Rattle.sdl_routes.specs.declared.parts.Row.{Row}
-use Rattle.sdl_transition.specs.declared.step.Frame.{Frame}
-use Rattle.sdl_transition.specs.declared.step.Step.{Step}
-use Rattle.sdl_transition.specs.declared.offer.Offer.{Offer}
-use Rattle.sdl_transition.specs.declared.offer.OfferedOutput.{OfferedOutput}
-use Rattle.sdl_transition.specs.declared.offer.SignalSorts.{SignalSorts}
+use Rattle.sdl_behaviour.specs.declared.step.Frame.{Frame}
+use Rattle.sdl_behaviour.specs.declared.step.Step.{Step}
+use Rattle.sdl_behaviour.specs.declared.offer.Offer.{Offer}
+use Rattle.sdl_behaviour.specs.declared.offer.OfferedOutput.{OfferedOutput}
+use Rattle.sdl_behaviour.specs.declared.offer.SignalSorts.{SignalSorts}
 use Rattle.sdl_transition.specs.Offers.{sort_of, IsLegalPid, IsLegalValue, AreOfSorts}
 use Rattle.sdl_instances.specs.declared.parts.ProcessSet.{ProcessSet}
 use Rattle.sdl_instances.specs.declared.event.Event.{Event}

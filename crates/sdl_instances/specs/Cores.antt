@@ -5,8 +5,8 @@ use Rattle.sdl_transition.specs.declared.parts.BlockParts.{BlockParts}
 use Rattle.sdl_instances.specs.declared.block.BlockCore.{BlockCore}
 use Rattle.sdl_transition.specs.Rules.{block_rules}
 use Rattle.sdl_instances.specs.Machine.{System}
-use Rattle.sdl_transition.specs.declared.step.Frame.{Frame}
-use Rattle.sdl_transition.specs.declared.step.Step.{Step}
+use Rattle.sdl_behaviour.specs.declared.step.Frame.{Frame}
+use Rattle.sdl_behaviour.specs.declared.step.Step.{Step}
 use Rattle.sdl_transition.specs.Transitions.{IsAllowedBehaviour}
 use Rattle.sdl_transition.specs.Index.{IsIndexed}
 use Rattle.sdl_instances.specs.Run.{turns}

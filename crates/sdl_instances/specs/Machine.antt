@@ -19,14 +19,14 @@ use Rattle.sdl_routes.specs.declared.parts.Wish.{Wish}
 use Rattle.sdl_signal.specs.declared.ids.RouteId.{RouteId}
 use Rattle.sdl_instances.specs.Legal.{Admits, GoesTo}
 use Rattle.sdl_routes.specs.Routes.{Fits, IsChoice}
-use Rattle.sdl_transition.specs.declared.step.Frame.{Frame}
-use Rattle.sdl_transition.specs.declared.step.Step.{Step}
-use Rattle.sdl_transition.specs.declared.step.Dest.{Dest}
-use Rattle.sdl_transition.specs.declared.step.Dest.TheVariants as dest
-use Rattle.sdl_transition.specs.declared.step.Action.{Action}
-use Rattle.sdl_transition.specs.declared.step.Action.TheVariants as action
-use Rattle.sdl_transition.specs.declared.step.Next.{Next}
-use Rattle.sdl_transition.specs.declared.step.Next.TheVariants as next_is
+use Rattle.sdl_behaviour.specs.declared.step.Frame.{Frame}
+use Rattle.sdl_behaviour.specs.declared.step.Step.{Step}
+use Rattle.sdl_behaviour.specs.declared.step.Dest.{Dest}
+use Rattle.sdl_behaviour.specs.declared.step.Dest.TheVariants as dest
+use Rattle.sdl_behaviour.specs.declared.step.Action.{Action}
+use Rattle.sdl_behaviour.specs.declared.step.Action.TheVariants as action
+use Rattle.sdl_behaviour.specs.declared.step.Next.{Next}
+use Rattle.sdl_behaviour.specs.declared.step.Next.TheVariants as next_is
 use Rattle.sdl_transition.specs.Offers.{Conforms}
 use Rattle.sdl_transition.specs.Rules.{Rule, Rules, rules_for, row_for}
 use Rattle.sdl_instances.specs.declared.event.Cause.TheVariants as cause

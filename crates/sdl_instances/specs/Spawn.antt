@@ -13,13 +13,13 @@ use Rattle.sdl_routes.specs.declared.parts.Row.{Row}
 use Rattle.sdl_routes.specs.declared.parts.Source.{Source}
 use Rattle.sdl_routes.specs.declared.parts.Source.TheVariants as source
 use Rattle.sdl_signal.specs.declared.values.Sort.TheVariants as sort
-use Rattle.sdl_transition.specs.declared.step.Frame.{Frame}
-use Rattle.sdl_transition.specs.declared.step.Step.{Step}
-use Rattle.sdl_transition.specs.declared.offer.Offer.{Offer}
-use Rattle.sdl_transition.specs.declared.offer.SignalSorts.{SignalSorts}
-use Rattle.sdl_transition.specs.declared.step.Next.TheVariants as next_is
-use Rattle.sdl_transition.specs.declared.step.Action.TheVariants as action
-use Rattle.sdl_transition.specs.declared.step.Dest.TheVariants as dest
+use Rattle.sdl_behaviour.specs.declared.step.Frame.{Frame}
+use Rattle.sdl_behaviour.specs.declared.step.Step.{Step}
+use Rattle.sdl_behaviour.specs.declared.offer.Offer.{Offer}
+use Rattle.sdl_behaviour.specs.declared.offer.SignalSorts.{SignalSorts}
+use Rattle.sdl_behaviour.specs.declared.step.Next.TheVariants as next_is
+use Rattle.sdl_behaviour.specs.declared.step.Action.TheVariants as action
+use Rattle.sdl_behaviour.specs.declared.step.Dest.TheVariants as dest
 use Rattle.sdl_routes.specs.declared.parts.Via.TheVariants as via
 use Rattle.sdl_instances.specs.declared.event.Done.TheVariants as done
 use Rattle.sdl_routes.specs.declared.parts.Hop.{Hop}

@@ -3,8 +3,8 @@
 ghost use Rattle.std.specs.Prelude.{◌≡◌, ◌<◌, ℕ, [], ◌∷◌, List, slice_get, Some, None};
 ghost use Rattle.sdl_signal.specs.declared.values.Pid.{Pid};
 ghost use Rattle.sdl_signal.specs.declared.values.Item.{Item};
-ghost use Rattle.sdl_transition.specs.declared.step.Frame.{Frame};
-ghost use Rattle.sdl_transition.specs.declared.step.Action.TheVariants as action;
+ghost use Rattle.sdl_behaviour.specs.declared.step.Frame.{Frame};
+ghost use Rattle.sdl_behaviour.specs.declared.step.Action.TheVariants as action;
 ghost use Rattle.sdl_instances.specs.declared.event.Event.{Event};
 ghost use Rattle.sdl_instances.specs.declared.event.Event.TheVariants as event;
 ghost use Rattle.sdl_instances.specs.declared.event.Done.TheVariants as done;

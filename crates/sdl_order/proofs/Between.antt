@@ -7,8 +7,8 @@ use Rattle.sdl_instances.specs.Run.{arrived, sent}
 use Rattle.sdl_signal.specs.declared.values.Item.{Item}
 use Rattle.sdl_routes.specs.declared.parts.Hop.{Hop}
 use Rattle.sdl_routes.specs.declared.parts.Station.{Station}
-use Rattle.sdl_transition.specs.declared.step.Frame.{Frame}
-use Rattle.sdl_transition.specs.declared.step.Step.{Step}
+use Rattle.sdl_behaviour.specs.declared.step.Frame.{Frame}
+use Rattle.sdl_behaviour.specs.declared.step.Step.{Step}
 use Rattle.sdl_forward.specs.Boards.{same_hop, waiting, IsBoardOf}
 use Rattle.sdl_forward.specs.declared.forwarder.Forwarded.{Forwarded}
 use Rattle.sdl_forward.specs.declared.forwarder.Forwarded.TheVariants as forwarded

@@ -8,8 +8,8 @@ use Rattle.sdl_routes.specs.declared.parts.Hop.{Hop}
 use Rattle.sdl_routes.specs.declared.parts.Station.{Station}
 use Rattle.sdl_routes.specs.declared.parts.Station.TheVariants.{Line, Inlet, Outlet}
 use Rattle.sdl_routes.specs.Routes.{EachOnce}
-use Rattle.sdl_transition.specs.declared.step.Frame.{Frame}
-use Rattle.sdl_transition.specs.declared.step.Step.{Step}
+use Rattle.sdl_behaviour.specs.declared.step.Frame.{Frame}
+use Rattle.sdl_behaviour.specs.declared.step.Step.{Step}
 use Rattle.sdl_forward.specs.Boards.{waiting, IsBoardOf}
 use Rattle.sdl_forward.specs.Forwards.{Forwarding, Moves, Holds}
 use Rattle.sdl_outcome.specs.declared.worker.Worker.{Worker}

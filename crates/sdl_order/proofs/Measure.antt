@@ -7,8 +7,8 @@ use Rattle.sdl_signal.specs.declared.values.Item.{Item}
 use Rattle.sdl_routes.specs.declared.parts.Hop.{Hop}
 use Rattle.sdl_routes.specs.declared.parts.Station.{Station}
 use Rattle.sdl_routes.specs.declared.parts.Station.TheVariants.{Line}
-use Rattle.sdl_transition.specs.declared.step.Frame.{Frame}
-use Rattle.sdl_transition.specs.declared.step.Step.{Step}
+use Rattle.sdl_behaviour.specs.declared.step.Frame.{Frame}
+use Rattle.sdl_behaviour.specs.declared.step.Step.{Step}
 use Rattle.sdl_forward.specs.Boards.{same_station, IsBoardOf}
 use Rattle.sdl_forward.specs.Forwards.{Forwarding, Moves}
 use Rattle.sdl_outcome.specs.declared.worker.Worker.{Worker}

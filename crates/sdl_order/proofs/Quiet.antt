@@ -23,8 +23,8 @@ use Rattle.sdl_routes.specs.Routes.{IsRoute, IsWalk, Carries, IsLastStation, is_
 use Rattle.sdl_instances.specs.Machine.{State}
 use Rattle.sdl_instances.specs.Run.{turns}
 use Rattle.sdl_instances.specs.Core.{IsReady}
-use Rattle.sdl_transition.specs.declared.step.Frame.{Frame}
-use Rattle.sdl_transition.specs.declared.step.Step.{Step}
+use Rattle.sdl_behaviour.specs.declared.step.Frame.{Frame}
+use Rattle.sdl_behaviour.specs.declared.step.Step.{Step}
 use Rattle.sdl_forward.specs.Boards.{waiting}
 use Rattle.sdl_forward.specs.Forwards.{Forwarding}
 use Rattle.sdl_outcome.specs.Stations.{Among, taker}

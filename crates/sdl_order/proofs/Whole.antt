@@ -4,8 +4,8 @@ use Rattle.std.proofs.lemmas.List.{append_assoc}
 use Rattle.std.specs.List.{flat_map, AllByRecursion}
 use Rattle.sdl_signal.specs.declared.values.Item.{Item}
 use Rattle.sdl_signal.specs.declared.values.Origin.{Origin}
-use Rattle.sdl_transition.specs.declared.step.Frame.{Frame}
-use Rattle.sdl_transition.specs.declared.step.Step.{Step}
+use Rattle.sdl_behaviour.specs.declared.step.Frame.{Frame}
+use Rattle.sdl_behaviour.specs.declared.step.Step.{Step}
 use Rattle.sdl_instances.specs.declared.event.Event.{Event}
 use Rattle.sdl_instances.specs.declared.event.Done.{Done}
 use Rattle.sdl_instances.specs.declared.event.Done.TheVariants.{Sent, NoRoute, Made}

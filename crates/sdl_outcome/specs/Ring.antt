@@ -21,7 +21,7 @@ use Rattle.sdl_routes.specs.declared.parts.Source.TheVariants as source
 use Rattle.sdl_routes.specs.declared.parts.EndPoint.TheVariants as ends
 use Rattle.sdl_routes.specs.declared.parts.Station.{Station}
 use Rattle.sdl_routes.specs.declared.parts.Station.TheVariants as station
-use Rattle.sdl_transition.specs.declared.step.Frame.{Frame}
+use Rattle.sdl_behaviour.specs.declared.step.Frame.{Frame}
 use Rattle.sdl_instances.specs.declared.event.Event.{Event}
 use Rattle.sdl_instances.specs.declared.event.Event.TheVariants as event
 use Rattle.sdl_instances.specs.declared.event.Done.TheVariants as done

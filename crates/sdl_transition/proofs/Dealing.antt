@@ -7,7 +7,7 @@ use Rattle.std.proofs.lemmas.List.{append-nil, nil_from_length}
 use Rattle.std.proofs.lemmas.List.Elements.{All-nil, All-cons, All-append}
 use Rattle.std.specs.List.{All}
 use Rattle.sdl_parts.specs.Structure.{Structure}
-use Rattle.sdl_transition.specs.declared.behaviour.Behaviour.{Behaviour}
+use Rattle.sdl_behaviour.specs.declared.behaviour.Behaviour.{Behaviour}
 use Rattle.sdl_transition.specs.declared.parts.BlockParts.{BlockParts}
 use Rattle.sdl_transition.specs.Rules.{rules_of}
 use Rattle.sdl_transition.specs.Index.{IsIndexOf}

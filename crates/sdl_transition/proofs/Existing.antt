@@ -8,10 +8,10 @@ use Rattle.std.proofs.lemmas.Option.{slice_get-map, slice_get-get_or, slice_get_
 use Rattle.sdl_parts.specs.declared.parts.Set.{Set}
 use Rattle.sdl_parts.specs.declared.parts.SignalDecl.{SignalDecl}
 use Rattle.sdl_parts.specs.Structure.{Structure, IsStructure}
-use Rattle.sdl_transition.specs.declared.behaviour.Kind.TheVariants as kinds
-use Rattle.sdl_transition.specs.declared.behaviour.Behaviour.{Behaviour}
+use Rattle.sdl_behaviour.specs.declared.behaviour.Kind.TheVariants as kinds
+use Rattle.sdl_behaviour.specs.declared.behaviour.Behaviour.{Behaviour}
 use Rattle.sdl_transition.specs.declared.faults.BindFault.TheVariants.{WrongName, UnknownState}
-use Rattle.sdl_transition.specs.Declarations.{Declared, DeclaredRow, declared, declared_row, HasOne}
+use Rattle.sdl_behaviour.specs.Declarations.{Declared, DeclaredRow, declared, declared_row, HasOne}
 use Rattle.sdl_transition.specs.Faults.{FitTogether, HasWrongName, HasUnusedSet, HasUnusedRow, HasUnknownState, HasUnknownRow, IsUsed, IsForRow, name_at}
 use Rattle.sdl_transition.specs.Rules.{RowRule, row_rule}
 use Rattle.sdl_transition.specs.Index.{HasPlace, HasPlaces}

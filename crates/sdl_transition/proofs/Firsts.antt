@@ -7,7 +7,7 @@ use Rattle.sdl_parts.specs.Structure.{Structure}
 use Rattle.sdl_parts.specs.Order.{IsBefore}
 use Rattle.sdl_transition.specs.declared.faults.BindFault.{BindFault}
 use Rattle.sdl_transition.specs.declared.faults.BindFault.TheVariants.{NoBehaviour, TwoBehaviours, WrongName, UndeclaredOutput, UndeclaredGate, UnknownState, WrongSorts, CreateElsewhere, TwoRows, Memory}
-use Rattle.sdl_transition.specs.Declarations.{Declared}
+use Rattle.sdl_behaviour.specs.Declarations.{Declared}
 use Rattle.sdl_transition.specs.Faults.{HasBehaviour, HasTwoBehaviours, HasWrongName, HasUndeclaredOutput, HasUndeclaredGate, HasUnknownState, HasWrongSorts, HasCreateElsewhere, HasTwoRows, IsFaultOf, fault_number, AppliesAt, FitTogether, IsFirstFault}
 use Rattle.sdl_transition.specs.Stages.{AllHaveOne, NoneHasTwo, IsFaultless, IsFirstFaultOf, AllFaultless}
 

@@ -7,10 +7,10 @@ use Rattle.sdl_parts.specs.declared.parts.Gate.{Gate}
 use Rattle.sdl_parts.specs.declared.parts.Owner.TheVariants as owner
 use Rattle.sdl_parts.specs.Structure.{Structure}
 use Rattle.sdl_routes.specs.declared.parts.Via.TheVariants as via
-use Rattle.sdl_transition.specs.declared.behaviour.Kind.TheVariants as kind
+use Rattle.sdl_behaviour.specs.declared.behaviour.Kind.TheVariants as kind
 use Rattle.sdl_transition.specs.declared.faults.BindFault.TheVariants.{NoBehaviour, TwoBehaviours}
-use Rattle.sdl_transition.specs.declared.offer.Offer.{Offer}
-use Rattle.sdl_transition.specs.Declarations.{Declared, SomeOffer}
+use Rattle.sdl_behaviour.specs.declared.offer.Offer.{Offer}
+use Rattle.sdl_behaviour.specs.Declarations.{Declared, SomeOffer}
 use Rattle.sdl_transition.specs.Faults.{AppliesAt, IsFirstFault, HasWrongName, HasUnusedNumber, HasUnknownState, HasUnknownRow, HasWrongSorts, HasOtherSorts, HasTwoRows}
 use Rattle.sdl_transition.proofs.Firsts.{missing_first}
 

@@ -3,7 +3,7 @@ use Rattle.std.specs.Prelude.{◌≡◌, ℕ, ◌==◌, ◌<◌, ◌≤◌, Bool
 use Rattle.sdl_signal.specs.declared.ids.SetId.{SetId}
 use Rattle.sdl_parts.specs.declared.parts.Set.{Set}
 use Rattle.sdl_parts.specs.Structure.{Structure, set_at}
-use Rattle.sdl_transition.specs.declared.behaviour.Behaviour.{Behaviour}
+use Rattle.sdl_behaviour.specs.declared.behaviour.Behaviour.{Behaviour}
 use Rattle.sdl_transition.specs.declared.parts.BlockParts.{BlockParts}
 use Rattle.sdl_transition.specs.Rules.{rules_of}
 use Rattle.sdl_transition.specs.Index.{IsIndexOf, IsIndexed}

@@ -3,15 +3,15 @@ use Rattle.std.specs.Prelude.{◌≡◌, ℕ, List, map, All, ◌⊎◌}
 use Rattle.sdl_parts.specs.Structure.{Structure}
 use Rattle.sdl_routes.specs.declared.parts.Row.{Row}
 use Rattle.sdl_routes.specs.Routes.{AreRoutesOf}
-use Rattle.sdl_transition.specs.declared.step.Frame.{Frame}
-use Rattle.sdl_transition.specs.declared.step.Step.{Step}
-use Rattle.sdl_transition.specs.declared.behaviour.Behaviour.{Behaviour}
+use Rattle.sdl_behaviour.specs.declared.step.Frame.{Frame}
+use Rattle.sdl_behaviour.specs.declared.step.Step.{Step}
+use Rattle.sdl_behaviour.specs.declared.behaviour.Behaviour.{Behaviour}
 use Rattle.sdl_transition.specs.declared.faults.BindFault.{BindFault}
 use Rattle.sdl_transition.specs.declared.faults.BindFault.TheVariants.{Memory}
 use Rattle.sdl_transition.specs.declared.parts.BlockParts.{BlockParts}
 use Rattle.sdl_transition.specs.declared.binding.Bound.{Bound}
-use Rattle.sdl_transition.specs.Transitions.{IsAllowedBehaviour}
-use Rattle.sdl_transition.specs.Declarations.{declared}
+use Rattle.sdl_behaviour.specs.Transitions.{IsAllowedBehaviour}
+use Rattle.sdl_behaviour.specs.Declarations.{declared}
 use Rattle.sdl_transition.specs.Faults.{FitTogether, IsFirstFault}
 use Rattle.sdl_transition.specs.Blocks.{AreDealt}
 

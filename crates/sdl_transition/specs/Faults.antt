@@ -14,16 +14,16 @@ use Rattle.sdl_parts.specs.Structure.{Structure, set_at, gate_at}
 use Rattle.sdl_routes.specs.declared.parts.Via.{Via}
 use Rattle.sdl_routes.specs.declared.parts.Via.TheVariants as via
 use Rattle.sdl_parts.specs.Order.{IsBefore}
-use Rattle.sdl_transition.specs.declared.behaviour.Kind.{Kind}
-use Rattle.sdl_transition.specs.declared.behaviour.Kind.TheVariants as kind
-use Rattle.sdl_transition.specs.declared.behaviour.Named.{Named}
+use Rattle.sdl_behaviour.specs.declared.behaviour.Kind.{Kind}
+use Rattle.sdl_behaviour.specs.declared.behaviour.Kind.TheVariants as kind
+use Rattle.sdl_behaviour.specs.declared.behaviour.Named.{Named}
 use Rattle.sdl_transition.specs.declared.faults.BindFault.{BindFault}
 use Rattle.sdl_transition.specs.declared.faults.BindFault.TheVariants.{NoBehaviour, TwoBehaviours, WrongName, UndeclaredOutput, UndeclaredGate, UnknownState, WrongSorts, CreateElsewhere, TwoRows, Memory}
-use Rattle.sdl_transition.specs.declared.offer.Offer.{Offer}
-use Rattle.sdl_transition.specs.declared.offer.OfferedOutput.{OfferedOutput}
-use Rattle.sdl_transition.specs.declared.offer.SignalSorts.{SignalSorts}
-use Rattle.sdl_transition.specs.Offers.{AreOfSorts}
-use Rattle.sdl_transition.specs.Declarations.{Declared, DeclaredRow, SomeOffer, HasOne, HasTwo}
+use Rattle.sdl_behaviour.specs.declared.offer.Offer.{Offer}
+use Rattle.sdl_behaviour.specs.declared.offer.OfferedOutput.{OfferedOutput}
+use Rattle.sdl_behaviour.specs.declared.offer.SignalSorts.{SignalSorts}
+use Rattle.sdl_behaviour.specs.Offers.{AreOfSorts}
+use Rattle.sdl_behaviour.specs.Declarations.{Declared, DeclaredRow, SomeOffer, HasOne, HasTwo}
 
 -- B1 and B2: the behaviours of a set
 abbrev pub HasBehaviour : List Declared → SetId → Type 0

@@ -3,7 +3,7 @@ use Rattle.std.specs.Prelude.{◌≡◌, ℕ, suc, ◌<◌, ◌≤◌, List, [],
 use Rattle.sdl_signal.specs.declared.ids.SetId.{SetId}
 use Rattle.sdl_signal.specs.declared.ids.StateId.{StateId}
 use Rattle.sdl_signal.specs.declared.ids.SignalId.{SignalId}
-use Rattle.sdl_transition.specs.declared.behaviour.Behaviour.{Behaviour}
+use Rattle.sdl_behaviour.specs.declared.behaviour.Behaviour.{Behaviour}
 use Rattle.sdl_transition.specs.declared.index.Index.{Index}
 use Rattle.sdl_transition.specs.declared.index.Table.{Table}
 use Rattle.sdl_transition.specs.declared.parts.BlockParts.{BlockParts}

@@ -1,6 +1,6 @@
-pub mod Offers
-pub mod Transitions
-pub mod Declarations
+pub use Rattle.sdl_behaviour.specs.Offers
+pub use Rattle.sdl_behaviour.specs.Transitions
+pub use Rattle.sdl_behaviour.specs.Declarations
 pub mod Faults
 pub mod Stages
 pub mod Rules

@@ -4,10 +4,10 @@ use Rattle.sdl_signal.specs.declared.ids.SetId.{SetId}
 use Rattle.sdl_signal.specs.declared.ids.StateId.{StateId}
 use Rattle.sdl_signal.specs.declared.ids.SignalId.{SignalId}
 use Rattle.sdl_signal.specs.declared.values.Value.{Value}
-use Rattle.sdl_transition.specs.declared.offer.Offer.{Offer}
-use Rattle.sdl_transition.specs.declared.transition.Transition.{Transition}
-use Rattle.sdl_transition.specs.declared.behaviour.Row.{Row}
-use Rattle.sdl_transition.specs.declared.behaviour.Behaviour.{Behaviour}
+use Rattle.sdl_behaviour.specs.declared.offer.Offer.{Offer}
+use Rattle.sdl_behaviour.specs.declared.transition.Transition.{Transition}
+use Rattle.sdl_behaviour.specs.declared.behaviour.Row.{Row}
+use Rattle.sdl_behaviour.specs.declared.behaviour.Behaviour.{Behaviour}
 use Rattle.sdl_transition.specs.declared.parts.BlockParts.{BlockParts}
 
 -- a transition by its number and its offer

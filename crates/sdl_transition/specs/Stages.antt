@@ -3,7 +3,7 @@ use Rattle.std.specs.Prelude.{ℕ, ◌<◌, ◌≤◌, List, slice_get, IfSome}
 use Rattle.sdl_signal.specs.declared.ids.SetId.{SetId}
 use Rattle.sdl_parts.specs.Structure.{Structure}
 use Rattle.sdl_transition.specs.declared.faults.BindFault.{BindFault}
-use Rattle.sdl_transition.specs.Declarations.{Declared}
+use Rattle.sdl_behaviour.specs.Declarations.{Declared}
 use Rattle.sdl_transition.specs.Faults.{HasBehaviour, HasTwoBehaviours, IsFaultOf, fault_number}
 
 -- each of the first n sets has a behaviour

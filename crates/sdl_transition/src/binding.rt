@@ -2,18 +2,17 @@
 ghost use Rattle.std.specs.Prelude.{◌≡◌, ◌<◌, length, map, All, IfOk, IfErr};
 ghost use Rattle.sdl_parts.specs.Structure.{IsStructure};
 ghost use Rattle.sdl_routes.specs.Routes.{AreRoutesOf};
-ghost use Rattle.sdl_transition.specs.Transitions.{IsAllowedBehaviour};
-ghost use Rattle.sdl_transition.specs.Declarations.{declared};
+ghost use Rattle.sdl_behaviour.specs.Transitions.{IsAllowedBehaviour};
+ghost use Rattle.sdl_behaviour.specs.Declarations.{declared};
 ghost use Rattle.sdl_transition.specs.Faults.{FitTogether};
 ghost use Rattle.sdl_transition.specs.Index.{HasPlaces};
 ghost use Rattle.sdl_transition.specs.Blocks.{block_number, AreDealt};
 ghost use Rattle.sdl_transition.specs.Bound.{structure_of, routes_of, blocks_of, AreOneSystem, IsBound, IsRefusal};
 
-use crate::agents::Agents;
-use crate::behaviour::Behaviour;
 use crate::faults::BindFault;
 use crate::parts::{BlockParts, deal, empty_parts};
 use crate::stages::first_fault;
+use sdl_behaviour::{Agents, Behaviour};
 use sdl_parts::{Checked, Structure};
 use sdl_routes::Routes;
 use std::alloc::{AllocError, Global};

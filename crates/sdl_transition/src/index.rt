@@ -4,8 +4,8 @@ ghost use Rattle.sdl_transition.specs.Blocks.{is_of_block};
 ghost use Rattle.sdl_transition.specs.Rules.{Rules, row_rule, rules_of, row_for};
 ghost use Rattle.sdl_transition.specs.Index.{row_place, row_at, rules_place, IsLineOf, IsTableOf, AreTablesOf, ArePlacesOf, IsIndexOf, HasPlaces};
 
-use crate::behaviour::{Behaviour, Row};
 use crate::blocks::block_of;
+use sdl_behaviour::{Behaviour, Row};
 use sdl_parts::Structure;
 use sdl_signal::{SetId, SignalId, StateId};
 use std::alloc::{AllocError, Global};

@@ -1,17 +1,15 @@
 //! The behaviours of each block.
 ghost use Rattle.std.specs.Prelude.{◌≡◌, ◌<◌, ◌≤◌, [], ◌∷◌, ◌++◌, length, All, IfOk, IfSome, Some, option_map, slice_get, vec_len, vec_capacity};
 ghost use Rattle.sdl_parts.specs.Structure.{IsStructure};
-ghost use Rattle.sdl_transition.specs.Transitions.{IsAllowed, IsAllowedBehaviour};
+ghost use Rattle.sdl_behaviour.specs.Transitions.{IsAllowed, IsAllowedBehaviour};
 ghost use Rattle.sdl_transition.specs.Rules.{Rules, rule_of, rules_of, rules_for, row_for, block_rules};
 ghost use Rattle.sdl_transition.specs.Index.{HasPlaces, IsIndexed};
 ghost use Rattle.sdl_transition.specs.Blocks.{block_number, EachAt, IsDealing, AreDealt};
 
-use crate::agents::Agents;
-use crate::behaviour::Behaviour;
 use crate::blocks::{block_of, count_of_block};
 use crate::index::{Index, index_of};
-use crate::transition::Transition;
 use arrayvec::ArrayVec;
+use sdl_behaviour::{Agents, Behaviour, Transition};
 use sdl_parts::Structure;
 use sdl_signal::{BlockId, SetId, SignalId, StateId, Value};
 use std::alloc::{AllocError, Global};

@@ -1,12 +1,11 @@
 //! Whether an offer has a fault against a structure.
 ghost use Rattle.std.specs.Prelude.{◌≡◌, ◌≢◌, ◌<◌, ◌≤◌, IsTrue, ◌↔◌, Any, length, option_map, Contains, IsSomeAnd};
-ghost use Rattle.sdl_transition.specs.Offers.{AreOfSorts};
-ghost use Rattle.sdl_transition.specs.Offers as sorting;
-ghost use Rattle.sdl_transition.specs.declared.behaviour.Kind.TheVariants as kinds;
+ghost use Rattle.sdl_behaviour.specs.Offers.{AreOfSorts};
+ghost use Rattle.sdl_behaviour.specs.Offers as sorting;
+ghost use Rattle.sdl_behaviour.specs.declared.behaviour.Kind.TheVariants as kinds;
 ghost use Rattle.sdl_transition.specs.Faults.{name_at, IsNamedSo, IsUsed, IsViaUsed, HasUnusedSignal, IsUnusedOutput, HasUnusedNumber, LetsOut, OffersUndeclared, IsBadGate, OffersBadGate, IsForStart, OffersUnknownState, IsSetPid, HasItsSorts, HasOtherSignal, HasOtherSorts, IsInBlockOf, OffersCreateElsewhere};
 
-use crate::behaviour::{Kind, Named};
-use crate::offer::{Offer, OfferedOutput, SignalSorts};
+use sdl_behaviour::{Kind, Named, Offer, OfferedOutput, SignalSorts};
 use sdl_parts::{Gate, Owner, SignalDecl, Structure};
 use sdl_routes::Via;
 use sdl_signal::{Name, Pid, SetId, SignalId, Sort, Value};

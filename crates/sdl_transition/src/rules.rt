@@ -1,14 +1,14 @@
 //! Whether a behaviour has a fault against a structure.
 ghost use Rattle.std.specs.Prelude.{◌≡◌, ◌≤◌, IsTrue, ◌↔◌, ◌⊎◌, Any, map};
-ghost use Rattle.sdl_transition.specs.declared.behaviour.Kind.TheVariants as kinds;
-ghost use Rattle.sdl_transition.specs.Declarations.{declared, declared_row, HasOne, HasTwo, SomeOffer};
+ghost use Rattle.sdl_behaviour.specs.declared.behaviour.Kind.TheVariants as kinds;
+ghost use Rattle.sdl_behaviour.specs.Declarations.{declared, declared_row, HasOne, HasTwo, SomeOffer};
 ghost use Rattle.sdl_transition.specs.Faults.{IsNamedSo, IsUsed, HasUnusedNumber, HasUnusedSet, HasUnusedRow, HasWrongName, OffersUndeclared, HasUndeclaredOutput, OffersBadGate, HasUndeclaredGate, IsForRow, OffersUnknownState, HasUnknownRow, HasUnknownState, HasOtherSorts, HasWrongSorts, OffersCreateElsewhere, HasCreateElsewhere, IsSameRow, HasTwoRows};
 
-use crate::behaviour::{Behaviour, Kind, Named, Row};
 use crate::probes::{
     has_create_elsewhere, has_other_sorts, has_set_pid, has_undeclared_gate, has_undeclared_output,
     has_unknown_next, has_unused_number, is_for_start, is_named_so, is_used,
 };
+use sdl_behaviour::{Behaviour, Kind, Named, Row};
 use sdl_parts::Structure;
 use sdl_signal::{SetId, Value};
 
@@ -139,7 +139,7 @@ fn has_two_rows<S>(rows: &[Row<S>]) -> bool
 }
 
 /// Whether an offer has a number that is in no use.
-#[tactic(auto, unfolding(crate::specs::Declarations::SomeOffer))]
+#[tactic(auto, unfolding(sdl_behaviour::specs::Declarations::SomeOffer))]
 fn some_numbers<S>(structure: &Structure, uses: &[Named], behaviour: &Behaviour<S>) -> bool
     ensures { IsTrue result ↔ SomeOffer (HasUnusedNumber structure.now uses.now) (declared behaviour.now) }
 {
@@ -148,7 +148,7 @@ fn some_numbers<S>(structure: &Structure, uses: &[Named], behaviour: &Behaviour<
 }
 
 /// Whether an offer has an output that no gate of the set lets out.
-#[tactic(auto, unfolding(crate::specs::Declarations::SomeOffer))]
+#[tactic(auto, unfolding(sdl_behaviour::specs::Declarations::SomeOffer))]
 fn some_outputs<S>(structure: &Structure, set: SetId, behaviour: &Behaviour<S>) -> bool
     ensures { IsTrue result ↔ SomeOffer (OffersUndeclared structure.now set) (declared behaviour.now) }
 {
@@ -157,7 +157,7 @@ fn some_outputs<S>(structure: &Structure, set: SetId, behaviour: &Behaviour<S>) 
 }
 
 /// Whether an offer has an output by way of a gate that does not let it out.
-#[tactic(auto, unfolding(crate::specs::Declarations::SomeOffer))]
+#[tactic(auto, unfolding(sdl_behaviour::specs::Declarations::SomeOffer))]
 fn some_gates<S>(structure: &Structure, set: SetId, behaviour: &Behaviour<S>) -> bool
     ensures { IsTrue result ↔ SomeOffer (OffersBadGate structure.now set) (declared behaviour.now) }
 {
@@ -166,7 +166,7 @@ fn some_gates<S>(structure: &Structure, set: SetId, behaviour: &Behaviour<S>) ->
 }
 
 /// Whether an offer has a next state past the list.
-#[tactic(auto, unfolding(crate::specs::Declarations::SomeOffer))]
+#[tactic(auto, unfolding(sdl_behaviour::specs::Declarations::SomeOffer))]
 fn some_nexts<S>(states: usize, behaviour: &Behaviour<S>) -> bool
     ensures { IsTrue result ↔ SomeOffer (OffersUnknownState states) (declared behaviour.now) }
 {
@@ -175,7 +175,7 @@ fn some_nexts<S>(states: usize, behaviour: &Behaviour<S>) -> bool
 }
 
 /// Whether an offer has other sorts than the structure or the variables.
-#[tactic(auto, unfolding(crate::specs::Declarations::SomeOffer))]
+#[tactic(auto, unfolding(sdl_behaviour::specs::Declarations::SomeOffer))]
 fn some_sorts<S>(structure: &Structure, vars: &[Value], behaviour: &Behaviour<S>) -> bool
     ensures { IsTrue result ↔ SomeOffer (HasOtherSorts structure.now vars.now) (declared behaviour.now) }
 {
@@ -184,7 +184,7 @@ fn some_sorts<S>(structure: &Structure, vars: &[Value], behaviour: &Behaviour<S>
 }
 
 /// Whether an offer has a create of a set of another block.
-#[tactic(auto, unfolding(crate::specs::Declarations::SomeOffer))]
+#[tactic(auto, unfolding(sdl_behaviour::specs::Declarations::SomeOffer))]
 fn some_creates<S>(structure: &Structure, set: SetId, behaviour: &Behaviour<S>) -> bool
     ensures { IsTrue result ↔ SomeOffer (OffersCreateElsewhere structure.now set) (declared behaviour.now) }
 {

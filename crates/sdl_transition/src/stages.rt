@@ -1,16 +1,16 @@
 //! The first fault of behaviours against a structure.
 ghost use Rattle.std.specs.Prelude.{◌≡◌, ℕ, ◌<◌, length, map, slice_get, IsTrue, ◌↔◌, IfSome, IfNone};
 ghost use Rattle.sdl_parts.specs.Structure.{IsStructure};
-ghost use Rattle.sdl_transition.specs.Declarations.{declared};
+ghost use Rattle.sdl_behaviour.specs.Declarations.{declared};
 ghost use Rattle.sdl_transition.specs.Faults.{HasBehaviour, HasTwoBehaviours, IsFirstFault, FitTogether};
 ghost use Rattle.sdl_transition.specs.Stages.{AllHaveOne, NoneHasTwo, AllFaultless, IsFaultless, IsFirstFaultOf};
 
-use crate::behaviour::Behaviour;
 use crate::faults::BindFault;
 use crate::rules::{
     has_same_rows, has_unknown_state, has_wrong_name, has_wrong_sorts, offers_bad_gate,
     offers_create_elsewhere, offers_undeclared,
 };
+use sdl_behaviour::Behaviour;
 use sdl_parts::Structure;
 use sdl_signal::SetId;
 

@@ -3,9 +3,9 @@ use Rattle.std.proofs.Common.{ℤ, [], ◌∷◌, Some, arith, refl}
 use Rattle.std.proofs.lemmas.List.Elements.{All-nil, All-cons}
 use Rattle.sdl_signal.specs.declared.values.Sort.TheVariants as sort
 use Rattle.sdl_signal.specs.declared.values.Value.TheVariants as value
-use Rattle.sdl_transition.specs.declared.step.Frame.{Frame}
-use Rattle.sdl_transition.specs.declared.offer.Offer.{Offer}
-use Rattle.sdl_transition.specs.Offers.{IsFrameOf, IsLegalValue}
+use Rattle.sdl_behaviour.specs.declared.step.Frame.{Frame}
+use Rattle.sdl_behaviour.specs.declared.offer.Offer.{Offer}
+use Rattle.sdl_behaviour.specs.Offers.{IsFrameOf, IsLegalValue}
 use Rattle.sdl_agents.specs.Offered.{IsIdleOffer, offered, sorted}
 use Rattle.sdl_transition_tests.specs.Pings.{IsPingFrame}
 

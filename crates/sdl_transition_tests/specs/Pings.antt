@@ -2,7 +2,7 @@
 use Rattle.std.specs.Prelude.{◌≡◌, [], ◌∷◌, ℤ, Some}
 use Rattle.sdl_signal.specs.declared.values.Value.TheVariants as value
 use Rattle.sdl_signal.specs.declared.values.Pid.TheVariants.{Null, Env, Inst}
-use Rattle.sdl_transition.specs.declared.step.Frame.{Frame}
+use Rattle.sdl_behaviour.specs.declared.step.Frame.{Frame}
 
 -- the instance of set 0 with the serial number 1, in idle, on `ping(n)` from the environment
 pub record IsPingFrame (n : ℤ) (frame : Frame) : Type 0 where

@@ -1,8 +1,8 @@
 //! Echo's transitions, stored and fired.
 ghost use Rattle.std.specs.Prelude.{◌≡◌, All, Some, [], ◌∷◌};
 ghost use Rattle.sdl_signal.specs.declared.values.Sort.TheVariants as sort;
-ghost use Rattle.sdl_transition.specs.Offers.{IsFrameOf, Conforms};
-ghost use Rattle.sdl_transition.specs.Transitions.{IsAllowed, IsAllowedRow, IsAllowedBehaviour};
+ghost use Rattle.sdl_behaviour.specs.Offers.{IsFrameOf, Conforms};
+ghost use Rattle.sdl_behaviour.specs.Transitions.{IsAllowed, IsAllowedRow, IsAllowedBehaviour};
 ghost use Rattle.sdl_agents.specs.Tables.{EchoMay};
 ghost use Rattle.sdl_agents.specs.Offered.{IsIdleOffer, offered, sorted};
 ghost use Rattle.sdl_transition_tests.specs.Pings.{IsPingFrame};

@@ -1,7 +1,7 @@
 //! Transitions that are fired in threads of their own: their facts go with them.
 ghost use Rattle.std.specs.Prelude.{◌≡◌};
-ghost use Rattle.sdl_transition.specs.Offers.{IsFrameOf};
-ghost use Rattle.sdl_transition.specs.Transitions.{IsAllowed};
+ghost use Rattle.sdl_behaviour.specs.Offers.{IsFrameOf};
+ghost use Rattle.sdl_behaviour.specs.Transitions.{IsAllowed};
 
 use sdl_transition::{Agents, Frame, Step, Transition};
 use std::thread;

@@ -1,14 +1,14 @@
 //! The offers of Spawn's rows, in a system of so many sets.
 ghost use Rattle.std.specs.Prelude.{◌≡◌, Some, [], ◌∷◌};
 ghost use Rattle.sdl_signal.specs.declared.values.Sort.TheVariants as sort;
-ghost use Rattle.sdl_agents.specs.Offered.{IsIdleOffer, IsKillOffer, IsMakeOffer, OffersOne, OffersStop, offered, sorted};
+ghost use Rattle.sdl_agents.specs.Offered.{IsIdleOffer, IsKillOffer, IsMakeOffer, IsStopOffer, OffersOne, OffersStop, offered, sorted};
 
 use super::{ANSWER, BORN, DIE, HELLO, KID, KILL, MAKE, REPLY};
 use crate::offers::{
     idle_offer, no_sorts, on, one_create, one_integer, one_output, one_pid, pid_and_integer,
 };
 use arrayvec::ArrayVec;
-use sdl_transition::Offer;
+use sdl_behaviour::Offer;
 
 /// The offer of the row for `make`.
 pub fn make_offer(sets: u32) -> Offer
@@ -48,8 +48,8 @@ pub fn answer_offer(sets: u32) -> Offer
 
 /// The offer of the row for `die`: to stop, and no next state.
 pub fn die_offer(sets: u32) -> Offer
-    ensures offer { OffersStop result }
-    ensures sets { result.sets ≡ sets }
+    ensures offer { IsStopOffer sets (Some (sorted 4 [])) result }
+    ensures stop { OffersStop result }
 {
     Offer {
         may_stop: true,

@@ -7,8 +7,8 @@ ghost use Rattle.sdl_agents.specs.Offered.{IsKillOffer, IsMakeOffer, Keeps, Keep
 use super::{ANSWER, BORN, DIE, HELLO, KID, REPLY};
 use crate::steps::{idle, send, values};
 use arrayvec::ArrayVec;
+use sdl_behaviour::{Action, Dest, Frame, Next, Step};
 use sdl_signal::{Pid, Value};
-use sdl_transition::{Action, Dest, Frame, Next, Step};
 
 /// A create of a Kid, and `hello` to it.
 fn create() -> Step

@@ -1,6 +1,6 @@
 use Rattle.std.proofs.Common.{ap, sym, ◌≡◌, ◌≤◌, ◌+◌, ◌∷◌, ◌++◌, [], ◌∙◌, List, subst, length, length-append, arith}
 use Rattle.std.specs.List.{AllByRecursion}
-use Rattle.sdl_transition.specs.declared.step.Action.{Action}
+use Rattle.sdl_behaviour.specs.declared.step.Action.{Action}
 use Rattle.sdl_instances.specs.declared.event.Done.{Done}
 use Rattle.sdl_instances.specs.declared.outputs.Mark.{Mark}
 use Rattle.sdl_transition.specs.Rules.{block_rules}

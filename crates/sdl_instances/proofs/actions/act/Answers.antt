@@ -1,5 +1,5 @@
 use Rattle.std.proofs.Common.{sym, ◌∷◌, ◌++◌, [], subst}
-use Rattle.sdl_transition.specs.declared.step.Action.{Action}
+use Rattle.sdl_behaviour.specs.declared.step.Action.{Action}
 use Rattle.sdl_instances.specs.declared.event.Done.TheVariants as done
 use Rattle.sdl_transition.specs.Rules.{block_rules}
 use Rattle.sdl_instances.specs.Living.{state_of, births_of, CanAct, CarriesOut}

@@ -1,4 +1,4 @@
-use Rattle.sdl_transition.specs.Declarations.{SomeOffer}
+use Rattle.sdl_behaviour.specs.Declarations.{SomeOffer}
 use Rattle.sdl_transition.proofs.Either.{otherwise}
 use Rattle.sdl_transition.proofs.rules.some_outputs.Goals as goal
 

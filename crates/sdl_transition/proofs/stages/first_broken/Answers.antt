@@ -1,6 +1,6 @@
 use Rattle.std.proofs.Common.{rules, arith, refl, ◌∙◌, ap, map, option_map}
 use Rattle.std.proofs.lemmas.Option.{slice_get-map, slice_get_read}
-use Rattle.sdl_transition.specs.Declarations.{declared}
+use Rattle.sdl_behaviour.specs.Declarations.{declared}
 use Rattle.sdl_transition.proofs.Firsts.{broken_first, behaviour_more}
 use Rattle.sdl_transition.proofs.stages.first_broken.Goals as goal
 

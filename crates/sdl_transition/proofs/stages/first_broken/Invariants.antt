@@ -1,5 +1,5 @@
 use Rattle.std.proofs.Common.{map}
-use Rattle.sdl_transition.specs.Declarations.{declared}
+use Rattle.sdl_behaviour.specs.Declarations.{declared}
 use Rattle.sdl_transition.specs.Stages.{AllFaultless}
 use Rattle.sdl_transition.proofs.stages.first_broken.Given as goal
 

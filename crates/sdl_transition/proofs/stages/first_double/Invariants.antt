@@ -1,5 +1,5 @@
 use Rattle.std.proofs.Common.{map}
-use Rattle.sdl_transition.specs.Declarations.{declared}
+use Rattle.sdl_behaviour.specs.Declarations.{declared}
 use Rattle.sdl_transition.specs.Stages.{NoneHasTwo}
 use Rattle.sdl_transition.proofs.stages.first_double.Given as goal
 

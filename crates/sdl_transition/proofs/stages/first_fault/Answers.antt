@@ -1,6 +1,6 @@
 use Rattle.std.proofs.Common.{map, sym, subst}
 use Rattle.std.proofs.lemmas.List.{length-map}
-use Rattle.sdl_transition.specs.Declarations.{declared}
+use Rattle.sdl_behaviour.specs.Declarations.{declared}
 use Rattle.sdl_transition.specs.Stages.{AllFaultless}
 use Rattle.sdl_transition.proofs.Firsts.{all_fit, from_none, if_none}
 use Rattle.sdl_transition.proofs.stages.first_fault.Goals as goal

@@ -1,5 +1,5 @@
 use Rattle.std.proofs.Common.{rules, ap, arith, refl, length, map}
-use Rattle.sdl_transition.specs.Declarations.{declared}
+use Rattle.sdl_behaviour.specs.Declarations.{declared}
 use Rattle.sdl_transition.specs.Faults.{HasBehaviour}
 use Rattle.sdl_transition.proofs.Firsts.{missing_first, set_more}
 use Rattle.sdl_transition.proofs.stages.first_missing.Goals as goal

@@ -1,4 +1,4 @@
-use Rattle.sdl_transition.specs.Offers.{IsFrameOf}
+use Rattle.sdl_behaviour.specs.Offers.{IsFrameOf}
 use Rattle.sdl_transition.proofs.Dealing.{all_one}
 use Rattle.sdl_transition_tests.proofs.Pings.{ping_is_of_offer}
 use Rattle.sdl_transition_tests.proofs.stored.fire_ping.Goals as goal

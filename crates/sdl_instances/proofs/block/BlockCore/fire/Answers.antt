@@ -2,7 +2,7 @@ use Rattle.std.proofs.Common.{◌≡◌, ◌∙◌, ap, sym, subst, refl, Some, 
 use Rattle.std.specs.List.{AllByRecursion}
 use Rattle.std.proofs.lemmas.Option.{slice_get_within}
 use Rattle.sdl_signal.specs.declared.ids.SignalId.{SignalId}
-use Rattle.sdl_transition.specs.declared.step.Frame.{Frame}
+use Rattle.sdl_behaviour.specs.declared.step.Frame.{Frame}
 use Rattle.sdl_transition.specs.Offers.{IsFrameOf}
 use Rattle.sdl_transition.specs.Rules.{rule_of, row_for, block_rules}
 use Rattle.sdl_instances.specs.declared.event.Trigger.TheVariants as trigger

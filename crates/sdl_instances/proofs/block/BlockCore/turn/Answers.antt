@@ -1,6 +1,6 @@
 use Rattle.std.proofs.Common.{◌≡◌, ap, sym, subst, refl}
 use Rattle.sdl_signal.specs.declared.values.Pid.{Pid}
-use Rattle.sdl_transition.specs.declared.step.Frame.{Frame}
+use Rattle.sdl_behaviour.specs.declared.step.Frame.{Frame}
 use Rattle.sdl_transition.specs.Rules.{block_rules}
 use Rattle.sdl_instances.specs.Core.{Core, system_of}
 use Rattle.sdl_instances.specs.Cores.{core_of, system_in}

@@ -1,5 +1,5 @@
 use Rattle.std.proofs.Common.{get_or, ap, ◌∙◌, arith}
-use Rattle.sdl_transition.specs.Transitions.{IsAllowedBehaviour, IsAllowedRow}
+use Rattle.sdl_behaviour.specs.Transitions.{IsAllowedBehaviour, IsAllowedRow}
 use Rattle.sdl_transition.specs.Rules.{block_rules}
 use Rattle.sdl_transition.proofs.Places.{all_read, rules_read, rules_there, row_past}
 use Rattle.sdl_transition.proofs.parts.BlockParts.row.Goals as goal

@@ -1,4 +1,4 @@
-use Rattle.sdl_transition.specs.Transitions.{IsAllowedBehaviour}
+use Rattle.sdl_behaviour.specs.Transitions.{IsAllowedBehaviour}
 use Rattle.sdl_transition.proofs.Places.{all_read}
 use Rattle.sdl_transition.proofs.parts.BlockParts.start.Goals as goal
 

@@ -1,6 +1,6 @@
 //! A stored transition.
 ghost use Rattle.std.specs.Prelude.{◌≡◌};
-ghost use Rattle.sdl_transition.specs.Offers.{IsFrameOf, Conforms};
+ghost use Rattle.sdl_behaviour.specs.Offers.{IsFrameOf, Conforms};
 
 use crate::agents::Agents;
 use crate::offer::Offer;
@@ -23,7 +23,7 @@ pub struct Transition<S> {
 }
 
 impl<S: Agents> Transition<S> {
-    ghost use Rattle.sdl_transition.specs.Transitions.{IsAllowed};
+    ghost use Rattle.sdl_behaviour.specs.Transitions.{IsAllowed};
 
     /// Keeps the closure with its number and its offer. No memory is taken.
     pub fn store(number: u32, offer: Offer, run: Run) -> Transition<S>

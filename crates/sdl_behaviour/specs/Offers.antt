@@ -8,18 +8,18 @@ use Rattle.sdl_signal.specs.declared.values.Pid.TheVariants.{Null, Env, Inst}
 use Rattle.sdl_signal.specs.declared.values.Value.{Value}
 use Rattle.sdl_signal.specs.declared.values.Value.TheVariants as value
 use Rattle.sdl_signal.specs.declared.values.Signal.{Signal}
-use Rattle.sdl_transition.specs.declared.step.Frame.{Frame}
-use Rattle.sdl_transition.specs.declared.step.Dest.{Dest}
-use Rattle.sdl_transition.specs.declared.step.Dest.TheVariants as dest
+use Rattle.sdl_behaviour.specs.declared.step.Frame.{Frame}
+use Rattle.sdl_behaviour.specs.declared.step.Dest.{Dest}
+use Rattle.sdl_behaviour.specs.declared.step.Dest.TheVariants as dest
 use Rattle.sdl_routes.specs.declared.parts.Via.{Via}
-use Rattle.sdl_transition.specs.declared.step.Action.{Action}
-use Rattle.sdl_transition.specs.declared.step.Action.TheVariants.{Output, Create}
-use Rattle.sdl_transition.specs.declared.step.Next.{Next}
-use Rattle.sdl_transition.specs.declared.step.Next.TheVariants.{State, Stop}
-use Rattle.sdl_transition.specs.declared.step.Step.{Step}
-use Rattle.sdl_transition.specs.declared.offer.SignalSorts.{SignalSorts}
-use Rattle.sdl_transition.specs.declared.offer.OfferedOutput.{OfferedOutput}
-use Rattle.sdl_transition.specs.declared.offer.Offer.{Offer}
+use Rattle.sdl_behaviour.specs.declared.step.Action.{Action}
+use Rattle.sdl_behaviour.specs.declared.step.Action.TheVariants.{Output, Create}
+use Rattle.sdl_behaviour.specs.declared.step.Next.{Next}
+use Rattle.sdl_behaviour.specs.declared.step.Next.TheVariants.{State, Stop}
+use Rattle.sdl_behaviour.specs.declared.step.Step.{Step}
+use Rattle.sdl_behaviour.specs.declared.offer.SignalSorts.{SignalSorts}
+use Rattle.sdl_behaviour.specs.declared.offer.OfferedOutput.{OfferedOutput}
+use Rattle.sdl_behaviour.specs.declared.offer.Offer.{Offer}
 
 abbrev pub sort_of : Value → Sort
 sort_of (value.Integer _) = sort.Integer

@@ -4,10 +4,10 @@ use Rattle.sdl_signal.specs.declared.ids.SetId.{SetId}
 use Rattle.sdl_signal.specs.declared.ids.SignalId.{SignalId}
 use Rattle.sdl_signal.specs.declared.ids.StateId.{StateId}
 use Rattle.sdl_signal.specs.declared.values.Value.{Value}
-use Rattle.sdl_transition.specs.declared.offer.Offer.{Offer}
-use Rattle.sdl_transition.specs.declared.behaviour.Named.{Named}
-use Rattle.sdl_transition.specs.declared.behaviour.Row.{Row}
-use Rattle.sdl_transition.specs.declared.behaviour.Behaviour.{Behaviour}
+use Rattle.sdl_behaviour.specs.declared.offer.Offer.{Offer}
+use Rattle.sdl_behaviour.specs.declared.behaviour.Named.{Named}
+use Rattle.sdl_behaviour.specs.declared.behaviour.Row.{Row}
+use Rattle.sdl_behaviour.specs.declared.behaviour.Behaviour.{Behaviour}
 
 pub record DeclaredRow : Type 0 where
   pub state : StateId

@@ -1,6 +1,6 @@
 //! The behaviour of a set of process instances.
 ghost use Rattle.std.specs.Prelude.{◌≡◌, ◌<◌, [], ◌∷◌, ◌++◌, if◌then◌else◌, is_ok, IfErr, vec_len};
-ghost use Rattle.sdl_transition.specs.Transitions.{IsAllowed, IsAllowedBehaviour};
+ghost use Rattle.sdl_behaviour.specs.Transitions.{IsAllowed, IsAllowedBehaviour};
 
 use crate::agents::Agents;
 use crate::transition::Transition;
