@@ -24,9 +24,9 @@ use Rattle.sdl_instances.specs.declared.parts.ProcessSet.{ProcessSet}
 use Rattle.sdl_instances.specs.declared.event.Done.{Done}
 use Rattle.sdl_instances.specs.declared.event.Done.TheVariants as done
 use Rattle.sdl_instances.specs.declared.outputs.Mark.{Mark}
-use Rattle.sdl_instances.specs.Record.{Record}
+use Rattle.sdl_processes.specs.Record.{Record, newborn}
 use Rattle.sdl_transition.specs.Rules.{Rules, rules_for}
-use Rattle.sdl_instances.specs.Machine.{State, Does, DoesAll, newborn, set_of}
+use Rattle.sdl_instances.specs.Machine.{State, Does, DoesAll, set_of}
 use Rattle.sdl_instances.specs.Run.{IsNumbered, sent_by, waiting}
 use Rattle.sdl_instances.specs.Core.{HasSerial}
 use Rattle.sdl_instances.specs.Living.{StandsAt, HaveSerials, written, born, next_of, CreatesAt, OutputsAs, CanCarryOut, CarriesOut, TakesAt, system_with, mark_after}

@@ -12,7 +12,8 @@ use Rattle.sdl_behaviour.specs.declared.step.Step.{Step}
 use Rattle.sdl_transition.specs.Offers.{IsLegalValue}
 use Rattle.sdl_instances.specs.declared.parts.ProcessSet.{ProcessSet}
 use Rattle.sdl_transition.specs.Rules.{Rules, rules_for}
-use Rattle.sdl_instances.specs.Machine.{System, newborn}
+use Rattle.sdl_processes.specs.Record.{newborn}
+use Rattle.sdl_instances.specs.Machine.{System}
 use Rattle.sdl_instances.specs.Run.{first_instances, initial_of, initial_in, initial_instances, initial}
 use Rattle.sdl_instances.specs.Core.{Core, IsSound, IsBoundIn, AreRulesIn, IsLegalInstance, IsLegalIn, system_of}
 use Rattle.sdl_instances.proofs.Initial.{all_append}

@@ -14,7 +14,7 @@ use Rattle.sdl_instances.specs.declared.event.Done.{Done}
 use Rattle.sdl_instances.specs.declared.event.Event.TheVariants as event
 use Rattle.sdl_instances.specs.declared.event.Trigger.{Trigger}
 use Rattle.sdl_instances.specs.declared.outputs.Mark.{Mark}
-use Rattle.sdl_instances.specs.Record.{Record}
+use Rattle.sdl_processes.specs.Record.{Record}
 use Rattle.sdl_instances.specs.Machine.{State, DoesAll, Finishes}
 use Rattle.sdl_instances.specs.Run.{IsNumbered, sent_by, arrived, origins, next_stamp}
 use Rattle.sdl_instances.specs.Core.{Core, system_of}

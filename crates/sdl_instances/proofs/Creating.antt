@@ -7,17 +7,10 @@ use Rattle.sdl_signal.specs.declared.values.Pid.{Pid}
 use Rattle.sdl_signal.specs.declared.values.Pid.TheVariants as pid
 use Rattle.sdl_signal.specs.declared.values.Value.{Value}
 use Rattle.sdl_instances.specs.declared.parts.ProcessSet.{ProcessSet}
-use Rattle.sdl_instances.specs.Record.{Record}
-use Rattle.sdl_instances.specs.Machine.{State, newborn, number_living}
+use Rattle.sdl_processes.specs.Record.{Record, newborn}
+use Rattle.sdl_instances.specs.Machine.{State, number_living}
 use Rattle.sdl_instances.specs.Core.{HasSerial}
 use Rattle.sdl_instances.specs.Living.{StandsAt, written, born, next_of, CreatesAt}
-
--- two readings of one place agree
-pub value_same : (es : List (Pid × Record)) (place : ℕ) (k p : Pid) (v r : Record) → slice_get es place ≡ Some (k, v) → slice_get es place ≡ Some (p, r) → v ≡ r
-value_same es place k p v r is at = ap (λ (o : Option (Pid × Record)). (unwrap_or o (p, r)).1) (sym is ∙ at)
-
-pub key_same : (es : List (Pid × Record)) (place : ℕ) (k p : Pid) (v r : Record) → slice_get es place ≡ Some (k, v) → slice_get es place ≡ Some (p, r) → k ≡ p
-key_same es place k p v r is at = ap (λ (o : Option (Pid × Record)). (unwrap_or o (p, r)).0) (sym is ∙ at)
 
 pub get_append_left : {X : Type 0} (xs ys : List X) (i : ℕ) (x : X) → slice_get xs i ≡ Some x → slice_get (xs ++ ys) i ≡ Some x
 get_append_left [] ys i x h = absurd (true≢false (sym (ap is_some h)))
@@ -77,12 +70,6 @@ module _ (sets : List ProcessSet) (place : ℕ) (p : Pid) (r : Record) (set : Se
         (λ e is lt. full (subst (λ (x : ProcessSet). number_living set old < x.maximum) (ap (λ (o : Option ProcessSet). unwrap_or o d) (sym is ∙ here)) lt)),
         is_new ∙ ap (λ (x : Pid). written old place p (record r { offspring = x })) is_made,
       )
-
--- inside a list what stands for no element doesn't matter
-pub get_any : (xs : List ℕ) (k a b : ℕ) → k < length xs → get_or xs k a ≡ get_or xs k b
-get_any [] k a b h = absurd (omega (arith, h))
-get_any (x ∷ xs) zero a b h = refl
-get_any (x ∷ xs) (suc k) a b h = get_any xs k a b (omega (arith, h))
 
 -- where an instance can be created there is room for its place among those of its set
 births_by : (n m b : ℕ) (c : Bool) → nat_le n m ≡ c → 0 < (if c then b else 0) → (n ≤ m) × (0 < b)

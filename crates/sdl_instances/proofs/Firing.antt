@@ -22,17 +22,17 @@ use Rattle.sdl_instances.specs.declared.parts.ProcessSet.{ProcessSet}
 use Rattle.sdl_instances.specs.declared.event.Event.TheVariants as event
 use Rattle.sdl_instances.specs.declared.event.Trigger.{Trigger}
 use Rattle.sdl_instances.specs.declared.event.Trigger.TheVariants as trigger
-use Rattle.sdl_instances.specs.Record.{Record}
-use Rattle.sdl_instances.specs.Machine.{State, System, Transits, rules_at, set_of, frame_of, consumed}
+use Rattle.sdl_processes.specs.Record.{Record, consumed, is_ready}
+use Rattle.sdl_instances.specs.Machine.{State, System, Transits, rules_at, set_of, frame_of}
 use Rattle.sdl_instances.specs.Run.{turns, origins, sent}
 use Rattle.sdl_instances.specs.Core.{Core, IsSound, IsOfferIn, IsLegalIn, IsLegalInstance, HasSerial}
 use Rattle.sdl_instances.specs.Calls.{TurnAnswers}
 use Rattle.sdl_instances.specs.Living.{StandsAt, HaveSerials, written, CanAct, CanCarryOut, TakesAt, next_frame}
 use Rattle.sdl_instances.specs.Turning.{Completes, Fires}
-use Rattle.sdl_instances.specs.Ready.{is_ready, number_ready, IsReadyAtPlace}
+use Rattle.sdl_instances.specs.Ready.{number_ready, IsReadyAtPlace}
 use Rattle.sdl_instances.specs.declared.event.Turned.TheVariants as turned
 use Rattle.arrayvec.specs.declared.array_vec.ArrayVec.{ArrayVec}
-use Rattle.sdl_instances.proofs.Readiness.{is_so}
+use Rattle.sdl_processes.proofs.Readiness.{is_so}
 use Rattle.sdl_instances.proofs.SoundTurn.{sound_turn_after}
 use Rattle.sdl_instances.proofs.Sound.{all_at}
 use Rattle.sdl_instances.proofs.Conforming.{conforms}

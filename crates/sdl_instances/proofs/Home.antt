@@ -29,9 +29,9 @@ use Rattle.sdl_instances.specs.declared.event.Event.{Event}
 use Rattle.sdl_instances.specs.declared.event.Event.TheVariants as event
 use Rattle.sdl_instances.specs.declared.event.Trigger.{Trigger}
 use Rattle.sdl_instances.specs.declared.event.Trigger.TheVariants as trigger
-use Rattle.sdl_instances.specs.Record.{Record}
+use Rattle.sdl_processes.specs.Record.{Record, consumed}
 use Rattle.sdl_transition.specs.Rules.{Rule, Rules, rules_for}
-use Rattle.sdl_instances.specs.Machine.{State, System, FitsAt, Becomes, Leaves, Does, DoesAll, Finishes, Transits, Turns, IsBorn, set_of, consumed, next_any, next_at}
+use Rattle.sdl_instances.specs.Machine.{State, System, FitsAt, Becomes, Leaves, Does, DoesAll, Finishes, Transits, Turns, IsBorn, set_of, next_any, next_at}
 use Rattle.sdl_instances.specs.Run.{IsRun, Leads, first_instances, initial_of, initial_in, initial_instances, initial, done_in, sent, sent_by}
 use Rattle.sdl_instances.specs.Core.{Core, IsSound, IsBoundIn, IsOfferIn}
 use Rattle.sdl_instances.proofs.Initial.{all_append}

@@ -13,11 +13,11 @@ use Rattle.sdl_signal.specs.declared.values.Pid.{Pid}
 use Rattle.sdl_signal.specs.declared.values.Pid.TheVariants as pid
 use Rattle.sdl_signal.specs.declared.values.Value.{Value}
 use Rattle.sdl_instances.specs.declared.parts.ProcessSet.{ProcessSet}
-use Rattle.sdl_instances.specs.Record.{Record}
+use Rattle.sdl_processes.specs.Record.{Record, newborn}
 use Rattle.sdl_transition.specs.Rules.{Rules, rules_for}
-use Rattle.sdl_instances.specs.Machine.{is_of, newborn}
+use Rattle.sdl_processes.specs.Places.{is_of}
 use Rattle.sdl_instances.specs.Run.{first_instances, initial_of, initial_in, initial_instances, waiting}
-use Rattle.sdl_instances.proofs.Pids.{same, same-is}
+use Rattle.sdl_processes.proofs.Entries.{same, same-is, insert_new}
 
 pub all_append : {X : Type 0} (P : X → Type 0) (xs ys : List X) → AllByRecursion P xs → AllByRecursion P ys → AllByRecursion P (xs ++ ys)
 all_append P [] ys h k = k
@@ -57,11 +57,6 @@ first_lower set vars zero m lt = tt
 first_lower set vars (suc n) m lt =
     all_append (λ (e : Pid × Record). same (pid.Inst set m) e.0 ≡ false) (first_instances set vars n) ((pid.Inst set (suc n), newborn vars pid.Null) ∷ [])
     (first_lower set vars n m (omega (arith, lt))) (lower set m (suc n) lt, tt)
-
-pub insert_new : (es : List (Pid × Record)) (p : Pid) (r : Record) → AllByRecursion (λ e. same p e.0 ≡ false) es → insert_entry same es p r ≡ es ++ (p, r) ∷ []
-insert_new [] p r h = refl
-insert_new (e ∷ es) p r h =
-    ap (λ b. if b then (e.0, r) ∷ es else e ∷ insert_entry same es p r) h.0 ∙ ap (λ l. e ∷ l) (insert_new es p r h.1)
 
 -- one more of the first instances goes last
 insert_first-suc : (old es : List (Pid × Record)) (set : SetId) (vars : List Value) (n : ℕ) → AllByRecursion (λ e. is_of set e.0 ≡ false) old → es ≡ old ++ first_instances set vars n

@@ -22,7 +22,7 @@ use Rattle.sdl_behaviour.specs.declared.step.Action.TheVariants as action
 use Rattle.sdl_behaviour.specs.declared.offer.Offer.{Offer}
 use Rattle.sdl_behaviour.specs.declared.offer.OfferedOutput.{OfferedOutput}
 use Rattle.sdl_transition.specs.Offers.{sort_of, IsLegalPid, IsLegalValue, IsLegalDest, IsOfferedAs, IsActionOf}
-use Rattle.sdl_instances.specs.Record.{Record}
+use Rattle.sdl_processes.specs.Record.{Record}
 use Rattle.sdl_instances.specs.declared.event.Done.{Done}
 use Rattle.sdl_instances.specs.declared.event.Done.TheVariants as done
 use Rattle.sdl_instances.specs.Machine.{State, System, FitsAt, Does, DoesAll, addressee}

@@ -12,9 +12,9 @@ use Rattle.sdl_signal.specs.declared.values.Item.{Item}
 use Rattle.sdl_behaviour.specs.declared.step.Next.{Next}
 use Rattle.sdl_behaviour.specs.declared.step.Next.TheVariants as next_is
 use Rattle.sdl_transition.specs.Offers.{sort_of, IsLegalPid, IsLegalValue}
-use Rattle.sdl_instances.specs.Record.{Record}
+use Rattle.sdl_processes.specs.Record.{Record, consumed, newborn}
 use Rattle.sdl_transition.specs.Rules.{Rules}
-use Rattle.sdl_instances.specs.Machine.{State, System, LivesAs, Becomes, Leaves, Finishes, HasRoom, IsBorn, rules_at, consumed, newborn}
+use Rattle.sdl_instances.specs.Machine.{State, System, LivesAs, Becomes, Leaves, Finishes, HasRoom, IsBorn, rules_at}
 use Rattle.sdl_instances.specs.Core.{IsBoundIn, AreRulesIn, IsLegalInstance, IsLegalIn, HasSerial}
 use Rattle.sdl_instances.proofs.Begin.{rules_in}
 use Rattle.sdl_instances.proofs.Frames.{pid_legal}

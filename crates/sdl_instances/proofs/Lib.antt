@@ -9,8 +9,6 @@ pub mod Takes
 pub mod Rows
 pub mod WrongBodies
 pub mod Readiness
-mod ReadyPlaces
-mod SetPlaces
 mod Creating
 pub mod Choosing
 mod Acting

@@ -1,4 +1,4 @@
--- The code's test of two Pids is equality, and what a search by it finds.
+-- What a search for a Pid by the code's test finds.
 use Rattle.std.proofs.Common.{◌≡◌, ℕ, Bool, true, false, refl, ap, sym, ◌∙◌, true≢false, List, [], ◌∷◌, None, Some, slice_get, is_some, unwrap_or, get_or, position, length, ◌<◌, ltb, cond, zero, suc, arith, subst}
 use Rattle.std.proofs.lemmas.Bool.{ltb-false, eqb-true, eq-eqb, and_parts, and_from}
 use Rattle.std.proofs.lemmas.List.Quantifiers.{position-Some}
@@ -8,30 +8,10 @@ use Rattle.std.specs.Map.{keys_of}
 use Rattle.sdl_signal.specs.declared.values.Pid.{Pid}
 use Rattle.sdl_signal.specs.declared.values.Pid.TheVariants as pid
 use Rattle.sdl_signal.specs.contracts.values.PidPartialEq.TheImpl as test
-use Rattle.sdl_instances.specs.Record.{Record}
+use Rattle.sdl_processes.specs.Record.{Record}
 use Rattle.sdl_instances.specs.Machine.{State, Lives, pids}
+use Rattle.sdl_processes.proofs.Entries.{same, same-self, same-is}
 use Rattle.sdl_instances.proofs.Places.{keys_of-at}
-
-abbrev pub same : Pid → Pid → Bool
-same p q = test.eq-value.it p q
-
-pub same-self : (p : Pid) → same p p ≡ true
-same-self pid.Null = refl
-same-self pid.Env = refl
-same-self (pid.Inst s n) = and_from _ _ (eq-eqb s.0 s.0 refl) (eq-eqb n n refl)
-
-pub same-is : (p q : Pid) → same p q ≡ true → p ≡ q
-same-is pid.Null pid.Null h = refl
-same-is pid.Env pid.Env h = refl
-same-is pid.Null pid.Env h = absurd (true≢false (sym h))
-same-is pid.Env pid.Null h = absurd (true≢false (sym h))
-same-is pid.Null (pid.Inst s n) h = absurd (true≢false (sym h))
-same-is pid.Env (pid.Inst s n) h = absurd (true≢false (sym h))
-same-is (pid.Inst s n) pid.Null h = absurd (true≢false (sym h))
-same-is (pid.Inst s n) pid.Env h = absurd (true≢false (sym h))
-same-is (pid.Inst s n) (pid.Inst t m) h =
-    let parts = and_parts _ _ h in
-    ap (λ k. pid.Inst (record { 0 = k }) n) (eqb-true s.0 t.0 parts.0) ∙ ap (λ k. pid.Inst t k) (eqb-true n m parts.1)
 
 pub get_or-at : {X : Type 0} (xs : List X) (i : ℕ) (d x : X) → slice_get xs i ≡ Some x → get_or xs i d ≡ x
 get_or-at [] i d x h = absurd (true≢false (sym (ap is_some h)))

@@ -3,22 +3,10 @@ use Rattle.std.proofs.Common.{◌≡◌, ℕ, zero, suc, List, [], ◌∷◌, So
 use Rattle.std.specs.Map.{keys_of}
 use Rattle.indexmap.specs.Layout.{set_value_at}
 use Rattle.sdl_signal.specs.declared.values.Pid.{Pid}
-use Rattle.sdl_instances.specs.Record.{Record}
+use Rattle.sdl_processes.specs.Record.{Record}
 use Rattle.sdl_instances.specs.Machine.{State, Becomes, pids}
 
 module _ {K X : Type 0} where
-  -- a written value is a written entry
-  pub set_value_at-is : (es : List (K × X)) (i : ℕ) (p : K × X) (w : X) → slice_get es i ≡ Some p → set_value_at es i w ≡ slice_set es i (p.0, w)
-  set_value_at-is [] i p w h = absurd (true≢false (sym (ap is_some h)))
-  set_value_at-is (e ∷ es) zero p w h = ap (λ o. ((unwrap_or o p).0, w) ∷ es) h
-  set_value_at-is (e ∷ es) (suc i) p w h = ap (λ l. e ∷ l) (set_value_at-is es i p w h)
-
-  -- the same value written again changes nothing
-  pub set_value_at-same : (es : List (K × X)) (i : ℕ) (p : K × X) → slice_get es i ≡ Some p → set_value_at es i p.1 ≡ es
-  set_value_at-same [] i p h = refl
-  set_value_at-same (e ∷ es) zero p h = ap (λ o. (e.0, (unwrap_or o p).1) ∷ es) (sym h)
-  set_value_at-same (e ∷ es) (suc i) p h = ap (λ l. e ∷ l) (set_value_at-same es i p h)
-
   -- the key of an entry stands at its place
   pub keys_of-at : (es : List (K × X)) (i : ℕ) (p : K × X) → slice_get es i ≡ Some p → slice_get (keys_of es) i ≡ Some p.0
   keys_of-at [] i p h = absurd (true≢false (sym (ap is_some h)))

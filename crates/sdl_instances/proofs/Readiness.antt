@@ -1,122 +1,16 @@
 -- What a look at the instances finds.
-use Rattle.std.proofs.Common.{◌≡◌, ℕ, zero, suc, ◌+◌, ◌%◌, get_or, ◌<◌, Bool, true, false, ◌||◌, not, is_none, nat_eq, List, [], ◌∷◌, Option, None, Some, ◌⊎◌, inl, inr, refl, ap, sym, ◌∙◌, subst, sum_by, true≢false, is_some, unwrap_or, length, length-append, take, drop, cond, ◌++◌, take-append-drop, slice_get, count_by, arith}
-use Rattle.std.proofs.lemmas.List.Sums.{count_by_more_yes, sum_by-append}
-use Rattle.std.proofs.lemmas.Option.{slice_get_within, get_or_from_slice_get, slice_get-get_or}
-use Rattle.std.specs.Map.{values_of}
+use Rattle.std.proofs.Common.{◌≡◌, ℕ, ◌+◌, ◌%◌, get_or, ◌<◌, List, Some, ap, sym, ◌∙◌, subst, length, slice_get, arith}
+use Rattle.std.proofs.lemmas.Option.{slice_get-get_or}
 use Rattle.sdl_signal.specs.declared.values.Pid.{Pid}
-use Rattle.sdl_signal.specs.declared.values.Item.{Item}
-use Rattle.sdl_signal.specs.declared.values.Value.{Value}
-use Rattle.sdl_signal.specs.declared.ids.StateId.{StateId}
-use Rattle.sdl_instances.specs.Record.{Record}
+use Rattle.sdl_processes.specs.Places.{ready_places}
+use Rattle.sdl_processes.proofs.Readiness.{ready_is, is_so, record_of, some_ready, count_places, place_at}
 use Rattle.sdl_instances.specs.Machine.{State}
 use Rattle.sdl_instances.specs.Core.{IsReady}
-use Rattle.sdl_instances.specs.Ready.{is_ready, records, number_ready, at_if, ready_places, IsReadyAtPlace}
-
--- the two ways to say that an instance is ready
-not_so : (b : Bool) → (b ≡ true → ⊥) → not b ≡ true
-not_so true h = absurd (h refl)
-not_so false h = refl
-
-port_not_empty : (port : List Item) → (port ≡ [] → ⊥) → not (nat_eq (length port) 0) ≡ true
-port_not_empty [] h = absurd (h refl)
-port_not_empty (i ∷ port) h = not_so (nat_eq (length (i ∷ port)) 0) (λ e. let z : length (i ∷ port) ≡ 0 = grind (arith, e) in omega (arith, z))
-
-waits_for_none : (b : Bool) → (b || true) ≡ true
-waits_for_none true = refl
-waits_for_none false = refl
-
-pub ready_is : (r : Record) → ((r.state ≡ None) ⊎ (r.port ≡ [] → ⊥)) → is_ready r ≡ true
-ready_is r (inl fresh) = ap (λ (o : Option _). is_none o || not (nat_eq (length r.port) 0)) fresh
-ready_is r (inr waiting) = ap (λ b. is_none r.state || b) (port_not_empty r.port waiting) ∙ waits_for_none (is_none r.state)
-
--- an instance is ready with a signal in its port, and where it is once it has a state
-pub waiting_ready : (r : Record) (i : Item) (rest : List Item) → r.port ≡ i ∷ rest → is_ready r ≡ true
-waiting_ready r i rest port = ready_is r (inr (λ e. let z : length (i ∷ rest) ≡ 0 = ap length (sym port ∙ e) in omega (arith, z)))
-
-pub received_ready : (r t : Record) (i : Item) → t ≡ record r { port = r.port ++ i ∷ [] } → is_ready t ≡ true
-received_ready r t i is =
-    let more : length (r.port ++ i ∷ []) ≡ length r.port + 1 = length-append r.port (i ∷ []) in
-    ready_is t (inr (λ e. let z : length (r.port ++ i ∷ []) ≡ 0 = ap length (sym (ap (λ (x : Record). x.port) is) ∙ e) in omega (arith, z, more)))
-
-pub proceeds_ready : (r t : Record) (q : StateId) (vars : List Value) → t ≡ record r { state = Some q; vars = vars } → is_ready t ≡ true → is_ready r ≡ true
-proceeds_ready r t q vars is h = ap (λ b. is_none r.state || b) (sym (ap is_ready is) ∙ h) ∙ waits_for_none (is_none r.state)
-
-not_empty : (port : List Item) → not (nat_eq (length port) 0) ≡ true → port ≡ [] → ⊥
-not_empty port h e = true≢false (sym h ∙ ap (λ (l : List Item). not (nat_eq (length l) 0)) e)
-
-by_state : {Q : Type 0} (o : Option Q) (port : List Item) → (is_none o || not (nat_eq (length port) 0)) ≡ true → (o ≡ None) ⊎ (port ≡ [] → ⊥)
-by_state None port h = inl refl
-by_state (Some q) port h = inr (not_empty port h)
-
-pub is_so : (r : Record) → is_ready r ≡ true → (r.state ≡ None) ⊎ (r.port ≡ [] → ⊥)
-is_so r h = by_state r.state r.port h
-
--- the entry of a record
-module _ {K X : Type 0} where
-  pub entry_of : (es : List (K × X)) (i : ℕ) (x : X) → slice_get (values_of es) i ≡ Some x → (k : K) × (slice_get es i ≡ Some (k, x))
-  entry_of [] i x h = absurd (true≢false (sym (ap is_some h)))
-  entry_of (e ∷ es) zero x h = (e.0, ap (λ o. Some (e.0, unwrap_or o x)) h)
-  entry_of (e ∷ es) (suc i) x h = entry_of es i x h
-
-  pub record_of : (es : List (K × X)) (i : ℕ) (k : K) (x : X) → slice_get es i ≡ Some (k, x) → slice_get (values_of es) i ≡ Some x
-  record_of [] i k x h = absurd (true≢false (sym (ap is_some h)))
-  record_of (e ∷ es) zero k x h = ap (λ (o : Option (K × X)). Some (unwrap_or o (k, x)).1) h
-  record_of (e ∷ es) (suc i) k x h = record_of es i k x h
-
--- where one is ready their number is not 0
-some_ready : (rs : List Record) (i : ℕ) (r : Record) → slice_get rs i ≡ Some r → is_ready r ≡ true → 0 < count_by is_ready rs
-some_ready rs i r at ready =
-    let within = slice_get_within rs i r at in
-    let more = count_by_more_yes is_ready rs i r within (ap is_ready (get_or_from_slice_get rs i r r at) ∙ ready) in
-    let parts = ap (count_by is_ready) (take-append-drop (i + 1) rs) in
-    let sum : count_by is_ready (take (i + 1) rs ++ drop (i + 1) rs) ≡ count_by is_ready (take (i + 1) rs) + count_by is_ready (drop (i + 1) rs) = sum_by-append (λ (x : Record). cond (is_ready x) 1 0) (take (i + 1) rs) (drop (i + 1) rs) in
-    omega (arith, more, parts, sum)
+use Rattle.sdl_instances.specs.Ready.{records, number_ready, IsReadyAtPlace}
 
 pub none_ready : (s : State) → number_ready s ≡ 0 → (p : Pid) → IsReady p s → ⊥
 none_ready s none p (r, lives, ready) =
     omega (arith, none, some_ready (records s) lives.0 r (record_of s.living lives.0 p r lives.1) (ready_is r ready))
-
--- what a count says of the first one
-count_first : (r : Record) (rs : List Record) (b : Bool) → is_ready r ≡ b → count_by is_ready (r ∷ rs) ≡ cond b 1 0 + count_by is_ready rs
-count_first r rs b is =
-    let f : Record → ℕ = λ x. cond (is_ready x) 1 0 in
-    let parts = sum_by-append f (r ∷ []) rs in
-    let one : sum_by f (r ∷ []) ≡ f r = omega arith in
-    let same : f r ≡ cond b 1 0 = ap (λ c. cond c 1 0) is in
-    omega (arith, parts, one, same)
-
--- there are as many places as ready ones
-length_if : (b : Bool) (n m : ℕ) (xs : List ℕ) → length xs ≡ m → length (at_if n b ++ xs) ≡ cond b 1 0 + m
-length_if true n m xs h = omega (arith, h)
-length_if false n m xs h = omega (arith, h)
-
-pub count_places : (es : List (Pid × Record)) (n : ℕ) → length (ready_places n es) ≡ count_by is_ready (values_of es)
-count_places [] n = refl
-count_places (e ∷ es) n =
-    length_if (is_ready e.1) n (count_by is_ready (values_of es)) (ready_places (n + 1) es) (count_places es (n + 1))
-    ∙ sym (count_first e.1 (values_of es) (is_ready e.1) refl)
-
--- the place at j is that of the ready one before which stand j others
-abbrev IsPlaceAt : List (Pid × Record) → ℕ → ℕ → ℕ → Type 0
-IsPlaceAt es n j x =
-    (k : ℕ) × (e : Pid × Record) × (x ≡ n + k) × (slice_get es k ≡ Some e) × (is_ready e.1 ≡ true) × (count_by is_ready (take k (values_of es)) ≡ j)
-
-later : (e : Pid × Record) (es : List (Pid × Record)) (n i j x : ℕ) (b : Bool) → is_ready e.1 ≡ b → j ≡ cond b 1 0 + i → IsPlaceAt es (n + 1) i x → IsPlaceAt (e ∷ es) n j x
-later e es n i j x b is more (k, at, place, here, ready, others) =
-    let first = count_first e.1 (take k (values_of es)) b is in
-    (suc k, at, omega (arith, place), here, ready, omega (arith, first, others, more))
-
-place_by : (e : Pid × Record) (es : List (Pid × Record)) (n : ℕ) (b : Bool) → is_ready e.1 ≡ b → ((j x : ℕ) → slice_get (ready_places (n + 1) es) j ≡ Some x → IsPlaceAt es (n + 1) j x)
-    → (j x : ℕ) → slice_get (at_if n b ++ ready_places (n + 1) es) j ≡ Some x → IsPlaceAt (e ∷ es) n j x
-place_by e es n true is more zero x h =
-    let here : n ≡ x = ap (λ o. unwrap_or o n) h in
-    (0, e, omega (arith, here), refl, is, refl)
-place_by e es n true is more (suc j) x h = later e es n j (suc j) x true is (omega arith) (more j x h)
-place_by e es n false is more j x h = later e es n j j x false is (omega arith) (more j x h)
-
-place_at : (es : List (Pid × Record)) (n j x : ℕ) → slice_get (ready_places n es) j ≡ Some x → IsPlaceAt es n j x
-place_at [] n j x h = absurd (true≢false (sym (ap is_some h)))
-place_at (e ∷ es) n j x h = place_by e es n (is_ready e.1) refl (λ i y k. place_at es (n + 1) i y k) j x h
 
 pub ready_at : (s : State) (j place : ℕ) → slice_get (ready_places 0 s.living) j ≡ Some place → (p : Pid) × IsReadyAtPlace s j place p
 ready_at s j place h =

@@ -5,7 +5,7 @@ use Rattle.sdl_signal.specs.declared.values.Pid.TheVariants as pid
 use Rattle.sdl_signal.specs.declared.values.Item.{Item}
 use Rattle.sdl_instances.specs.declared.event.Event.TheVariants as event
 use Rattle.sdl_instances.specs.declared.event.Cause.TheVariants as cause
-use Rattle.sdl_instances.specs.Record.{Record}
+use Rattle.sdl_processes.specs.Record.{Record}
 use Rattle.sdl_instances.specs.Machine.{State, next_any}
 use Rattle.sdl_instances.specs.Run.{IsRun}
 use Rattle.sdl_instances.specs.Core.{IsReady, IsBoundIn}

@@ -14,7 +14,7 @@ use Rattle.sdl_instances.specs.declared.event.Event.TheVariants as event
 use Rattle.sdl_instances.specs.declared.event.Arrival.{Arrival}
 use Rattle.sdl_instances.specs.declared.event.Arrival.TheVariants as arrival
 use Rattle.sdl_instances.specs.declared.event.Cause.TheVariants as cause
-use Rattle.sdl_instances.specs.Record.{Record}
+use Rattle.sdl_processes.specs.Record.{Record}
 use Rattle.sdl_instances.specs.Machine.{State, System, Arrives, next_any}
 use Rattle.sdl_instances.specs.Run.{IsRun, Leads, IsStamped, IsNumbered, above, arrived, arrived_in, all_done, done_in, sent_by}
 use Rattle.sdl_instances.specs.Core.{Core, IsSound, IsLegalIn, IsLegalInstance, arrival_event}

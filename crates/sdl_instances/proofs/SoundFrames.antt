@@ -6,9 +6,9 @@ use Rattle.sdl_signal.specs.declared.values.Item.{Item}
 use Rattle.sdl_behaviour.specs.declared.step.Frame.{Frame}
 use Rattle.sdl_behaviour.specs.declared.step.Step.{Step}
 use Rattle.sdl_transition.specs.Offers.{IsFrameOf}
-use Rattle.sdl_instances.specs.Record.{Record}
+use Rattle.sdl_processes.specs.Record.{Record, consumed}
 use Rattle.sdl_transition.specs.Rules.{Rule, Rules, row_for}
-use Rattle.sdl_instances.specs.Machine.{System, LivesAs, rules_at, frame_of, consumed}
+use Rattle.sdl_instances.specs.Machine.{System, LivesAs, rules_at, frame_of}
 use Rattle.sdl_instances.specs.Core.{Core, IsSound, IsLegalInstance}
 use Rattle.sdl_instances.proofs.Sound.{all_at}
 use Rattle.sdl_instances.proofs.Frames.{frame_at_start, frame_at_row}

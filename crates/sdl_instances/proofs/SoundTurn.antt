@@ -13,9 +13,9 @@ use Rattle.sdl_instances.specs.declared.event.Event.{Event}
 use Rattle.sdl_instances.specs.declared.event.Event.TheVariants as event
 use Rattle.sdl_instances.specs.declared.event.Trigger.{Trigger}
 use Rattle.sdl_instances.specs.declared.event.Trigger.TheVariants as trigger
-use Rattle.sdl_instances.specs.Record.{Record}
+use Rattle.sdl_processes.specs.Record.{Record, consumed}
 use Rattle.sdl_transition.specs.Rules.{Rule, Rules}
-use Rattle.sdl_instances.specs.Machine.{State, System, FitsAt, LivesAs, Transits, Turns, rules_at, consumed, next_any, next_at}
+use Rattle.sdl_instances.specs.Machine.{State, System, FitsAt, LivesAs, Transits, Turns, rules_at, next_any, next_at}
 use Rattle.sdl_instances.specs.Run.{IsNumbered, next_stamp, arrived, done_in, sent, sent_by, origins, turns}
 use Rattle.sdl_instances.specs.Core.{Core, IsSound, IsBoundIn, IsOfferIn, IsLegalIn}
 use Rattle.sdl_instances.specs.Calls.{IsTurnOf, KeepsRest}

@@ -9,7 +9,7 @@ use Rattle.sdl_instances.specs.declared.event.Event.TheVariants as event
 use Rattle.sdl_instances.specs.declared.event.Cause.TheVariants as cause
 use Rattle.sdl_instances.specs.declared.event.Done.TheVariants as done
 use Rattle.sdl_instances.specs.declared.event.Trigger.TheVariants as trigger
-use Rattle.sdl_instances.specs.Record.{Record}
+use Rattle.sdl_processes.specs.Record.{Record}
 use Rattle.sdl_instances.specs.Machine.{State, System, next_any, FitsAt, Lives, Does, rules_at}
 use Rattle.sdl_instances.specs.Run.{above, next_stamp}
 use Rattle.sdl_transition.specs.Rules.{Rules, row_for}

@@ -22,10 +22,11 @@ use Rattle.sdl_instances.specs.declared.event.Event.{Event}
 use Rattle.sdl_instances.specs.declared.event.Event.TheVariants as event
 use Rattle.sdl_instances.specs.declared.event.Arrival.{Arrival}
 use Rattle.sdl_instances.specs.declared.event.Arrival.TheVariants as arrival
-use Rattle.sdl_instances.specs.Record.{Record}
+use Rattle.sdl_processes.specs.Record.{Record}
 use Rattle.sdl_transition.specs.Rules.{Rules, RowRule, rules_for}
 use Rattle.sdl_instances.specs.Legal.{IsLegal}
-use Rattle.sdl_instances.specs.Machine.{State, System, LivesAs, is_of, pids, rules_at}
+use Rattle.sdl_processes.specs.Places.{is_of}
+use Rattle.sdl_instances.specs.Machine.{State, System, LivesAs, pids, rules_at}
 use Rattle.sdl_instances.specs.Run.{turns, arrived, origins, IsRun}
 
 -- the block, the sorts of the structure's signals, its sets, the machine's state, the log so far, and how many turns it may have

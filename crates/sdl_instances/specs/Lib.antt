@@ -1,4 +1,5 @@
-pub mod Record
+pub use Rattle.sdl_processes.specs.Record
+pub use Rattle.sdl_processes.specs.Places
 pub mod Legal
 pub mod Machine
 pub mod Run

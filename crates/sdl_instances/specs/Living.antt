@@ -25,9 +25,9 @@ use Rattle.sdl_instances.specs.declared.event.Done.{Done}
 use Rattle.sdl_instances.specs.declared.event.Done.TheVariants as done
 use Rattle.sdl_instances.specs.declared.living.Living.{Living}
 use Rattle.sdl_instances.specs.declared.outputs.Mark.{Mark}
-use Rattle.sdl_instances.specs.Record.{Record}
+use Rattle.sdl_processes.specs.Record.{Record, newborn, front_of}
 use Rattle.sdl_transition.specs.Rules.{Rules, rules_for}
-use Rattle.sdl_instances.specs.Machine.{State, System, NoneFits, DoesAll, frame_of, newborn, number_living, set_of, addressee, wish_of}
+use Rattle.sdl_instances.specs.Machine.{State, System, NoneFits, DoesAll, frame_of, number_living, set_of, addressee, wish_of}
 use Rattle.sdl_instances.specs.Run.{IsNumbered, sent_by, waiting}
 use Rattle.sdl_instances.specs.Core.{HasSerial}
 
@@ -60,10 +60,6 @@ born s set vars p =
       living = s.living ++ (next_of s set, newborn vars p) ∷ [];
       last = slice_set s.last set.0 (slice_index s.last set.0 + 1);
     }
-
--- the front signal of the port, which the next transition is for; none is before the start
-abbrev pub front_of : Record → Option Item
-front_of r = elim r.state [ None ↦ None | Some q ↦ slice_get r.port 0 ]
 
 -- what the next transition is shown
 abbrev pub next_frame : Pid → Record → Frame

@@ -1,5 +1,5 @@
 -- The machine of a block: which events may happen, and what each leads to.
-use Rattle.std.specs.Prelude.{◌≡◌, ℕ, ◌+◌, ◌<◌, List, [], ◌∷◌, ◌++◌, Option, None, Some, Bool, false, length, count_by, slice_get, slice_set, slice_index, remove, nat_eq}
+use Rattle.std.specs.Prelude.{◌≡◌, ℕ, ◌+◌, ◌<◌, List, [], ◌∷◌, ◌++◌, Option, None, Some, length, count_by, slice_get, slice_set, slice_index, remove}
 use Rattle.std.specs.Map.{keys_of}
 use Rattle.sdl_signal.specs.declared.ids.SetId.{SetId}
 use Rattle.sdl_signal.specs.declared.ids.StateId.{StateId}
@@ -38,7 +38,9 @@ use Rattle.sdl_instances.specs.declared.event.Done.{Done}
 use Rattle.sdl_instances.specs.declared.event.Done.TheVariants as done
 use Rattle.sdl_instances.specs.declared.event.Event.{Event}
 use Rattle.sdl_instances.specs.declared.event.Event.TheVariants as event
-use Rattle.sdl_instances.specs.Record.{Record}
+use Rattle.sdl_processes.specs.Record.{Record}
+pub use Rattle.sdl_processes.specs.Record.{newborn, consumed}
+pub use Rattle.sdl_processes.specs.Places.{is_of}
 
 -- the state of a block: its living instances in the order of their creation, and the last serial given out in each set
 pub record State : Type 0 where
@@ -80,12 +82,6 @@ pub record Leaves (p : Pid) (r : Record) (old new : State) : Type 0 where
   pub was : slice_get old.living place ≡ Some (p, r)
   pub living : new.living ≡ remove old.living place
   pub last : new.last ≡ old.last
-
--- whether the Pid is an instance of the set
-abbrev pub is_of : SetId → Pid → Bool
-is_of set (pid.Inst own serial) = nat_eq own.0 set.0
-is_of set pid.Null = false
-is_of set pid.Env = false
 
 -- the Pids of the living instances, in the order of their creation
 abbrev pub pids : State → List Pid
@@ -153,15 +149,6 @@ frame_of p r q signal =
       vars = record { items = r.vars };
       signal = signal;
     }
-
--- a new instance, not started
-abbrev pub newborn : List Value → Pid → Record
-newborn vars parent =
-    record { state = None; vars = vars; port = []; parent = parent; offspring = pid.Null; sender = pid.Null }
-
--- the record after the front of its port is consumed, the rest staying there
-abbrev pub consumed : Record → Item → List Item → Record
-consumed r i rest = record r { port = rest; sender = i.sender }
 
 -- then p goes on in the next state with the step's variables, or stops, and the signals in its port are discarded
 abbrev pub Finishes : Pid → State → List Value → Next → Option ℕ → State → Type 0

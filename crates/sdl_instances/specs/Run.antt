@@ -16,8 +16,8 @@ use Rattle.sdl_instances.specs.declared.event.Done.{Done}
 use Rattle.sdl_instances.specs.declared.event.Done.TheVariants as done
 use Rattle.sdl_instances.specs.declared.event.Event.{Event}
 use Rattle.sdl_instances.specs.declared.event.Event.TheVariants as event
-use Rattle.sdl_instances.specs.Record.{Record}
-use Rattle.sdl_instances.specs.Machine.{State, System, newborn, next_any}
+use Rattle.sdl_processes.specs.Record.{Record, newborn}
+use Rattle.sdl_instances.specs.Machine.{State, System, next_any}
 
 -- what an event did: the things done in its turn
 abbrev pub done_in : Event → List Done

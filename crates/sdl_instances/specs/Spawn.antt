@@ -30,7 +30,7 @@ use Rattle.sdl_instances.specs.declared.event.Event.{Event}
 use Rattle.sdl_instances.specs.declared.event.Event.TheVariants as event
 use Rattle.sdl_instances.specs.declared.event.Cause.TheVariants as cause
 use Rattle.sdl_instances.specs.declared.event.Trigger.TheVariants as trigger
-use Rattle.sdl_instances.specs.Record.{Record}
+use Rattle.sdl_processes.specs.Record.{Record}
 use Rattle.sdl_instances.specs.Machine.{State, System}
 
 abbrev pub set : ℕ → SetId

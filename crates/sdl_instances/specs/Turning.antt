@@ -9,8 +9,8 @@ use Rattle.sdl_instances.specs.declared.event.Done.{Done}
 use Rattle.sdl_instances.specs.declared.event.Event.{Event}
 use Rattle.sdl_instances.specs.declared.event.Event.TheVariants as event
 use Rattle.sdl_instances.specs.declared.event.Trigger.{Trigger}
-use Rattle.sdl_instances.specs.Record.{Record}
-use Rattle.sdl_instances.specs.Machine.{State, System, DoesAll, Finishes, next_at, consumed}
+use Rattle.sdl_processes.specs.Record.{Record, consumed}
+use Rattle.sdl_instances.specs.Machine.{State, System, DoesAll, Finishes, next_at}
 use Rattle.sdl_instances.specs.Run.{IsNumbered, sent_by, done_in, sent, arrived, origins, next_stamp}
 use Rattle.sdl_instances.specs.Core.{Core}
 use Rattle.sdl_instances.specs.Calls.{IsTurnOf, KeepsRest}

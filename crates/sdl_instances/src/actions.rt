@@ -2,7 +2,7 @@
 ghost use Rattle.std.specs.Prelude.{◌≡◌, ◌+◌, ◌<◌, ◌≤◌, ◌^◌, ◌++◌, ◌∷◌, [], ℕ, List, Some, length};
 ghost use Rattle.sdl_signal.specs.declared.values.Pid.{Pid};
 ghost use Rattle.sdl_signal.specs.declared.values.Sort.{Sort};
-ghost use Rattle.sdl_instances.specs.Record.{Record};
+ghost use Rattle.sdl_processes.specs.Record.{Record};
 ghost use Rattle.sdl_transition.specs.Rules.{block_rules};
 ghost use Rattle.sdl_transition.specs.Index.{IsIndexed};
 ghost use Rattle.sdl_instances.specs.Machine.{Does, set_of};
@@ -10,12 +10,12 @@ ghost use Rattle.sdl_instances.specs.Living.{state_of, births_of, StandsAt, CanA
 ghost use Rattle.std.specs.List.{AllByRecursion, flat_map};
 ghost use Rattle.sdl_instances.specs.Run.{origin_by, sent_by};
 
-use crate::copies::copied_item;
 use crate::event::Done;
 use crate::living::Living;
 use crate::outputs::{Mark, output};
 use crate::parts::ProcessSet;
 use arrayvec::ArrayVec;
+use sdl_processes::copies::copied_item;
 use sdl_routes::Routes;
 use sdl_signal::Item;
 use sdl_transition::{Action, Agents, BlockParts};

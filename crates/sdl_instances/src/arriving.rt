@@ -3,7 +3,7 @@ ghost use Rattle.std.specs.Prelude.{◌≡◌, ◌↔◌, IsTrue, All, IfSome, S
 ghost use Rattle.sdl_transition.specs.Offers.{IsLegalPid, IsLegalValue, AreOfSorts};
 ghost use Rattle.sdl_transition.specs.Offers as sorting;
 ghost use Rattle.sdl_instances.specs.Legal.{IsLegal};
-ghost use Rattle.sdl_instances.specs.Machine as machine;
+ghost use Rattle.sdl_processes.specs.Places as sets;
 ghost use Rattle.sdl_instances.specs.Arriving.{CanArrive, EndsAt, IsCarried, IsSetOf, NamesOf};
 ghost use Rattle.sdl_instances.specs.Core.{system_of};
 ghost use Rattle.sdl_instances.specs.Run.{turns};
@@ -183,7 +183,7 @@ fn names_of(set: SetId, to: Option<Pid>) -> bool
 
 /// Whether the Pid is an instance of the set.
 fn is_of(set: SetId, p: Pid) -> bool
-    ensures { result ≡ machine.is_of set p }
+    ensures { result ≡ sets.is_of set p }
 {
     match p {
         Pid::Inst(own, _) => own.0 == set.0,

@@ -32,9 +32,8 @@ pub struct BlockCore<S> {
 
 impl<S: Agents> BlockCore<S> {
     ghost use Rattle.std.specs.Prelude.{OnOk, OnErr, All, Some, true};
-    ghost use Rattle.sdl_instances.specs.Ready.{is_ready};
+    ghost use Rattle.sdl_processes.specs.Record.{is_ready, Record};
     ghost use Rattle.sdl_signal.specs.declared.values.Item.{Item};
-    ghost use Rattle.sdl_instances.specs.Record.{Record};
     ghost use Rattle.sdl_instances.specs.Cores.{core_of, parts_of, system_in, CanFire, HasTurnRoom};
     ghost use Rattle.sdl_instances.specs.Calls.{KeepsRest, TurnAnswers, hand_of};
     ghost use Rattle.sdl_instances.specs.Living.{StandsAt, next_frame};

@@ -1,17 +1,17 @@
 //! The initial instances of a block, and what a core keeps of the structure.
 ghost use Rattle.std.specs.Prelude.{◌≡◌, ◌++◌, ◌<◌, ◌≤◌, [], OnOk, IfOk, map, length, option_map, option_copied, false, slice_get};
 ghost use Rattle.sdl_instances.specs.Core.{numbers_of};
-ghost use Rattle.sdl_instances.specs.Machine.{is_of};
+ghost use Rattle.sdl_processes.specs.Places.{is_of};
 ghost use Rattle.sdl_instances.specs.Run.{first_instances, initial_instances, initial_of, initial_in};
 ghost use Rattle.sdl_transition.specs.Rules.{rules_for, rules_of, block_rules};
 ghost use Rattle.std.specs.List.{AllByRecursion};
 
-use crate::copies::{copied_sorts, copied_values};
-use crate::instance::Instance;
 use crate::parts::ProcessSet;
 use arrayvec::ArrayVec;
 use indexmap::IndexMap;
 use sdl_parts::{Set, SignalDecl};
+use sdl_processes::Instance;
+use sdl_processes::copies::{copied_sorts, copied_values};
 use sdl_signal::{BlockId, Pid, SetId, Sort, Value};
 use sdl_transition::{Behaviour, BlockParts};
 use std::alloc::{AllocError, Global};

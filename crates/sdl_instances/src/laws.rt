@@ -10,7 +10,7 @@ ghost use Rattle.sdl_instances.specs.declared.event.Event.TheVariants as event;
 ghost use Rattle.sdl_instances.specs.declared.event.Done.TheVariants as done;
 ghost use Rattle.sdl_instances.specs.declared.event.Cause.TheVariants as cause;
 ghost use Rattle.sdl_instances.specs.declared.event.Trigger.TheVariants as trigger;
-ghost use Rattle.sdl_instances.specs.Record.{Record};
+ghost use Rattle.sdl_processes.specs.Record.{Record};
 ghost use Rattle.sdl_instances.specs.Machine.{State, System, FitsAt, Lives, Does, next_any, next_at};
 ghost use Rattle.sdl_instances.specs.Core.{IsReady, IsBoundIn};
 ghost use Rattle.sdl_instances.specs.Run.{IsRun, waiting, next_stamp};

@@ -2,18 +2,16 @@
 ghost use Rattle.std.specs.Prelude.{◌≡◌, ◌+◌, ◌<◌, ◌≤◌, ◌^◌, ◌∷◌, List, length, slice_index, OnOk, OnErr, IfOk, IfErr, ◌++◌, []};
 ghost use Rattle.sdl_signal.specs.declared.values.Pid.{Pid};
 ghost use Rattle.sdl_signal.specs.declared.values.Item.{Item};
-ghost use Rattle.sdl_instances.specs.Record.{Record};
-ghost use Rattle.sdl_instances.specs.Machine.{consumed};
+ghost use Rattle.sdl_processes.specs.Record.{Record, consumed};
 ghost use Rattle.sdl_instances.specs.Living.{state_of, births_of, StandsAt, HaveSerials, written, born, next_of, next_frame, CreatesAt, FinishesAt, OutputsAs};
 
-use crate::copies::{copied_item, copied_values};
 use crate::event::Done;
 use crate::first::numbers_at;
-use crate::instance::Instance;
-use crate::instances::Instances;
 use crate::outputs::{Mark, output};
 use crate::parts::ProcessSet;
 use arrayvec::ArrayVec;
+use sdl_processes::copies::{copied_signal, copied_values};
+use sdl_processes::{Instance, Instances};
 use sdl_routes::{Routes, Via};
 use sdl_signal::{Item, Pid, SetId, Signal, Value};
 use sdl_transition::{Dest, Frame, Next};
@@ -26,6 +24,28 @@ pub struct Living {
     pub(crate) alloc: Global,
     pub(crate) instances: Instances,
     pub(crate) last: Vec<u32>,
+}
+
+/// What the next transition of the instance is shown, as the instance `pid`.
+fn next_frame(pid: Pid, instance: &Instance) -> Frame
+    ensures { result ≡ next_frame pid instance.now }
+{
+    let front = instance.front();
+    Frame {
+        self_pid: pid,
+        parent: instance.parent(),
+        offspring: instance.offspring(),
+        sender: match front {
+            Some(item) => item.sender,
+            None => instance.sender(),
+        },
+        state: instance.state(),
+        vars: copied_values(instance.vars().as_slice()),
+        signal: match front {
+            Some(item) => Some(copied_signal(&item.signal)),
+            None => None,
+        },
+    }
 }
 
 impl Living {
@@ -52,7 +72,7 @@ impl Living {
         ensures { (p : Pid) (r : Record) → StandsAt (state_of self.now) place p r → result ≡ next_frame p r }
     {
         let (pid, instance) = self.instances.get(place);
-        instance.frame(pid)
+        next_frame(pid, instance)
     }
 
     /// Carries out an output of the instance at this place.

@@ -5,9 +5,9 @@ ghost use Rattle.sdl_signal.specs.declared.values.Signal.{Signal};
 ghost use Rattle.sdl_instances.specs.Machine.{set_of, addressee, goal_at, goal_of};
 ghost use Rattle.sdl_instances.specs.Living.{OutputsAs, mark_after};
 
-use crate::copies::copied_signal;
 use crate::event::Done;
-use crate::instance::Instance;
+use sdl_processes::Instance;
+use sdl_processes::copies::copied_signal;
 use sdl_routes::{Goal, Routes, Source, Via, Wish};
 use sdl_signal::{Item, Origin, Pid, SetId, Signal, SignalId};
 use sdl_transition::{Dest, Frame};
@@ -80,9 +80,9 @@ fn addressee(pid: Pid, instance: &Instance, dest: Dest) -> Option<Pid>
     match dest {
         Dest::Anywhere => None,
         Dest::SelfPid => Some(pid),
-        Dest::Parent => Some(instance.parent),
-        Dest::Offspring => Some(instance.offspring),
-        Dest::Sender => Some(instance.sender),
+        Dest::Parent => Some(instance.parent()),
+        Dest::Offspring => Some(instance.offspring()),
+        Dest::Sender => Some(instance.sender()),
         Dest::Pid(named) => Some(named),
         Dest::Set(_) => None,
     }
@@ -107,9 +107,9 @@ fn goal_of(pid: Pid, instance: &Instance, dest: Dest) -> Goal
         Dest::Anywhere => Goal::Anywhere,
         Dest::Set(set) => Goal::Set(set),
         Dest::SelfPid => goal_at(pid),
-        Dest::Parent => goal_at(instance.parent),
-        Dest::Offspring => goal_at(instance.offspring),
-        Dest::Sender => goal_at(instance.sender),
+        Dest::Parent => goal_at(instance.parent()),
+        Dest::Offspring => goal_at(instance.offspring()),
+        Dest::Sender => goal_at(instance.sender()),
         Dest::Pid(named) => goal_at(named),
     }
 }

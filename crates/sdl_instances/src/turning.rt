@@ -5,7 +5,7 @@ ghost use Rattle.sdl_signal.specs.declared.values.Pid.{Pid};
 ghost use Rattle.sdl_signal.specs.declared.values.Item.{Item};
 ghost use Rattle.sdl_instances.specs.declared.event.Event.TheVariants as event;
 ghost use Rattle.sdl_instances.specs.declared.event.Trigger.TheVariants as trigger;
-ghost use Rattle.sdl_instances.specs.Record.{Record};
+ghost use Rattle.sdl_processes.specs.Record.{Record};
 ghost use Rattle.sdl_transition.specs.Rules.{block_rules};
 ghost use Rattle.sdl_transition.specs.Index.{IsIndexed};
 ghost use Rattle.sdl_instances.specs.Run.{turns, origins};

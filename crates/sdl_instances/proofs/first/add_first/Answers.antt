@@ -1,8 +1,8 @@
 use Rattle.std.proofs.Common.{◌+◌, ap, ◌∙◌}
 use Rattle.indexmap.specs.IndexMap.{insert_entry}
 use Rattle.sdl_signal.specs.declared.values.Pid.TheVariants as pid
-use Rattle.sdl_instances.specs.Machine.{newborn}
-use Rattle.sdl_instances.proofs.Pids.{same}
+use Rattle.sdl_processes.specs.Record.{newborn}
+use Rattle.sdl_processes.proofs.Entries.{same}
 use Rattle.sdl_instances.proofs.Initial.{insert_first}
 use Rattle.sdl_instances.proofs.first.add_first.Goals as goal
 

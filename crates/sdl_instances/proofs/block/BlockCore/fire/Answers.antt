@@ -6,7 +6,7 @@ use Rattle.sdl_behaviour.specs.declared.step.Frame.{Frame}
 use Rattle.sdl_transition.specs.Offers.{IsFrameOf}
 use Rattle.sdl_transition.specs.Rules.{rule_of, row_for, block_rules}
 use Rattle.sdl_instances.specs.declared.event.Trigger.TheVariants as trigger
-use Rattle.sdl_instances.specs.Machine.{consumed}
+use Rattle.sdl_processes.specs.Record.{consumed}
 use Rattle.sdl_instances.specs.Core.{Core, system_of}
 use Rattle.sdl_instances.specs.Cores.{core_of, system_in}
 use Rattle.sdl_instances.specs.Living.{StandsAt, CanAct, CanCarryOut}

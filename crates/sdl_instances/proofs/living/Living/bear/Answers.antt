@@ -1,6 +1,7 @@
 use Rattle.std.proofs.Common.{ap, length, ◌∙◌, arith}
-use Rattle.sdl_instances.specs.Machine.{newborn}
-use Rattle.sdl_instances.proofs.Creating.{born_is, can_bear, fresh, get_any}
+use Rattle.sdl_processes.specs.Record.{newborn}
+use Rattle.sdl_processes.proofs.Entries.{get_any}
+use Rattle.sdl_instances.proofs.Creating.{born_is, can_bear, fresh}
 use Rattle.sdl_instances.proofs.living.Living.bear.Goals as goal
 
 pub add-requires : goal.add-requires

@@ -1,6 +1,6 @@
 use Rattle.std.proofs.Common.{ap, ◌≡◌, ◌∙◌, subst, List, arith}
 use Rattle.sdl_signal.specs.declared.values.Pid.{Pid}
-use Rattle.sdl_instances.specs.Record.{Record}
+use Rattle.sdl_processes.specs.Record.{Record}
 use Rattle.sdl_instances.specs.Machine.{State, number_living}
 use Rattle.sdl_instances.specs.Living.{state_of, written, StandsAt}
 use Rattle.sdl_instances.proofs.Creating.{creates_one, creates_none}

@@ -1,5 +1,5 @@
 use Rattle.std.proofs.Common.{◌≡◌, take, sum_by, length}
-use Rattle.sdl_instances.specs.Record.{Record}
+use Rattle.sdl_processes.specs.Record.{Record}
 use Rattle.sdl_instances.proofs.table.Table.left_in_ports.Given as goal
 
 abbrev pub invariant-loop-instance : goal.invariant-loop-instance

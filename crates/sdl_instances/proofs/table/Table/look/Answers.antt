@@ -1,8 +1,9 @@
 use Rattle.std.proofs.Common.{◌≡◌, ◌<◌, ap, sym, ◌∙◌, length, subst, arith}
 use Rattle.sdl_instances.specs.Core.{Held}
 use Rattle.sdl_instances.specs.Run.{turns}
-use Rattle.sdl_instances.specs.Ready.{ready_places}
-use Rattle.sdl_instances.proofs.Readiness.{none_ready, count_places, pick_ready, some_is}
+use Rattle.sdl_processes.specs.Places.{ready_places}
+use Rattle.sdl_processes.proofs.Readiness.{count_places}
+use Rattle.sdl_instances.proofs.Readiness.{none_ready, pick_ready, some_is}
 use Rattle.sdl_instances.proofs.table.Table.look.Goals as goal
 
 pub returns-then-ready-eq0 : goal.returns-then-ready-eq0

@@ -1,9 +1,0 @@
-use Rattle.std.proofs.Common.{◌≡◌, map, take}
-use Rattle.std.specs.List.{AllByRecursion}
-use Rattle.sdl_instances.proofs.SetPlaces.{HasRoom, items_of}
-use Rattle.sdl_instances.proofs.by_set.reserve_each.Given as goal
-
-abbrev pub invariant-loop-list : goal.invariant-loop-list
-invariant-loop-list l =
-    (map items_of l.list-items ≡ map items_of l.fn.lists.items)
-    × AllByRecursion (HasRoom l.room) (take l.list-index l.list-items)

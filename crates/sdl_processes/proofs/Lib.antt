@@ -1,0 +1,4 @@
+pub mod Entries
+pub mod Readiness
+mod ReadyPlaces
+mod SetPlaces
