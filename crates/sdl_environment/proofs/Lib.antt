@@ -5,3 +5,4 @@ pub mod EnvReading
 pub mod EnvPieces
 pub mod EnvStepping
 pub mod EnvAgain
+pub mod EnvNext

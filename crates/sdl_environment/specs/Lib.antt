@@ -1,1 +1,2 @@
 pub mod EnvPhases
+pub mod EnvSteps

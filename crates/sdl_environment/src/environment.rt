@@ -1,28 +1,27 @@
 //! The environment at work: it reads lines and outputs their signals, and writes what it receives as lines.
-ghost use Rattle.std.specs.Prelude.{◌≡◌, ◌<◌, ℕ, List, [], ◌∷◌, ◌++◌, Option, All, None, length};
+ghost use Rattle.std.specs.Prelude.{◌≡◌, ◌≢◌, ℕ, List, [], Option, All, IfOk};
 ghost use Rattle.sdl_signal.specs.declared.values.Item.{Item};
-ghost use Rattle.sdl_parts.specs.Structure.{Structure, IsStructure};
-ghost use Rattle.sdl_routes.specs.declared.parts.Row.{Row};
+ghost use Rattle.sdl_parts.specs.Structure.{IsStructure};
 ghost use Rattle.sdl_routes.specs.declared.parts.Station.{Station};
 ghost use Rattle.sdl_routes.specs.Routes.{AreRoutesOf};
 ghost use Rattle.sdl_routes.specs.declared.parts.Station.TheVariants.{Outlet};
 ghost use Rattle.sdl_forward.specs.Boards.{waiting, IsBoardOf};
-ghost use Rattle.sdl_hand.specs.declared.hand.Stepped.{Stepped};
-ghost use Rattle.sdl_hand.specs.Puts.{AreRouted, IsRouted, PutsOut};
-ghost use Rattle.sdl_outcome.specs.EnvironmentWork.{EnvWorking, OwnEnd, IsEnvFresh, IsEnvSound, IsLegalItem, GoesOut, EnvStepsAs, HasReadSoFar, HasReadAll, HasWrittenSoFar, HasWritten, IsOutputOf, sent_of, goal_to, end_gate_of, received_text, input_end};
+ghost use Rattle.sdl_hand.specs.declared.hand.Stepped.TheVariants.{Memory};
+ghost use Rattle.sdl_hand.specs.Puts.{AreRouted, PutsOut};
+ghost use Rattle.sdl_outcome.specs.EnvironmentWork.{OwnEnd, IsEnvFresh, IsEnvSound, IsLegalItem, GoesOut, EnvStepsAs, HasReadSoFar, HasWrittenSoFar, input_end};
 ghost use Rattle.sdl_environment.specs.EnvPhases.{IsWritable, HasReadBy, HasWrittenBy, Reads, Receives, EnvStepsTo};
+ghost use Rattle.sdl_environment.specs.EnvSteps.{ReadsNext, TakesNext, StepsOn};
 
+pub use crate::laws::{goes_on, stops_reading};
+use crate::outputs::{output_of, send};
+use crate::writing::write;
 use arrayvec::ArrayVec;
 use sdl_forward::Board;
 use sdl_hand::{Hand, Refused, Stepped, answer_of};
-use sdl_instances::copies::copied_item;
 use sdl_outcome::EnvOut;
 use sdl_parts::Structure;
-use sdl_routes::{Goal, Routes, Source, Station, Via, Wish};
-use sdl_signal::{
-    EnvLine, EnvRead, EnvReader, GateId, InputEnd, Item, LineSink, Names, Origin, OutputEnd, Pid,
-    Written, line_of,
-};
+use sdl_routes::{Routes, Station};
+use sdl_signal::{EnvRead, EnvReader, InputEnd, Item, LineSink, Names, Origin, OutputEnd};
 use std::alloc::Global;
 use std::io::{Read, Write};
 use std::marker::Model;
@@ -104,6 +103,10 @@ impl EnvWorker {
         requires board { IsBoardOf routes.now board.old }
         requires outlet { All (λ i. IsLegalItem structure.now routes.now self.old.number i × GoesOut routes.now i) (waiting board.old Outlet) }
         ensures step { EnvStepsAs structure.now routes.now self.old.number self.old board.old result self.new board.new }
+        // What it does where no refusal ends it.
+        ensures hand { result ≢ Memory → self.new.outgoing ≡ [] }
+        ensures read { result ≢ Memory → ReadsNext self.old self.new }
+        ensures taken { result ≢ Memory → TakesNext self.old self.new board.new }
         ensures reading { (start : Option (List ℕ)) → HasReadSoFar structure.now routes.now self.old.number start (R.remaining input.old) self.old
             → HasReadSoFar structure.now routes.now self.old.number start (R.remaining input.new) self.new }
         ensures writing { (start : Option (List ℕ)) → HasWrittenSoFar structure.now routes.now self.old.number start (W.contents output.old) self.old
@@ -129,6 +132,7 @@ impl EnvWorker {
         requires board { IsBoardOf routes.now board.old }
         requires outlet { All (λ i. IsLegalItem structure.now routes.now self.old.number i × GoesOut routes.now i) (waiting board.old Outlet) }
         ensures step { EnvStepsTo structure.now routes.now self.old.number self.old board.old result self.new board.new }
+        ensures on { IfOk result (λ did. StepsOn self.old self.new board.new) }
         ensures reading { (start : Option (List ℕ)) → HasReadSoFar structure.now routes.now self.old.number start (R.remaining input.old) self.old
             → HasReadSoFar structure.now routes.now self.old.number start (R.remaining input.new) self.new }
         ensures writing { (start : Option (List ℕ)) → HasWrittenSoFar structure.now routes.now self.old.number start (W.contents output.old) self.old
@@ -238,106 +242,3 @@ impl EnvWorker {
         }
     }
 }
-
-/// Takes into the hand what of an output goes along a route.
-fn send(hand: &mut Hand, out: &EnvOut)
-    requires { length hand.old.outgoing.items < 8 }
-    ensures outgoing { hand.new.outgoing.items ≡ hand.old.outgoing.items ++ sent_of out.now }
-    ensures kept { hand.new.kept ≡ hand.old.kept }
-{
-    match out {
-        EnvOut::Sent(item) => hand.outgoing.push(copied_item(item)),
-        EnvOut::NoRoute(_, _) => {}
-    }
-}
-
-/// Writes the line of an item at the gate where its route ends, unless a write failed before, and says how the writing then
-/// stands.
-fn write<W: Write>(
-    sink: &mut LineSink,
-    end: OutputEnd,
-    names: &Names,
-    routes: &Routes,
-    item: &Item,
-    output: &mut W,
-) -> OutputEnd
-    requires { IsWritable names.now routes.now item.now }
-    ensures { (start : Option (List ℕ)) (text : List ℕ) → HasWritten start (W.contents output.old) text end
-        → HasWritten start (W.contents output.new) (text ++ received_text names.now routes.now (item.now ∷ [])) result }
-{
-    match end {
-        OutputEnd::WriteFault => return OutputEnd::WriteFault,
-        OutputEnd::Whole => {}
-    }
-    let line = line_of(names, end_gate(routes, item), &item.signal);
-    match sink.write(output, line.as_slice()) {
-        Written::Whole => OutputEnd::Whole,
-        Written::Fault(_) => OutputEnd::WriteFault,
-    }
-}
-
-/// The gate at which the item's route ends.
-fn end_gate(routes: &Routes, item: &Item) -> GateId
-    requires { IsRouted routes.now item.now }
-    ensures { result ≡ end_gate_of routes.now item.now }
-{
-    match routes.get(item.route) {
-        Some(route) => route.end_gate,
-        None => unreachable!(),
-    }
-}
-
-/// The goal that the TO part of a line names.
-fn goal_to(to: Option<Pid>) -> Goal
-    ensures { result ≡ goal_to to }
-{
-    match to {
-        None => Goal::Anywhere,
-        Some(Pid::Null) => Goal::Null,
-        Some(Pid::Env) => Goal::Environment,
-        Some(Pid::Inst(set, _)) => Goal::Set(set),
-    }
-}
-
-/// The output of a line: along the fitting route at this pick, or none fits.
-fn output_of(routes: &Routes, pick: u32, origin: Origin, line: EnvLine) -> EnvOut
-    ensures { IsOutputOf routes.now origin.worker origin.number line result }
-{
-    let wish = Wish {
-        source: Source::Gate(line.gate),
-        signal: line.signal.id,
-        goal: goal_to(line.to),
-        via: Via::Any,
-    };
-    match routes.choose(&wish, pick) {
-        Some(route) => EnvOut::Sent(Item {
-            origin,
-            stamp: 0,
-            signal: line.signal,
-            sender: Pid::Env,
-            to: line.to,
-            route,
-        }),
-        None => EnvOut::NoRoute(origin, line),
-    }
-}
-
-/// Wherever a run stops, what was read so far is the whole reading: each line gave one output. (This function does nothing: it
-/// carries the proof.)
-pub fn stops_reading()
-    ensures { (structure : Structure) (routes : List Row) (worker : ℕ) (start now : Option (List ℕ)) (w : EnvWorking) → IsEnvSound structure routes worker w
-        → HasReadSoFar structure routes worker start now w → HasReadAll structure routes worker start now w.put (input_end w) }
-{}
-
-/// Before anything was read, nothing was read or written, and a step can be made. After a step the next one can be made, and what
-/// waits in the outlet may leave there. (This function does nothing: it carries the proof.)
-pub fn goes_on()
-    ensures read { (structure : Structure) (routes : List Row) (worker : ℕ) (start : Option (List ℕ)) (w : EnvWorking) → IsEnvFresh worker w → HasReadSoFar structure routes worker start start w }
-    ensures written { (structure : Structure) (routes : List Row) (worker : ℕ) (start : Option (List ℕ)) (w : EnvWorking) → IsEnvFresh worker w → HasWrittenSoFar structure routes worker start start w }
-    ensures sound { (structure : Structure) (routes : List Row) (worker : ℕ) (w : EnvWorking) → IsEnvFresh worker w → IsEnvSound structure routes worker w }
-    ensures again { (structure : Structure) (routes : List Row) (worker : ℕ) (old : EnvWorking) (before : List (Station × List Item)) (answer : Stepped) (new : EnvWorking) (after : List (Station × List Item))
-        → EnvStepsAs structure routes worker old before answer new after → IsEnvSound structure routes worker old → IsEnvSound structure routes worker new }
-    ensures outlet { (structure : Structure) (routes : List Row) (worker : ℕ) (old : EnvWorking) (before : List (Station × List Item)) (answer : Stepped) (new : EnvWorking) (after : List (Station × List Item))
-        → EnvStepsAs structure routes worker old before answer new after → AreRoutesOf structure routes → IsEnvSound structure routes worker old
-        → All (λ i. IsLegalItem structure routes worker i × GoesOut routes i) (waiting before Outlet) → All (λ i. IsLegalItem structure routes worker i × GoesOut routes i) (waiting after Outlet) }
-{}

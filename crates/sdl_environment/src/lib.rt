@@ -2,5 +2,8 @@
 #![tactic(auto)]
 
 pub mod environment;
+mod laws;
+mod outputs;
+mod writing;
 
 pub use environment::{EnvParts, EnvWorker};

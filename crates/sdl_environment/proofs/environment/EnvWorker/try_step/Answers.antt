@@ -8,6 +8,7 @@ use Rattle.sdl_environment.specs.EnvPhases.{Reads, IsWritable}
 use Rattle.sdl_environment.proofs.EnvLegal.{all_writable}
 use Rattle.sdl_environment.proofs.EnvPieces.{put_part, read_part, receive_part, put_keeps_outlet}
 use Rattle.sdl_environment.proofs.EnvStepping.{refused_so, works_at_put, works_at_read, works_at_last, works, steps, read_after_put, read_after_receive, read_then, written_after_put, written_after_read, written_then}
+use Rattle.sdl_environment.proofs.EnvNext.{steps_on, refused_on}
 use Rattle.sdl_environment.proofs.environment.EnvWorker.try_step.Goals as goal
 
 pub returns-in_err-put-clause-step : goal.returns-in_err-put-clause-step
@@ -168,3 +169,21 @@ returns-clause-writing g c = λ start wrote.
     let read = written_after_read known rows start before (Ok c.in_ok-read.read) c.put_out.new.self c.read_one.new.self reads put in
     let last = written_after_put known rows start before c.read_one.new.self c.put_out-2.new.self c.in_ok-put_out.ensures.rest read in
     written_then c.names-names.result.now known rows start before (g.W.Write.contents c.receive_one.new.output) c.put_out-2.new.self c.receive_one.new.self c.names-names.ensures (c.in_ok-received.ensures.writing start) last
+
+pub returns-in_err-put-clause-on : goal.returns-in_err-put-clause-on
+returns-in_err-put-clause-on g c = refused_on c.args.self.now c.put_out.new.self c.put_out.new.board c.from_residual.result c.from_residual.ensures.0
+
+pub returns-in_err-read-clause-on : goal.returns-in_err-read-clause-on
+returns-in_err-read-clause-on g c = refused_on c.args.self.now c.read_one.new.self c.put_out.new.board c.from_residual-in_err-read.result c.from_residual-in_err-read.ensures.0
+
+pub returns-in_err-put_out-clause-on : goal.returns-in_err-put_out-clause-on
+returns-in_err-put_out-clause-on g c = refused_on c.args.self.now c.put_out-2.new.self c.put_out-2.new.board c.from_residual-in_err-put_out.result c.from_residual-in_err-put_out.ensures.0
+
+pub returns-in_err-received-clause-on : goal.returns-in_err-received-clause-on
+returns-in_err-received-clause-on g c = refused_on c.args.self.now c.receive_one.new.self c.receive_one.new.board c.from_residual-in_err-received.result c.from_residual-in_err-received.ensures.0
+
+pub returns-clause-on : goal.returns-clause-on
+returns-clause-on g c =
+    steps_on c.names-names.result.now c.args.routes.now c.args.self.now c.put_out.new.self c.read_one.new.self c.put_out-2.new.self c.receive_one.new.self
+    c.put_out.new.board c.put_out-2.new.board c.receive_one.new.board c.in_ok-read.read c.in_ok-put_out.field-0 c.in_ok-received.received
+    c.in_ok-put.ensures.rest c.in_ok-read.ensures.read c.in_ok-put_out.ensures.put c.in_ok-put_out.ensures.rest c.in_ok-received.ensures.received

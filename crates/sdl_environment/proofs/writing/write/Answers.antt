@@ -5,7 +5,7 @@ use Rattle.sdl_signal.specs.declared.ends.OutputEnd.TheVariants as output
 use Rattle.sdl_signal.specs.Line.{line_text}
 use Rattle.sdl_outcome.specs.EnvironmentWork.{HasWritten, received_line}
 use Rattle.sdl_environment.proofs.EnvWriting.{written_fault, received_one}
-use Rattle.sdl_environment.proofs.environment.write.Goals as goal
+use Rattle.sdl_environment.proofs.writing.write.Goals as goal
 
 pub returns-in-Fault : goal.returns-in-Fault
 returns-in-Fault g c = λ start text wrote.

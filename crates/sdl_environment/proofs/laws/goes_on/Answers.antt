@@ -1,5 +1,5 @@
 use Rattle.sdl_environment.proofs.EnvAgain.{fresh_read, fresh_written, fresh_sound, sound_after, outlet_after}
-use Rattle.sdl_environment.proofs.environment.goes_on.Goals as goal
+use Rattle.sdl_environment.proofs.laws.goes_on.Goals as goal
 
 pub returns-clause-read : goal.returns-clause-read
 returns-clause-read c = fresh_read

@@ -6,7 +6,7 @@ use Rattle.sdl_routes.specs.Routes.{IsChoice}
 use Rattle.sdl_instances.proofs.Choosing.{none_fits}
 use Rattle.sdl_instances.proofs.Takes.{at_pick_fits}
 use Rattle.sdl_outcome.specs.EnvironmentWork.{wish_for}
-use Rattle.sdl_environment.proofs.environment.output_of.Goals as goal
+use Rattle.sdl_environment.proofs.outputs.output_of.Goals as goal
 
 pub returns-in-Some : goal.returns-in-Some
 returns-in-Some c =

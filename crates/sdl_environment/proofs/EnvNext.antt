@@ -1,0 +1,71 @@
+-- What a step has done where no part of it was refused.
+use Rattle.std.proofs.Common.{◌≡◌, ◌≢◌, ℕ, ◌+◌, inl, inr, Bool, true, false, Result, Ok, Err, List, [], ◌∷◌, IfOk, None, length, length-append, refl, ap, sym, ◌∙◌, ◌⊎◌, subst, true≢false}
+use Rattle.std.specs.Result.{IsErr}
+use Rattle.sdl_signal.specs.declared.values.Item.{Item}
+use Rattle.sdl_signal.specs.Names.{Lexicon}
+use Rattle.sdl_routes.specs.declared.parts.Row.{Row}
+use Rattle.sdl_routes.specs.declared.parts.Station.{Station}
+use Rattle.sdl_routes.specs.declared.parts.Station.TheVariants.{Outlet}
+use Rattle.sdl_forward.specs.Boards.{waiting}
+use Rattle.sdl_hand.specs.declared.hand.Refused.{Refused}
+use Rattle.sdl_hand.specs.declared.hand.Stepped.TheVariants.{Memory}
+use Rattle.sdl_hand.specs.Puts.{PutsOut, answer_of}
+use Rattle.sdl_outcome.specs.EnvironmentWork.{EnvWorking}
+use Rattle.sdl_environment.specs.EnvPhases.{Reads, Receives}
+use Rattle.sdl_environment.specs.EnvSteps.{ReadsNext, TakesNext, StepsOn}
+use Rattle.sdl_environment.proofs.EnvPieces.{holding}
+
+put_whole : (rows : List Row) (did : Bool) (old : List Item) (before : List (Station × List Item)) (new : List Item) (after : List (Station × List Item)) → PutsOut rows old before (Ok did) new after → new ≡ []
+put_whole rows true old before new after (puts, some, none) = none
+put_whole rows false old before new after (was, none, board) = none
+
+module _ (names : Lexicon) (rows : List Row) where
+  line_next : (did : Bool) (old new : EnvWorking) → Reads names rows old (Ok did) new → ReadsNext old new
+  line_next true old new (unended, inl r) = λ none. inl (ap (λ (w : EnvWorking). length w.put) r.same ∙ length-append old.put (r.out ∷ []))
+  line_next true old new (unended, inr r) = λ none. inr (λ e. let ended = ap (λ (w : EnvWorking). w.ended) r.same in cc)
+  line_next false old new (same, ended) = λ none. absurd (ended none)
+
+  line_keeps : (did : Bool) (old new : EnvWorking) → Reads names rows old (Ok did) new → new.received ≡ old.received
+  line_keeps true old new (unended, inl r) = ap (λ (w : EnvWorking). w.received) r.same
+  line_keeps true old new (unended, inr r) = ap (λ (w : EnvWorking). w.received) r.same
+  line_keeps false old new (same, ended) = ap (λ (w : EnvWorking). w.received) same
+
+item_next : (did : Bool) (old : EnvWorking) (before : List (Station × List Item)) (new : EnvWorking) (after : List (Station × List Item)) → Receives old before (Ok did) new after → TakesNext old new after
+item_next true old before new after (i, front, changes, same) = inl (ap (λ (w : EnvWorking). length w.received) same ∙ length-append old.received (i ∷ []))
+item_next false old before new after (same, board, none) = inr (ap (λ (b : List (Station × List Item)). waiting b Outlet) board ∙ none)
+
+item_keeps : (did : Bool) (old : EnvWorking) (before : List (Station × List Item)) (new : EnvWorking) (after : List (Station × List Item)) → Receives old before (Ok did) new after
+    → (new.outgoing ≡ old.outgoing) × (new.ended ≡ old.ended) × (new.put ≡ old.put)
+item_keeps true old before new after (i, front, changes, same) = (ap (λ (w : EnvWorking). w.outgoing) same, ap (λ (w : EnvWorking). w.ended) same, ap (λ (w : EnvWorking). w.put) same)
+item_keeps false old before new after (same, board, none) = (ap (λ (w : EnvWorking). w.outgoing) same, ap (λ (w : EnvWorking). w.ended) same, ap (λ (w : EnvWorking). w.put) same)
+
+read_around : (old w1 w2 new : EnvWorking) → w1.ended ≡ old.ended → w1.put ≡ old.put → new.ended ≡ w2.ended → new.put ≡ w2.put → ReadsNext w1 w2 → ReadsNext old new
+read_around old w1 w2 new ended put last_ended last_put h = λ none. elim (h (ended ∙ none)) [
+  | inl e ↦ inl (ap length last_put ∙ e ∙ ap (λ (l : List _). length l + 1) put)
+  | inr e ↦ inr (λ n. e (sym last_ended ∙ n))
+]
+
+take_around : (old w3 new : EnvWorking) (after : List (Station × List Item)) → w3.received ≡ old.received → TakesNext w3 new after → TakesNext old new after
+take_around old w3 new after same h = subst (λ (l : List Item). (length new.received ≡ length l + 1) ⊎ (waiting after Outlet ≡ [])) same h
+
+-- a put, a reading, a put and a receiving, none of them refused
+pub steps_on : (names : Lexicon) (rows : List Row) (old w1 w2 w3 new : EnvWorking) (b1 b2 b3 : List (Station × List Item)) (r q t : Bool)
+    → w1 ≡ holding old w1.outgoing → Reads names rows w1 (Ok r) w2
+    → PutsOut rows w2.outgoing b1 (Ok q) w3.outgoing b2 → w3 ≡ holding w2 w3.outgoing → Receives w3 b2 (Ok t) new b3 → StepsOn old new b3
+steps_on names rows old w1 w2 w3 new b1 b2 b3 r q t first read put last received =
+    let keeps = item_keeps t w3 b2 new b3 received in
+    record {
+      hand = keeps.0 ∙ put_whole rows q w2.outgoing b1 w3.outgoing b2 put;
+      read = read_around old w1 w2 new (ap (λ (w : EnvWorking). w.ended) first) (ap (λ (w : EnvWorking). w.put) first)
+          (keeps.1 ∙ ap (λ (w : EnvWorking). w.ended) last) (keeps.2 ∙ ap (λ (w : EnvWorking). w.put) last) (line_next names rows r w1 w2 read);
+      taken = take_around old w3 new b3 (ap (λ (w : EnvWorking). w.received) last ∙ line_keeps names rows r w1 w2 read ∙ ap (λ (w : EnvWorking). w.received) first) (item_next t w3 b2 new b3 received);
+    }
+
+-- what is said of an answer that is no refusal
+pub refused_on : (old new : EnvWorking) (after : List (Station × List Item)) (result : Result Bool Refused) → IsErr result → IfOk result (λ did. StepsOn old new after)
+refused_on old new after (Err r) h = tt
+refused_on old new after (Ok did) h = absurd (true≢false (sym h))
+
+pub unrefused : {P : Type 0} (result : Result Bool Refused) → IfOk result (λ did. P) → answer_of result ≢ Memory → P
+unrefused (Ok did) h not = h
+unrefused (Err r) h not = absurd (not refl)
