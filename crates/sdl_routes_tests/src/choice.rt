@@ -1,8 +1,8 @@
 //! The choice of a route by a wish.
 
-use crate::systems::checked;
+use crate::systems::routes_of;
 use sdl_examples::SPAWN;
-use sdl_routes::{Goal, Routes, Source, Via, Wish};
+use sdl_routes::{Goal, Source, Via, Wish};
 use sdl_signal::{ChannelId, GateId, RouteId, SetId, SignalId};
 use std::alloc::Global;
 use std::process::Abort;
@@ -25,7 +25,7 @@ fn assert_chosen(
     pick: u32,
     expected: Option<RouteId>,
 ) -> Result<(), Fail> {
-    let spawn = Routes::build(alloc, &checked(alloc, SPAWN)?)?;
+    let spawn = routes_of(alloc, SPAWN)?;
     assert_eq!(rt; spawn.choose(&wish, pick), expected);
     Ok(())
 }

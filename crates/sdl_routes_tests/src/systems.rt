@@ -1,5 +1,6 @@
-//! Systems that are checked.
+//! Systems that are checked, and their routes.
 
+use sdl_routes::Routes;
 use sdl_structure::{Checked, check, read_structure};
 use std::alloc::Global;
 use std::test::Fail;
@@ -8,4 +9,10 @@ use std::test::Fail;
 pub fn checked(alloc: Global, file: &str) -> Result<Checked, Fail> {
     let structure = read_structure(alloc, file)?;
     Ok(check(structure).ok().ok_or("not well formed")?)
+}
+
+/// The routes of the file's system.
+pub fn routes_of(alloc: Global, file: &str) -> Result<Routes, Fail> {
+    let checked = checked(alloc, file)?;
+    Ok(Routes::build(alloc, &checked)?)
 }
