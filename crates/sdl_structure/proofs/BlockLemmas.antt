@@ -10,9 +10,9 @@ use Rattle.sdl_parts.specs.declared.parts.Owner.{Owner}
 use Rattle.sdl_parts.specs.declared.parts.Owner.TheVariants as owner
 use Rattle.sdl_parts.specs.declared.parts.Scope.{Scope}
 use Rattle.sdl_parts.specs.declared.parts.Scope.TheVariants as scope
-use Rattle.sdl_structure.specs.declared.reading.Key.{Key}
-use Rattle.sdl_structure.specs.declared.reading.Key.TheVariants as key
-use Rattle.sdl_structure.specs.Tables.{text_at, tables_at, names_of, agent_names, channel_names, total}
+use Rattle.sdl_tables.specs.declared.place.Key.{Key}
+use Rattle.sdl_tables.specs.declared.place.Key.TheVariants as key
+use Rattle.sdl_tables.specs.Tables.{text_at, tables_at, names_of, agent_names, channel_names, total}
 use Rattle.sdl_structure.specs.File.{sets_of, owned, set_gates, block_gates, gates_of, channels_in, block_channels}
 
 pub nil_after : {A : Type 0} (xs : List A) → xs ++ [] ≡ xs

@@ -14,24 +14,25 @@ use Rattle.sdl_parts.specs.declared.parts.Channel.{Channel}
 use Rattle.sdl_parts.specs.declared.parts.End.{End}
 use Rattle.sdl_parts.specs.declared.parts.Scope.{Scope}
 use Rattle.sdl_parts.specs.declared.parts.Scope.TheVariants as scope
-use Rattle.sdl_structure.specs.declared.reading.Key.{Key}
-use Rattle.sdl_structure.specs.declared.reading.Key.TheVariants as key
-use Rattle.sdl_structure.specs.declared.reading.Part.{Part}
-use Rattle.sdl_structure.specs.declared.reading.Part.TheVariants as part
-use Rattle.sdl_structure.specs.declared.reading.Place.{Place}
-use Rattle.sdl_structure.specs.declared.reading.FileFault.TheVariants as fault
+use Rattle.sdl_tables.specs.declared.place.Key.{Key}
+use Rattle.sdl_tables.specs.declared.place.Key.TheVariants as key
+use Rattle.sdl_tables.specs.declared.place.Part.{Part}
+use Rattle.sdl_tables.specs.declared.place.Part.TheVariants as part
+use Rattle.sdl_tables.specs.declared.place.Place.{Place}
+use Rattle.sdl_tables.specs.declared.fault.FileFault.TheVariants as fault
 use Rattle.sdl_structure.specs.declared.reading.draft.Draft.{Draft}
-use Rattle.sdl_structure.specs.declared.reading.walk.Walk.{Walk}
-use Rattle.sdl_structure.specs.Keys.{is_key, is_key_of, key_text, keys_of, channel_keys, is_required, kind_of}
-use Rattle.sdl_structure.specs.Tables.{data_at, elements_at, tables_at, is_text, HasKindAt}
-use Rattle.sdl_structure.specs.Places.{table_of, inside, part_inside}
-use Rattle.sdl_structure.specs.File.{IsChannelTable, NamesEnd, IsAgent, HasOneDot, is_dot, agent_part, gate_part, side_in}
-use Rattle.sdl_structure.specs.Faults.{IsBroken, IsGateOf, IsKnownEnd, so_far}
-use Rattle.sdl_structure.specs.Walks.{file_of, own, IsHere}
+use Rattle.sdl_tables.specs.declared.walk.Walk.{Walk}
+use Rattle.sdl_tables.specs.Keys.{is_key, is_key_of, key_text, keys_of, channel_keys, is_required, kind_of}
+use Rattle.sdl_tables.specs.Tables.{data_at, elements_at, tables_at, is_text, HasKindAt}
+use Rattle.sdl_tables.specs.Places.{table_of, inside, part_inside}
+use Rattle.sdl_tables.specs.Names.{HasOneDot, is_dot, agent_part, gate_part}
+use Rattle.sdl_structure.specs.File.{IsChannelTable, NamesEnd, IsAgent, side_in}
+use Rattle.sdl_tables.specs.Faults.{IsBroken, IsGateOf, IsKnownEnd, so_far}
+use Rattle.sdl_tables.specs.Walks.{file_of, own, IsHere}
 use Rattle.sdl_structure.specs.Drafts.{ServesChannels, IsScope, IsChannelScope, HasGateOf, HasSignals}
-use Rattle.sdl_structure.proofs.FaultLemmas.{breaks}
-use Rattle.sdl_structure.proofs.PlaceLemmas.{channel_keys_inside, top_is}
-use Rattle.sdl_structure.proofs.SignalLemmas.{text_in, unknown, some_and, slice_get_at}
+use Rattle.sdl_tables.proofs.FaultLemmas.{breaks}
+use Rattle.sdl_tables.proofs.PlaceLemmas.{channel_keys_inside, top_is}
+use Rattle.sdl_tables.proofs.SignalLemmas.{text_in, unknown, some_and, slice_get_at}
 
 -- a required key whose value is of its kind is there
 pub present : (o : Option Data) (P : Data → Type 0) → MatchOption o (true ≡ false) P → o ≢ None

@@ -15,23 +15,23 @@ use Rattle.sdl_parts.specs.declared.parts.Owner.{Owner}
 use Rattle.sdl_parts.specs.declared.parts.Owner.TheVariants as owner
 use Rattle.sdl_parts.specs.declared.parts.Scope.{Scope}
 use Rattle.sdl_parts.specs.declared.parts.Scope.TheVariants as scope
-use Rattle.sdl_structure.specs.declared.reading.Key.{Key}
-use Rattle.sdl_structure.specs.declared.reading.Key.TheVariants as key
-use Rattle.sdl_structure.specs.declared.reading.Part.TheVariants as part
-use Rattle.sdl_structure.specs.declared.reading.Place.{Place}
-use Rattle.sdl_structure.specs.declared.reading.FileFault.TheVariants as fault
+use Rattle.sdl_tables.specs.declared.place.Key.{Key}
+use Rattle.sdl_tables.specs.declared.place.Key.TheVariants as key
+use Rattle.sdl_tables.specs.declared.place.Part.TheVariants as part
+use Rattle.sdl_tables.specs.declared.place.Place.{Place}
+use Rattle.sdl_tables.specs.declared.fault.FileFault.TheVariants as fault
 use Rattle.sdl_structure.specs.declared.reading.draft.Draft.{Draft}
-use Rattle.sdl_structure.specs.declared.reading.walk.Walk.{Walk}
-use Rattle.sdl_structure.specs.Keys.{is_key}
-use Rattle.sdl_structure.specs.Tables.{text_at, tables_at, names_of, agent_names, channel_names, total}
-use Rattle.sdl_structure.specs.Places.{table_of, Exists}
+use Rattle.sdl_tables.specs.declared.walk.Walk.{Walk}
+use Rattle.sdl_tables.specs.Keys.{is_key}
+use Rattle.sdl_tables.specs.Tables.{text_at, tables_at, names_of, agent_names, channel_names, total}
+use Rattle.sdl_tables.specs.Places.{table_of, Exists}
 use Rattle.sdl_structure.specs.File.{IsBlockTable, IsSetTable, IsGateTable, IsChannelTable, IsAgent, NamesEnd, sets_of, owned, set_gates, block_gates, gates_of, channels_in, block_channels}
-use Rattle.sdl_structure.specs.Faults.{IsBroken, so_far}
-use Rattle.sdl_structure.specs.Walks.{file_of, own, IsHere, name_texts}
+use Rattle.sdl_tables.specs.Faults.{IsBroken, so_far}
+use Rattle.sdl_tables.specs.Walks.{file_of, own, IsHere, name_texts}
 use Rattle.sdl_structure.specs.Drafts.{HasSignals, HasAgents, HasChannels, HasBlocks, HasSets, IsSetRead, HasFewGates, Grows}
-use Rattle.sdl_structure.proofs.FaultLemmas.{breaks}
-use Rattle.sdl_structure.proofs.SignalLemmas.{some_and}
-use Rattle.sdl_structure.proofs.ListLemmas.{zip_length, name_texts-more, names_of-more, apart-more}
+use Rattle.sdl_tables.proofs.FaultLemmas.{breaks}
+use Rattle.sdl_tables.proofs.SignalLemmas.{some_and}
+use Rattle.sdl_tables.proofs.ListLemmas.{zip_length, name_texts-more, names_of-more, apart-more}
 use Rattle.sdl_structure.proofs.BlockLemmas.{zip_append, sets_of-more, set_gates-more, block_gates-more, block_channels-more, agent_names-more, channel_names-more, total-more, length-sets_of, length-block_channels, take_next, nil_after}
 
 -- the table of a block, and the blocks before it

@@ -10,13 +10,13 @@ use Rattle.sdl_parts.specs.declared.parts.Gate.{Gate}
 use Rattle.sdl_parts.specs.declared.parts.Owner.{Owner}
 use Rattle.sdl_parts.specs.declared.parts.Owner.TheVariants as owner
 use Rattle.sdl_parts.specs.declared.parts.Scope.TheVariants as scope
-use Rattle.sdl_structure.specs.declared.reading.Key.TheVariants as key
+use Rattle.sdl_tables.specs.declared.place.Key.TheVariants as key
 use Rattle.sdl_structure.specs.declared.reading.draft.Draft.{Draft}
-use Rattle.sdl_structure.specs.Tables.{text_at, tables_at, names_of}
+use Rattle.sdl_tables.specs.Tables.{text_at, tables_at, names_of}
 use Rattle.sdl_structure.specs.File.{IsBlockTable, IsSetTable, IsGateTable, IsAgent, sets_of, owned, set_gates, block_gates, gates_of}
-use Rattle.sdl_structure.specs.Faults.{IsGateOf, HasGate}
+use Rattle.sdl_tables.specs.Faults.{IsGateOf, HasGate}
 use Rattle.sdl_structure.specs.Drafts.{HasAgents, HasSets, HasGateOf, KnowsGates}
-use Rattle.sdl_structure.proofs.SignalLemmas.{found_at}
+use Rattle.sdl_tables.proofs.SignalLemmas.{found_at}
 
 -- x is an element of xs
 pub record Has {A : Type 0} (xs : List A) (x : A) : Type 0 where

@@ -1,11 +1,8 @@
-pub mod TableLemmas
-pub mod FaultLemmas
-pub mod PlaceLemmas
-pub mod ListLemmas
-pub mod SignalLemmas
 pub mod ChannelLemmas
 pub mod BlockLemmas
 pub mod GateLemmas
 pub mod WholeLemmas
 pub mod DraftLemmas
 pub mod FileLemmas
+pub mod KeptLemmas
+pub mod RuleLemmas

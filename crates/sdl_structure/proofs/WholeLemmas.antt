@@ -18,13 +18,14 @@ use Rattle.sdl_parts.specs.declared.parts.Owner.TheVariants as owner
 use Rattle.sdl_parts.specs.declared.parts.Scope.{Scope}
 use Rattle.sdl_parts.specs.declared.parts.Scope.TheVariants as scope
 use Rattle.sdl_parts.specs.declared.parts.Side.TheVariants.{Outer, Inner}
-use Rattle.sdl_structure.specs.declared.reading.Key.{Key}
-use Rattle.sdl_structure.specs.declared.reading.Key.TheVariants as key
+use Rattle.sdl_tables.specs.declared.place.Key.{Key}
+use Rattle.sdl_tables.specs.declared.place.Key.TheVariants as key
 use Rattle.sdl_parts.specs.Structure.{Structure, IsStructure, HasFewInstances, OwnerExists, ScopeExists, SignalsExist, AreSystemFirst, IsEnd, JoinsAt}
-use Rattle.sdl_structure.specs.Tables.{tables_at, elements_at, total}
-use Rattle.sdl_structure.specs.File.{ListsParts, IsWithinLimits, IsBlockTable, IsSetTable, IsGateTable, IsChannelTable, ListsSignals, NamesSignal, NamesEnd, IsAgent, HasOneDot, agent_part, gate_part, side_in, sets_of, owned, set_gates, block_gates, gates_of, channels_in, block_channels, channels_of}
-use Rattle.sdl_structure.proofs.SignalLemmas.{some_and}
-use Rattle.sdl_structure.proofs.ListLemmas.{zip_length}
+use Rattle.sdl_tables.specs.Tables.{tables_at, elements_at, total}
+use Rattle.sdl_tables.specs.Names.{ListsSignals, NamesSignal, HasOneDot, agent_part, gate_part}
+use Rattle.sdl_structure.specs.File.{ListsParts, IsWithinLimits, IsBlockTable, IsSetTable, IsGateTable, IsChannelTable, NamesEnd, IsAgent, side_in, sets_of, owned, set_gates, block_gates, gates_of, channels_in, block_channels, channels_of}
+use Rattle.sdl_tables.proofs.SignalLemmas.{some_and}
+use Rattle.sdl_tables.proofs.ListLemmas.{zip_length}
 use Rattle.sdl_structure.proofs.BlockLemmas.{length-sets_of}
 
 -- what follows from being zipped with an element that has a property

@@ -7,16 +7,17 @@ use Rattle.sdl_parts.specs.declared.parts.Set.{Set}
 use Rattle.sdl_parts.specs.declared.parts.Owner.TheVariants as owner
 use Rattle.sdl_parts.specs.declared.parts.Scope.{Scope}
 use Rattle.sdl_parts.specs.declared.parts.Scope.TheVariants as scope
-use Rattle.sdl_structure.specs.declared.reading.Key.{Key}
-use Rattle.sdl_structure.specs.declared.reading.Key.TheVariants as key
-use Rattle.sdl_structure.specs.declared.reading.Part.TheVariants as part
-use Rattle.sdl_structure.specs.declared.reading.Place.{Place}
+use Rattle.sdl_tables.specs.declared.place.Key.{Key}
+use Rattle.sdl_tables.specs.declared.place.Key.TheVariants as key
+use Rattle.sdl_tables.specs.declared.place.Part.TheVariants as part
+use Rattle.sdl_tables.specs.declared.place.Place.{Place}
 use Rattle.sdl_structure.specs.declared.reading.draft.Draft.{Draft}
-use Rattle.sdl_structure.specs.Tables.{text_at, tables_at, names_of, agent_names, channel_names, total}
-use Rattle.sdl_structure.specs.File.{IsSignalTable, IsBlockTable, IsSetTable, IsGateTable, IsChannelTable, IsAgent, sets_of, owned, set_gates, gates_of, block_channels, agent_part, gate_part}
-use Rattle.sdl_structure.specs.Keys.{keys_of, channel_keys}
-use Rattle.sdl_structure.specs.Faults.{IsGateOf, IsKnownEnd}
-use Rattle.sdl_structure.specs.Walks.{name_texts}
+use Rattle.sdl_tables.specs.Tables.{text_at, tables_at, names_of, agent_names, channel_names, total}
+use Rattle.sdl_tables.specs.Names.{IsSignalTable, agent_part, gate_part}
+use Rattle.sdl_structure.specs.File.{IsBlockTable, IsSetTable, IsGateTable, IsChannelTable, IsAgent, sets_of, owned, set_gates, gates_of, block_channels}
+use Rattle.sdl_tables.specs.Keys.{keys_of, channel_keys}
+use Rattle.sdl_tables.specs.Faults.{IsGateOf, IsKnownEnd}
+use Rattle.sdl_tables.specs.Walks.{name_texts}
 
 -- the signals of the file are read
 pub record HasSignals (root : Members) (d : Draft) : Type 0 where

@@ -1,13 +1,7 @@
 -- The structure file: which top tables keep its rules, and which structure each of them names. (This project's own.)
-use Rattle.std.specs.Prelude.{◌≡◌, ◌≢◌, ℕ, ◌+◌, ◌*◌, ◌<◌, ◌≤◌, pos, ◌==◌, Bool, true, false, List, [], ◌∷◌, ◌++◌, map, length, Option, Some, slice_get, codes, count_by, IsSomeAnd, AllPairs}
-use Rattle.std.specs.List.{AllZip, before_first, after_first}
+use Rattle.std.specs.Prelude.{◌≡◌, ◌≢◌, ℕ, ◌+◌, ◌*◌, ◌<◌, ◌≤◌, pos, false, List, [], ◌∷◌, ◌++◌, map, length, Option, Some, slice_get, codes, IsSomeAnd, AllPairs}
+use Rattle.std.specs.List.{AllZip}
 use Rattle.toml.specs.Data.{Data, Members, as_str}
-use Rattle.sdl_signal.specs.declared.ids.BlockId.{BlockId}
-use Rattle.sdl_signal.specs.declared.ids.SetId.{SetId}
-use Rattle.sdl_signal.specs.declared.ids.SignalId.{SignalId}
-use Rattle.sdl_signal.specs.declared.values.Sort.{Sort}
-use Rattle.sdl_signal.specs.declared.values.Sort.TheVariants as sort
-use Rattle.sdl_signal.specs.Names.{IsName}
 use Rattle.sdl_parts.specs.declared.parts.SignalDecl.{SignalDecl}
 use Rattle.sdl_parts.specs.declared.parts.Block.{Block}
 use Rattle.sdl_parts.specs.declared.parts.Set.{Set}
@@ -20,41 +14,13 @@ use Rattle.sdl_parts.specs.declared.parts.Scope.{Scope}
 use Rattle.sdl_parts.specs.declared.parts.Scope.TheVariants as scope
 use Rattle.sdl_parts.specs.declared.parts.Side.{Side}
 use Rattle.sdl_parts.specs.declared.parts.Side.TheVariants.{Outer, Inner}
-use Rattle.sdl_structure.specs.declared.reading.Key.{Key}
-use Rattle.sdl_structure.specs.declared.reading.Key.TheVariants as key
-use Rattle.sdl_structure.specs.declared.reading.Part.TheVariants as part
+use Rattle.sdl_tables.specs.declared.place.Key.{Key}
+use Rattle.sdl_tables.specs.declared.place.Key.TheVariants as key
+use Rattle.sdl_tables.specs.declared.place.Part.TheVariants as part
 use Rattle.sdl_parts.specs.Structure.{Structure}
-use Rattle.sdl_structure.specs.Keys.{keys_of, gate_keys, channel_keys}
-use Rattle.sdl_structure.specs.Tables.{integer_at, integer_or, flag_or, text_at, elements_at, tables_at, names_of, agent_names, channel_names, HasShape}
-
--- a name stands at the key
-abbrev pub HasName : Key → Members → List ℕ → Type 0
-HasName k ms name = (text_at k ms ≡ Some name) × IsName name
-
--- a sort as the file writes it
-abbrev pub sort_text : Sort → List ℕ
-sort_text sort.Integer = codes "Integer"
-sort_text sort.Boolean = codes "Boolean"
-sort_text sort.Pid = codes "Pid"
-
-abbrev pub NamesSort : Data → Sort → Type 0
-NamesSort d s = as_str d ≡ Some (sort_text s)
-
--- the table is a signal's, and says this
-pub record IsSignalTable (ms : Members) (x : SignalDecl) : Type 0 where
-  pub shape : HasShape (keys_of part.Signal) ms
-  pub name : HasName key.Name ms x.name.bytes
-  pub sorts : AllZip NamesSort (elements_at key.Sorts ms) x.sorts.items
-  pub few_sorts : length x.sorts.items ≤ 4
-
--- the text is the name of the signal with this number
-abbrev pub NamesSignal : List SignalDecl → Data → SignalId → Type 0
-NamesSignal signals d id = IsSomeAnd (slice_get signals id.0) (λ x. as_str d ≡ Some x.name.bytes)
-
--- the list at the key names these signals, each once
-pub record ListsSignals (signals : List SignalDecl) (k : Key) (ms : Members) (ids : List SignalId) : Type 0 where
-  pub named : AllZip (NamesSignal signals) (elements_at k ms) ids
-  pub once : AllPairs (λ x y. x.0 ≢ y.0) ids
+use Rattle.sdl_tables.specs.Keys.{keys_of, gate_keys, channel_keys}
+use Rattle.sdl_tables.specs.Names.{HasName, IsSignalTable, ListsSignals, HasOneDot, agent_part, gate_part}
+use Rattle.sdl_tables.specs.Tables.{integer_at, integer_or, flag_or, text_at, elements_at, tables_at, names_of, agent_names, channel_names, HasShape}
 
 -- the table is that of a gate of this owner, and says this
 pub record IsGateTable (signals : List SignalDecl) (x : Owner × Members) (g : Gate) : Type 0 where
@@ -84,19 +50,6 @@ pub record IsBlockTable (ms : Members) (b : Block) : Type 0 where
   pub name : HasName key.Name ms b.name.bytes
   pub gates : HasGates ms
   pub sets : 0 < length (tables_at key.Set ms)
-
--- an end is `AGENT.GATE`
-abbrev pub is_dot : ℕ → Bool
-is_dot b = b == 46
-
-abbrev pub agent_part : List ℕ → List ℕ
-agent_part text = before_first is_dot text
-
-abbrev pub gate_part : List ℕ → List ℕ
-gate_part text = after_first is_dot text
-
-abbrev pub HasOneDot : List ℕ → Type 0
-HasOneDot text = count_by is_dot text ≡ 1
 
 -- In a channel of the system the agent is `env`, the system itself, or a block. In a channel of a block it is `env`, the block
 -- itself, or a set of the block.

@@ -1,7 +1,7 @@
-pub mod Keys
-pub mod Tables
-pub mod Places
+pub use Rattle.sdl_tables.specs.Keys
+pub use Rattle.sdl_tables.specs.Tables
+pub use Rattle.sdl_tables.specs.Places
+pub use Rattle.sdl_tables.specs.Names
+pub use Rattle.sdl_tables.specs.Faults
 pub mod File
-pub mod Faults
-pub mod Walks
 pub mod Drafts

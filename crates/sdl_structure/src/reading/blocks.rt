@@ -1,17 +1,16 @@
 //! Reading the blocks and their sets.
 ghost use Rattle.std.specs.Prelude.{◌≡◌, ◌+◌, ◌<◌, ◌≤◌, [], length, take, IfErr, OnOk};
-ghost use Rattle.sdl_structure.specs.Tables.{tables_at, HasKindAt};
-ghost use Rattle.sdl_structure.specs.Places.{names_before};
-ghost use Rattle.sdl_structure.specs.Faults.{IsBroken};
-ghost use Rattle.sdl_structure.specs.Walks.{file_of, own, IsHere, name_texts};
+ghost use Rattle.sdl_tables.specs.Tables.{tables_at, HasKindAt};
+ghost use Rattle.sdl_tables.specs.Places.{names_before};
+ghost use Rattle.sdl_tables.specs.Faults.{IsBroken};
+ghost use Rattle.sdl_tables.specs.Walks.{file_of, own, IsHere, name_texts};
 ghost use Rattle.sdl_structure.specs.Drafts.{HasSignals, HasBlocks, HasSets, IsSetRead, Grows};
 
 use super::draft::Draft;
 use super::gates::read_gates;
-use super::walk::Walk;
-use super::{FileFault, Key, Part};
 use sdl_parts::{Block, Owner, Scope, Set};
 use sdl_signal::{BlockId, SetId};
+use sdl_tables::{FileFault, Key, Part, Walk};
 use std::alloc::Global;
 
 impl Draft {

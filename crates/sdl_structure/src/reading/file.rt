@@ -1,19 +1,17 @@
 //! The walk over a whole file.
 ghost use Rattle.std.specs.Prelude.{◌≡◌, ◌≤◌, pos, Some, IfOk, IfErr, OnOk};
-ghost use Rattle.sdl_structure.specs.Tables.{integer_at, integer_or, HasKindAt};
+ghost use Rattle.sdl_tables.specs.Tables.{integer_at, integer_or, HasKindAt};
 ghost use Rattle.toml.specs.View.{table_view};
 ghost use Rattle.sdl_structure.specs.File.{IsFileOf};
-ghost use Rattle.sdl_structure.specs.Faults.{IsBroken};
-ghost use Rattle.sdl_structure.specs.Walks.{file_of, own, IsHere};
+ghost use Rattle.sdl_tables.specs.Faults.{IsBroken};
+ghost use Rattle.sdl_tables.specs.Walks.{file_of, own, IsHere};
 ghost use Rattle.sdl_parts.specs.Lists.{structure_of};
 
 use super::draft::Draft;
 use super::gates::read_gates;
-use super::signals::read_signals;
-use super::walk::Walk;
-use super::{FileFault, Key, Part};
 use sdl_parts::{Lists, Owner, Scope, Structure};
 use sdl_signal::Name;
+use sdl_tables::{FileFault, Key, Part, Walk, read_signals};
 use std::alloc::Global;
 use toml::Table;
 

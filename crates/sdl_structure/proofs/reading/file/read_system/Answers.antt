@@ -1,4 +1,4 @@
-use Rattle.sdl_structure.specs.Walks.{file_of}
+use Rattle.sdl_tables.specs.Walks.{file_of}
 use Rattle.sdl_parts.specs.Lists.{structure_of}
 use Rattle.sdl_structure.proofs.WholeLemmas.{is_structure}
 use Rattle.sdl_structure.proofs.FileLemmas.{legal_names}

@@ -1,12 +1,12 @@
 use Rattle.std.proofs.Common.{rules, arith, ◌≡◌, ◌<◌, ◌≤◌, [], Some, length, take, map, sym, ap, refl, ◌∙◌, subst, true}
 use Rattle.std.proofs.lemmas.Bool.Decides.{nat_tests}
 use Rattle.std.proofs.lemmas.List.{length-map}
-use Rattle.sdl_structure.specs.declared.reading.Key.TheVariants as key
-use Rattle.sdl_structure.specs.Tables.{table_in, tables_at}
+use Rattle.sdl_tables.specs.declared.place.Key.TheVariants as key
+use Rattle.sdl_tables.specs.Tables.{table_in, tables_at}
 use Rattle.sdl_structure.specs.File.{IsGateTable}
-use Rattle.sdl_structure.specs.Walks.{own, file_of}
-use Rattle.sdl_structure.proofs.ListLemmas.{read_more, element, all_read, names_apart, zip_map, zip_length}
-use Rattle.sdl_structure.proofs.PlaceLemmas.{before_gate, gate_keys_inside}
+use Rattle.sdl_tables.specs.Walks.{own, file_of}
+use Rattle.sdl_tables.proofs.ListLemmas.{read_more, element, all_read, names_apart, zip_map, zip_length}
+use Rattle.sdl_tables.proofs.PlaceLemmas.{before_gate, gate_keys_inside}
 use Rattle.sdl_structure.proofs.reading.gates.read_gates.Goals as goal
 
 pub inner-requires : goal.inner-requires

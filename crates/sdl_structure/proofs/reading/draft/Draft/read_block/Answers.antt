@@ -1,17 +1,17 @@
 use Rattle.std.proofs.Common.{rules, arith, ◌≡◌, ◌+◌, ◌<◌, ◌≤◌, length, take, ap, sym, subst, refl, ◌∙◌, true}
 use Rattle.std.proofs.lemmas.List.{length-append}
 use Rattle.sdl_parts.specs.declared.parts.Block.{Block}
-use Rattle.sdl_structure.specs.declared.reading.Key.TheVariants as key
-use Rattle.sdl_structure.specs.declared.reading.Part.TheVariants as part
+use Rattle.sdl_tables.specs.declared.place.Key.TheVariants as key
+use Rattle.sdl_tables.specs.declared.place.Part.TheVariants as part
 use Rattle.sdl_structure.specs.declared.reading.draft.Draft.{Draft}
-use Rattle.sdl_structure.specs.Keys.{keys_of}
-use Rattle.sdl_structure.specs.Tables.{tables_at, has_only}
+use Rattle.sdl_tables.specs.Keys.{keys_of}
+use Rattle.sdl_tables.specs.Tables.{tables_at, has_only}
 use Rattle.std.specs.List.{AllZip}
 use Rattle.sdl_parts.specs.declared.parts.Scope.TheVariants as scope
 use Rattle.sdl_structure.specs.File.{IsBlockTable, IsChannelTable, channels_in}
-use Rattle.sdl_structure.specs.Walks.{file_of, own}
+use Rattle.sdl_tables.specs.Walks.{file_of, own}
 use Rattle.sdl_structure.specs.Drafts.{HasBlocks}
-use Rattle.sdl_structure.proofs.ListLemmas.{zip_length}
+use Rattle.sdl_tables.proofs.ListLemmas.{zip_length}
 use Rattle.sdl_structure.proofs.DraftLemmas.{IsBegun, sets_start, signals_kept, counted_channels, length_before, blocks_next, block_joins, ended_is}
 use Rattle.sdl_structure.proofs.GateLemmas.{block_knows}
 use Rattle.sdl_structure.proofs.reading.draft.Draft.read_block.Goals as goal

@@ -1,7 +1,7 @@
 use Rattle.std.proofs.Common.{take}
-use Rattle.sdl_structure.specs.declared.reading.Key.TheVariants as key
-use Rattle.sdl_structure.specs.Tables.{tables_at}
-use Rattle.sdl_structure.specs.Walks.{file_of}
+use Rattle.sdl_tables.specs.declared.place.Key.TheVariants as key
+use Rattle.sdl_tables.specs.Tables.{tables_at}
+use Rattle.sdl_tables.specs.Walks.{file_of}
 use Rattle.sdl_structure.specs.Drafts.{HasBlocks}
 use Rattle.sdl_structure.proofs.reading.draft.Draft.read_blocks.Given as goal
 

@@ -1,12 +1,12 @@
 use Rattle.std.proofs.Common.{rules, arith, ◌≡◌, ◌+◌, ◌<◌, length, take, map, ap, sym, subst, refl, ◌∙◌}
 use Rattle.std.proofs.lemmas.List.{length-map, length-append}
 use Rattle.std.proofs.lemmas.Bool.Decides.{nat_tests}
-use Rattle.sdl_structure.specs.declared.reading.Key.TheVariants as key
+use Rattle.sdl_tables.specs.declared.place.Key.TheVariants as key
 use Rattle.sdl_structure.specs.declared.reading.draft.Draft.{Draft}
-use Rattle.sdl_structure.specs.Tables.{table_in, tables_at}
-use Rattle.sdl_structure.specs.Walks.{file_of, own}
+use Rattle.sdl_tables.specs.Tables.{table_in, tables_at}
+use Rattle.sdl_tables.specs.Walks.{file_of, own}
 use Rattle.sdl_structure.specs.Drafts.{HasSets, IsSetRead}
-use Rattle.sdl_structure.proofs.ListLemmas.{take_map_more}
+use Rattle.sdl_tables.proofs.ListLemmas.{take_map_more}
 use Rattle.sdl_structure.proofs.DraftLemmas.{too_many_sets, set_joins, grows_none, grows_more, length_before, one_set_more}
 use Rattle.sdl_structure.proofs.reading.draft.Draft.read_sets.Goals as goal
 

@@ -1,7 +1,7 @@
 use Rattle.std.proofs.Common.{◌≡◌, ◌+◌, take, map, length}
-use Rattle.sdl_structure.specs.declared.reading.Key.TheVariants as key
-use Rattle.sdl_structure.specs.Tables.{table_in, tables_at}
-use Rattle.sdl_structure.specs.Walks.{file_of, own}
+use Rattle.sdl_tables.specs.declared.place.Key.TheVariants as key
+use Rattle.sdl_tables.specs.Tables.{table_in, tables_at}
+use Rattle.sdl_tables.specs.Walks.{file_of, own}
 use Rattle.sdl_structure.specs.Drafts.{HasSets, Grows}
 use Rattle.sdl_structure.proofs.reading.draft.Draft.read_sets.Given as goal
 

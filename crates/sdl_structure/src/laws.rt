@@ -1,0 +1,15 @@
+//! What holds of every file. These functions do nothing: they carry the proofs.
+ghost use Rattle.toml.specs.Data.{Members};
+ghost use Rattle.sdl_parts.specs.Structure.{Structure};
+ghost use Rattle.sdl_tables.specs.Faults.{IsBroken};
+ghost use Rattle.sdl_structure.specs.File.{IsFileOf};
+
+use sdl_tables::{FileFault, Place};
+
+/// In a file that names a structure, each table has the keys that it must have, what they hold is of their types, and there
+/// is no other key.
+pub fn tables_have_their_keys()
+    ensures missing { (root : Members) (s : Structure) (p : Place) → IsFileOf root s → ¬ IsBroken root (FileFault.MissingKey p) }
+    ensures wrong { (root : Members) (s : Structure) (p : Place) → IsFileOf root s → ¬ IsBroken root (FileFault.WrongType p) }
+    ensures unknown { (root : Members) (s : Structure) (p : Place) → IsFileOf root s → ¬ IsBroken root (FileFault.UnknownKey p) }
+{}

@@ -1,0 +1,5 @@
+pub mod TableLemmas
+pub mod FaultLemmas
+pub mod PlaceLemmas
+pub mod ListLemmas
+pub mod SignalLemmas
