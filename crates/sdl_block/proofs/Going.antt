@@ -46,7 +46,7 @@ arrived_one i (arrival.Entered p) = refl
 arrived_one i (arrival.Discarded c) = refl
 
 -- nothing arrives in a turn
-arrived_none : (e : Event) → turn_in e ≡ 1 → arrived (e ∷ []) ≡ []
+pub arrived_none : (e : Event) → turn_in e ≡ 1 → arrived (e ∷ []) ≡ []
 arrived_none (event.Turn p t f s d x) is = refl
 arrived_none (event.Entered i p) is = absurd (let bad : ⊥ = omega (arith, is) in bad)
 arrived_none (event.Discarded i c) is = absurd (let bad : ⊥ = omega (arith, is) in bad)

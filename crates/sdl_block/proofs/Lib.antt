@@ -3,3 +3,5 @@ pub mod Systems
 pub mod Going
 pub mod Stepping
 pub mod Again
+pub mod Rounds
+pub mod Rows

@@ -2,3 +2,4 @@ pub use Rattle.sdl_hand.specs.Work
 pub use Rattle.sdl_hand.specs.Puts
 pub mod Workers
 pub mod Phases
+pub mod Rounds

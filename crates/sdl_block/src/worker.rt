@@ -7,6 +7,7 @@ ghost use Rattle.sdl_instances.specs.Cores.{core_of, parts_of, CanFire};
 ghost use Rattle.sdl_instances.specs.Run.{turns, waiting};
 ghost use Rattle.sdl_hand.specs.Work.{with_core, StepsAs};
 ghost use Rattle.sdl_block.specs.Phases.{TakesFrom, Admits, LetsIn, Turns, StepsTo, PutsFirst, IsEmptyAfter};
+ghost use Rattle.sdl_block.specs.Rounds.{IsOneRound};
 ghost use Rattle.sdl_hand.specs.Puts as puts;
 ghost use Rattle.sdl_block.specs.Workers.{worker_of, behaviours_of, system_around};
 
@@ -50,6 +51,7 @@ impl<S: Agents> BlockWorker<S> {
         requires board { IsBoardOf routes.now board.old }
         ensures step { StepsAs S.may (system_around self.old routes.now) (worker_of self.old) board.old result (worker_of self.new) board.new }
         ensures first { PutsFirst (worker_of self.old) (worker_of self.new) }
+        ensures round { IsOneRound routes.now (worker_of self.old) board.old result (worker_of self.new) board.new }
         ensures hand { IsEmptyAfter result (worker_of self.new) }
         ensures spent { turns (worker_of self.old).core.log ≡ (worker_of self.old).core.budget → (worker_of self.new).core ≡ (worker_of self.old).core }
         ensures sound { IsSound S.may (system_around self.new routes.now) (worker_of self.new).core }
@@ -68,6 +70,7 @@ impl<S: Agents> BlockWorker<S> {
         requires board { IsBoardOf routes.now board.old }
         ensures step { StepsTo S.may (system_around self.old routes.now) (worker_of self.old) board.old result (worker_of self.new) board.new }
         ensures first { PutsFirst (worker_of self.old) (worker_of self.new) }
+        ensures round { IsOneRound routes.now (worker_of self.old) board.old (puts.answer_of result) (worker_of self.new) board.new }
         ensures hand { IsEmptyAfter (puts.answer_of result) (worker_of self.new) }
         ensures spent { turns (worker_of self.old).core.log ≡ (worker_of self.old).core.budget → (worker_of self.new).core ≡ (worker_of self.old).core }
         ensures parts { behaviours_of self.new ≡ behaviours_of self.old }

@@ -7,6 +7,7 @@ use Rattle.sdl_block.specs.Workers.{worker_of, system_around}
 use Rattle.sdl_block.proofs.Going.{routed}
 use Rattle.sdl_block.proofs.Systems.{same_system}
 use Rattle.sdl_block.proofs.Stepping.{refused_so, ends_at_put, ends_at_arrival, ends_at_turn, ends_at_last, ends_whole, empty_after, refused_hand, sound_then, keeps_then, empty_then, legal_then, board_then}
+use Rattle.sdl_block.proofs.Rounds.{round_at_put, round_at_arrival, round_at_turn, round_at_last, round_whole}
 use Rattle.sdl_block.proofs.worker.BlockWorker.try_step.Goals as goal
 
 pub put_out-requires-clause-routed : goal.put_out-requires-clause-routed
@@ -226,3 +227,42 @@ returns-clause-spent g c =
     c.in_ok-arrived.arrived (worker_of c.let_one_arrive.new.self) c.let_one_arrive.new.board c.in_ok-arrived.ensures.arrived
     c.in_ok-turned.turned (worker_of c.make_turn.new.self) makes
     c.in_ok-put_out.field-0 c.put_out-2.new.self.kept c.put_out-2.new.self.outgoing.items c.put_out-2.new.board c.in_ok-put_out.ensures.put c.in_ok-put_out.ensures.kept).2
+
+pub returns-in_err-put-clause-round : goal.returns-in_err-put-clause-round
+returns-in_err-put-clause-round g c =
+    let may = g.S.Agents.may in
+    let sys = system_around c.args.self.now c.args.routes.now in
+    round_at_put may sys (worker_of c.args.self.now) c.args.board.now c.from_residual.result c.from_residual.ensures.0 c.in_err-put.field-0.0 c.put_out.new.self.kept c.put_out.new.self.outgoing.items c.put_out.new.board c.in_err-put.ensures.put
+
+pub returns-in_err-arrived-clause-round : goal.returns-in_err-arrived-clause-round
+returns-in_err-arrived-clause-round g c =
+    let may = g.S.Agents.may in
+    let sys = system_around c.args.self.now c.args.routes.now in
+    round_at_arrival may sys (worker_of c.args.self.now) c.args.board.now c.in_ok-put.put c.put_out.new.self.kept c.put_out.new.self.outgoing.items c.put_out.new.board c.in_ok-put.ensures.put c.in_ok-put.ensures.kept
+    c.from_residual-in_err-arrived.result c.from_residual-in_err-arrived.ensures.0 c.in_err-arrived.field-0.0 (worker_of c.let_one_arrive.new.self) c.let_one_arrive.new.board c.in_err-arrived.ensures.arrived
+
+pub returns-in_err-turned-clause-round : goal.returns-in_err-turned-clause-round
+returns-in_err-turned-clause-round g c =
+    let may = g.S.Agents.may in
+    let sys = system_around c.args.self.now c.args.routes.now in
+    round_at_turn may sys (worker_of c.args.self.now) c.args.board.now c.in_ok-put.put c.put_out.new.self.kept c.put_out.new.self.outgoing.items c.put_out.new.board c.in_ok-put.ensures.put c.in_ok-put.ensures.kept
+    c.in_ok-arrived.arrived (worker_of c.let_one_arrive.new.self) c.let_one_arrive.new.board c.in_ok-arrived.ensures.arrived
+    c.from_residual-in_err-turned.result c.from_residual-in_err-turned.ensures.0 (worker_of c.make_turn.new.self) c.in_err-turned.ensures.turn
+
+pub returns-in_err-put_out-clause-round : goal.returns-in_err-put_out-clause-round
+returns-in_err-put_out-clause-round g c =
+    let may = g.S.Agents.may in
+    let sys = system_around c.args.self.now c.args.routes.now in
+    round_at_last may sys (worker_of c.args.self.now) c.args.board.now c.in_ok-put.put c.put_out.new.self.kept c.put_out.new.self.outgoing.items c.put_out.new.board c.in_ok-put.ensures.put c.in_ok-put.ensures.kept
+    c.in_ok-arrived.arrived (worker_of c.let_one_arrive.new.self) c.let_one_arrive.new.board c.in_ok-arrived.ensures.arrived
+    _ c.in_ok-turned.turned (worker_of c.make_turn.new.self) c.in_ok-turned.ensures.turn
+    c.from_residual-in_err-put_out.result c.from_residual-in_err-put_out.ensures.0 c.in_err-put_out.field-0.0 c.put_out-2.new.self.kept c.put_out-2.new.self.outgoing.items c.put_out-2.new.board c.in_err-put_out.ensures.put
+
+pub returns-clause-round : goal.returns-clause-round
+returns-clause-round g c =
+    let may = g.S.Agents.may in
+    let sys = system_around c.args.self.now c.args.routes.now in
+    round_whole may sys (worker_of c.args.self.now) c.args.board.now c.in_ok-put.put c.put_out.new.self.kept c.put_out.new.self.outgoing.items c.put_out.new.board c.in_ok-put.ensures.put c.in_ok-put.ensures.kept
+    c.in_ok-arrived.arrived (worker_of c.let_one_arrive.new.self) c.let_one_arrive.new.board c.in_ok-arrived.ensures.arrived
+    _ c.in_ok-turned.turned (worker_of c.make_turn.new.self) c.in_ok-turned.ensures.turn
+    _ c.in_ok-put_out.field-0 c.put_out-2.new.self.kept c.put_out-2.new.self.outgoing.items c.put_out-2.new.board c.in_ok-put_out.ensures.put
