@@ -1,12 +1,8 @@
 //! Names, and lines that are read and written.
-ghost use Rattle.std.specs.Prelude.{IfOk, IsSome};
-ghost use Rattle.sdl_signal.specs.Line.{line_text};
-ghost use Rattle.sdl_signal.specs.Names.{IsName};
 
 use arrayvec::ArrayVec;
-use sdl_signal::{EnvLine, LineFault, Name, Names, Pid, SetId, Sort, line_of, name, read_line};
+use sdl_signal::{EnvLine, LineFault, Names, Pid, SetId, Sort, line_of, name, read_line};
 use std::alloc::Global;
-use std::process::Abort;
 use std::test::Fail;
 
 #[test]
@@ -27,43 +23,31 @@ fn names_keep_their_rule(rt: HostRuntime) {
     }
 }
 
-/// The text as a name.
-fn named(text: &str) -> Result<Name, Fail>
-    ensures { IfOk result (λ n. IsName n.bytes) }
-{
-    Ok(name(text).ok_or("a name")?)
-}
-
 /// The gates `line` and `g`; the signals `ping` of an Integer, `say` of a Boolean and a Pid, and `to` of a
 /// Boolean; the set `E`.
 fn some_names(alloc: Global) -> Result<Names, Fail> {
     let mut names = Names::new(alloc);
-    names.add_gate(named("line")?)?;
-    names.add_gate(named("g")?)?;
+    names.add_gate(name("line").ok_or("a name")?)?;
+    names.add_gate(name("g").ok_or("a name")?)?;
     let mut sorts = ArrayVec::new();
     sorts.push(Sort::Integer);
-    names.add_signal(named("ping")?, sorts)?;
+    names.add_signal(name("ping").ok_or("a name")?, sorts)?;
     let mut sorts = ArrayVec::new();
     sorts.push(Sort::Boolean);
     sorts.push(Sort::Pid);
-    names.add_signal(named("say")?, sorts)?;
+    names.add_signal(name("say").ok_or("a name")?, sorts)?;
     let mut sorts = ArrayVec::new();
     sorts.push(Sort::Boolean);
-    names.add_signal(named("to")?, sorts)?;
-    names.add_set(named("E")?)?;
+    names.add_signal(name("to").ok_or("a name")?, sorts)?;
+    names.add_set(name("E").ok_or("a name")?)?;
     Ok(names)
-}
-
-/// The line breaks this rule first.
-fn breaks(rt: &impl Abort, names: &Names, line: &[u8], fault: LineFault) {
-    assert_eq!(rt; read_line(names, line), Err(fault));
 }
 
 #[test]
 fn names_the_first_broken_rule(rt: HostRuntime) -> Result<(), Fail> {
     let names = some_names(rt.alloc())?;
-    breaks(&rt, &names, &[b'a'; 321], LineFault::TooLong);
-    breaks(&rt, &names, &[b'a'; 320], LineFault::Missing);
+    assert_eq!(rt; read_line(&names, &[b'a'; 321]), Err(LineFault::TooLong));
+    assert_eq!(rt; read_line(&names, &[b'a'; 320]), Err(LineFault::Missing));
     for (line, fault) in [
         ("", LineFault::Missing),
         ("line", LineFault::Missing),
@@ -90,30 +74,9 @@ fn names_the_first_broken_rule(rt: HostRuntime) -> Result<(), Fail> {
         ("line ping 7 to E:4294967296", LineFault::BadTo),
         ("line ping 7 to E", LineFault::BadTo),
     ] {
-        breaks(&rt, &names, line.as_bytes(), fault);
+        assert_eq!(rt; read_line(&names, line.as_bytes()), Err(fault));
     }
     Ok(())
-}
-
-/// What is written of the line that was read is how it begins, and is read as the same without its TO part.
-fn is_written_again(rt: &impl Abort, names: &Names, line: &[u8], read: EnvLine)
-    requires { IsSome (line_text names.now (record read { to = None })) }
-{
-    let written = line_of(names, read.gate, &read.signal);
-    assert!(rt; line.starts_with(written.as_slice()));
-    let again = read_line(names, written.as_slice());
-    assert_eq!(rt; again, Ok(EnvLine { to: None, ..read }));
-}
-
-/// The line is read with this TO part, and is written again.
-fn is_read(rt: &impl Abort, names: &Names, line: &[u8], to: Option<Pid>) {
-    match read_line(names, line) {
-        Ok(read) => {
-            assert_eq!(rt; read.to, to);
-            is_written_again(rt, names, line, read);
-        }
-        Err(fault) => assert_eq!(rt; Some(fault), None),
-    }
 }
 
 #[test]
@@ -136,7 +99,16 @@ fn reads_what_was_written(rt: HostRuntime) -> Result<(), Fail> {
         ("g to true", None),
         ("g to false to null", Some(Pid::Null)),
     ] {
-        is_read(&rt, &names, line.as_bytes(), to);
+        match read_line(&names, line.as_bytes()) {
+            Ok(read) => {
+                assert_eq!(rt; read.to, to);
+                let written = line_of(&names, read.gate, &read.signal);
+                assert!(rt; line.as_bytes().starts_with(written.as_slice()));
+                let again = read_line(&names, written.as_slice());
+                assert_eq!(rt; again, Ok(EnvLine { to: None, ..read }));
+            }
+            Err(fault) => assert_eq!(rt; Some(fault), None),
+        }
     }
     Ok(())
 }

@@ -171,15 +171,6 @@ pub fn ping_names(alloc: Global, line: Name, ping: Name) -> Result<Names, AllocE
     Ok(names)
 }
 
-/// The environment reads so many lines of the text, and then its reading ends in this way.
-fn reads_to(rt: &impl Abort, names: &Names, input: &mut Bytes<'_>, lines: u32, end: InputEnd) {
-    let mut reader = EnvReader::new();
-    for _ in 0..lines {
-        assert!(rt; matches!(reader.next(names, input), EnvRead::Line(_)));
-    }
-    assert!(rt; reader.next(names, input) == EnvRead::Ended(end));
-}
-
 #[test]
 fn the_environment_reads_to_the_first_fault(rt: HostRuntime) -> Result<(), Fail> {
     let (Some(line), Some(ping)) = (name("line"), name("ping")) else {
@@ -212,7 +203,11 @@ fn the_environment_reads_to_the_first_fault(rt: HostRuntime) -> Result<(), Fail>
             interruptions: 0,
             fails,
         };
-        reads_to(&rt, &names, &mut input, lines, end);
+        let mut reader = EnvReader::new();
+        for _ in 0..lines {
+            assert!(rt; matches!(reader.next(&names, &mut input), EnvRead::Line(_)));
+        }
+        assert!(rt; reader.next(&names, &mut input) == EnvRead::Ended(end));
     }
     Ok(())
 }
