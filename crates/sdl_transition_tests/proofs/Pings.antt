@@ -1,19 +1,13 @@
 -- The frame of a `ping` is of the offer of its row.
-use Rattle.std.proofs.Common.{ℤ, [], ◌∷◌, Some, arith, refl}
+use Rattle.std.proofs.Common.{ℤ, [], ◌∷◌, arith, refl}
 use Rattle.std.proofs.lemmas.List.Elements.{All-nil, All-cons}
-use Rattle.sdl_signal.specs.declared.values.Sort.TheVariants as sort
 use Rattle.sdl_signal.specs.declared.values.Value.TheVariants as value
 use Rattle.sdl_behaviour.specs.declared.step.Frame.{Frame}
 use Rattle.sdl_behaviour.specs.declared.offer.Offer.{Offer}
 use Rattle.sdl_behaviour.specs.Offers.{IsFrameOf, IsLegalValue}
-use Rattle.sdl_agents.specs.Offered.{IsIdleOffer, offered, sorted}
-use Rattle.sdl_transition_tests.specs.Pings.{IsPingFrame}
+use Rattle.sdl_transition_tests.specs.Pings.{IsPingFrame, IsPingOffer}
 
--- the offer of Echo's row for `ping`
-abbrev pub ForPing : Offer → Type 0
-ForPing offer = IsIdleOffer 1 (Some (sorted 0 (sort.Integer ∷ []))) (offered 1 (sort.Integer ∷ []) ∷ []) [] offer
-
-pub ping_is_of_offer : (n : ℤ) (frame : Frame) (offer : Offer) → IsPingFrame n frame → ForPing offer → IsFrameOf offer frame
+pub ping_is_of_offer : (n : ℤ) (frame : Frame) (offer : Offer) → IsPingFrame n frame → IsPingOffer offer → IsFrameOf offer frame
 ping_is_of_offer n frame offer f o = record {
   state = rw (f.state, o.state) refl;
   trigger = rw (f.signal, o.signal_is, o.sets_are) (refl, refl, All-cons (IsLegalValue 1) (value.Integer n) [] tt (All-nil (IsLegalValue 1)));

@@ -1,5 +1,6 @@
 //! Which fault is named, and that all parts are handed back.
-use super::drafts::{Draft, Found, Outcome, RowDraft, bind_drafts};
+use super::drafts::{Draft, RowDraft, bind_drafts};
+use super::outcomes::{Found, Outcome};
 use sdl_examples::{ECHO, RELAY};
 use sdl_signal::{GateId, SetId, Sort};
 use sdl_transition::{BindFault, Kind, Via};

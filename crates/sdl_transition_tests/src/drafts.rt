@@ -1,19 +1,16 @@
 //! Behaviours whose transitions lead to idle and do nothing, whatever they offer.
 ghost use Rattle.std.specs.Prelude.{◌≡◌, [], ◌∷◌};
-ghost use Rattle.sdl_routes.specs.Routes.{AreRoutesOf};
-ghost use Rattle.sdl_transition.specs.Bound.{IsBound};
-ghost use Rattle.sdl_transition.specs.Index.{IsIndexed};
 
 use super::anything::Anything;
+use super::outcomes::{Outcome, bind_or_retry};
 use arrayvec::ArrayVec;
 use sdl_agents::steps::idle;
-use sdl_parts::{Checked, check};
+use sdl_parts::check;
 use sdl_routes::Routes;
 use sdl_signal::{Name, SetId, SignalId, Sort, StateId};
 use sdl_structure::read_structure;
 use sdl_transition::{
-    Behaviour, BindFault, BlockParts, Bound, Frame, Kind, Named, Offer, OfferedOutput, Row, Run,
-    SignalSorts, Transition, Unbound, Via, bind,
+    Behaviour, Frame, Kind, Named, Offer, OfferedOutput, Row, Run, SignalSorts, Transition, Via,
 };
 use std::alloc::Global;
 
@@ -36,27 +33,6 @@ pub struct Draft {
     pub uses: &'static [(Kind, u32, &'static str)],
     pub sets: u32,
     pub rows: &'static [RowDraft],
-}
-
-/// What came of binding: the fault, and how many sets, routes and behaviours were handed back, or are bound.
-#[derive(Clone, Copy, Debug, PartialEq, Eq)]
-pub struct Outcome {
-    pub fault: Option<BindFault>,
-    pub sets: usize,
-    pub routes: usize,
-    pub behaviours: usize,
-    pub found: Option<Found>,
-}
-
-/// The numbers of the start and of the rows in idle for the signals 0 and 1, and for a state and a signal that are not
-/// there, and how many variables there are.
-#[derive(Clone, Copy, Debug, PartialEq, Eq)]
-pub struct Found {
-    pub start: u32,
-    pub variables: usize,
-    pub first: Option<u32>,
-    pub second: Option<u32>,
-    pub outside: Option<u32>,
 }
 
 fn named(kind: Kind, number: u32, text: &str) -> Option<Named> {
@@ -105,101 +81,6 @@ fn offer_of(sets: u32, row: Option<&RowDraft>) -> Offer
         }
     }
     offer
-}
-
-fn count(
-    checked: &Checked,
-    routes: &Routes,
-    behaviours: usize,
-    fault: Option<BindFault>,
-) -> Outcome {
-    Outcome {
-        fault,
-        sets: checked.structure().sets().len(),
-        routes: routes.len(),
-        behaviours,
-        found: None,
-    }
-}
-
-/// What came of binding these, and where memory was refused, what comes of it when it is tried again with what was handed
-/// back.
-fn bind_or_retry(
-    alloc: Global,
-    checked: Checked,
-    routes: Routes,
-    behaviours: Vec<Behaviour<Anything>>,
-) -> Outcome
-    requires { AreRoutesOf checked routes }
-{
-    let unbound = match bind(alloc, checked, routes, behaviours) {
-        Ok(bound) => return bound_outcome(bound),
-        Err(unbound) => unbound,
-    };
-    let Unbound {
-        checked,
-        routes,
-        behaviours,
-        fault,
-    } = unbound;
-    if fault != BindFault::Memory {
-        return count(&checked, &routes, behaviours.len(), Some(fault));
-    }
-    match bind(alloc, checked, routes, behaviours) {
-        Ok(bound) => bound_outcome(bound),
-        Err(same) => count(
-            &same.checked,
-            &same.routes,
-            same.behaviours.len(),
-            Some(same.fault),
-        ),
-    }
-}
-
-/// What the index finds for the first set of the block.
-fn find(parts: &BlockParts<Anything>) -> Option<Found>
-    requires { IsIndexed parts.now }
-{
-    if parts.behaviours.len() == 0 {
-        return None;
-    }
-    let set = parts.behaviours[0].set;
-    Some(Found {
-        start: parts.start(set).number,
-        variables: parts.variables(set).len(),
-        first: number_of(parts.row(set, StateId(0), SignalId(0))),
-        second: number_of(parts.row(set, StateId(0), SignalId(1))),
-        outside: number_of(parts.row(set, StateId(16), SignalId(64))),
-    })
-}
-
-fn number_of(row: Option<&Transition<Anything>>) -> Option<u32> {
-    match row {
-        Some(transition) => Some(transition.number),
-        None => None,
-    }
-}
-
-/// Takes a system apart, joins it again, and takes it apart.
-fn bound_outcome(bound: Bound<Anything>) -> Outcome
-    requires { IsBound (λ _ _ _. Unit {0}) bound }
-{
-    let (checked, routes, blocks) = bound.into_blocks();
-    let again = Bound::of_blocks(checked, routes, blocks);
-    let (checked, routes, blocks) = again.into_blocks();
-    let mut behaviours: usize = 0;
-    for parts in blocks.as_slice() {
-        behaviours = behaviours.saturating_add(parts.behaviours.len());
-    }
-    let found = if blocks.len() > 0 {
-        find(&blocks[0])
-    } else {
-        None
-    };
-    Outcome {
-        found,
-        ..count(&checked, &routes, behaviours, None)
-    }
 }
 
 /// Binds the behaviours to the structure of the file. `None` where memory was refused before that.

@@ -5,11 +5,17 @@ pub mod anything;
 #[cfg(test)]
 mod binding;
 #[cfg(test)]
+mod counting;
+#[cfg(test)]
 mod drafts;
 #[cfg(test)]
 mod firing;
 #[cfg(test)]
 mod numbers;
+#[cfg(test)]
+mod outcomes;
+#[cfg(test)]
+mod sixteen;
 #[cfg(test)]
 mod stored;
 #[cfg(test)]

@@ -1,22 +1,29 @@
 //! Echo's transitions, stored and fired.
-ghost use Rattle.std.specs.Prelude.{◌≡◌, All, Some, [], ◌∷◌};
-ghost use Rattle.sdl_signal.specs.declared.values.Sort.TheVariants as sort;
+ghost use Rattle.std.specs.Prelude.{All};
+ghost use Rattle.sdl_behaviour.specs.declared.offer.Offer.{Offer};
 ghost use Rattle.sdl_behaviour.specs.Offers.{IsFrameOf, Conforms};
 ghost use Rattle.sdl_behaviour.specs.Transitions.{IsAllowed, IsAllowedRow, IsAllowedBehaviour};
 ghost use Rattle.sdl_agents.specs.Tables.{EchoMay};
-ghost use Rattle.sdl_agents.specs.Offered.{IsIdleOffer, offered, sorted};
-ghost use Rattle.sdl_transition_tests.specs.Pings.{IsPingFrame};
+ghost use Rattle.sdl_transition_tests.specs.Pings.{IsPingFrame, IsPingOffer};
 
 use arrayvec::ArrayVec;
 use sdl_agents::echo::Echo;
 use sdl_agents::offers::{forward_offer, start_offer};
 use sdl_agents::steps::{begin, forward};
 use sdl_signal::{Pid, SetId, Signal, SignalId, StateId, Value};
-use sdl_transition::{Agents, Behaviour, Frame, Row, Run, Step, Transition};
+use sdl_transition::{Action, Agents, Behaviour, Dest, Frame, Row, Run, Step, Transition, Via};
 use std::alloc::{AllocError, Global};
 
 /// The instance of set 0 with the serial number 1, in idle, on `ping(n)` from the environment.
 pub fn ping_frame(n: i64) -> Frame
+    ensures frame { IsPingFrame n result }
+    ensures offered { (offer : Offer) → IsPingOffer offer → IsFrameOf offer result }
+{
+    frame_of(n)
+}
+
+/// The same frame.
+fn frame_of(n: i64) -> Frame
     ensures { IsPingFrame n result }
 {
     let mut params = ArrayVec::new();
@@ -32,6 +39,20 @@ pub fn ping_frame(n: i64) -> Frame
             id: SignalId(0),
             params,
         }),
+    }
+}
+
+/// What Echo does on `ping(n)`: an output of `pong(n)`.
+pub fn pong(n: i64) -> Action {
+    let mut params = ArrayVec::new();
+    params.push(Value::Integer(n));
+    Action::Output {
+        signal: Signal {
+            id: SignalId(1),
+            params,
+        },
+        dest: Dest::Anywhere,
+        via: Via::Any,
     }
 }
 
@@ -66,7 +87,7 @@ fn fire_ping(
 ) -> Result<Option<Step>, AllocError>
     requires start { IsAllowed EchoMay start }
     requires ping { IsAllowed EchoMay ping }
-    requires offer { IsIdleOffer 1 (Some (sorted 0 (sort.Integer ∷ []))) (offered 1 (sort.Integer ∷ []) ∷ []) [] ping.offer }
+    requires offer { IsPingOffer ping.offer }
 {
     let mut behaviour = Behaviour::new(alloc, SetId(0), ArrayVec::new(), ArrayVec::new(), start);
     let row = Row {

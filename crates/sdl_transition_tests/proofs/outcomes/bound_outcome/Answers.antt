@@ -1,6 +1,6 @@
 use Rattle.std.proofs.Common.{arith}
 use Rattle.sdl_transition.proofs.Places.{indexed_at}
-use Rattle.sdl_transition_tests.proofs.drafts.bound_outcome.Goals as goal
+use Rattle.sdl_transition_tests.proofs.outcomes.bound_outcome.Goals as goal
 
 pub find-found-requires : goal.find-found-requires
 find-found-requires g c =

@@ -1,6 +1,6 @@
 use Rattle.std.proofs.Common.{arith}
 use Rattle.sdl_transition.proofs.Places.{first_rules}
-use Rattle.sdl_transition_tests.proofs.drafts.find.Goals as goal
+use Rattle.sdl_transition_tests.proofs.outcomes.find.Goals as goal
 
 pub start-requires-clause-set : goal.start-requires-clause-set
 start-requires-clause-set g c = first_rules c.args.parts.now.behaviours.items c.index.result.now (omega arith) c.index.ensures
