@@ -1,5 +1,5 @@
 -- What a closing shows is what the driver left.
-use Rattle.std.proofs.Common.{ℕ, ◌<◌, ◌≤◌, Bool, false, cond, List, [], ◌∷◌, ◌++◌, length, map, Option, Some, None, Vec, MatchOption, MatchBool, ◌≡◌, ◌≢◌, refl, ap, sym, ◌∙◌, subst, arith, append_assoc}
+use Rattle.std.proofs.Common.{ℕ, ◌<◌, ◌≤◌, Bool, true, false, cond, List, [], ◌∷◌, ◌++◌, length, map, Option, Some, None, Vec, MatchOption, MatchBool, ◌≡◌, ◌≢◌, refl, ap, sym, ◌∙◌, subst, arith, append_assoc}
 use Rattle.sdl_signal.specs.declared.values.Item.{Item}
 use Rattle.sdl_routes.specs.declared.parts.Station.{Station}
 use Rattle.sdl_behaviour.specs.declared.step.Frame.{Frame}
@@ -29,7 +29,7 @@ use Rattle.sdl_routes.specs.declared.parts.Row.{Row}
 use Rattle.sdl_transition.specs.declared.parts.BlockParts.{BlockParts}
 use Rattle.sdl_transition.specs.Bound.{AreOneSystem}
 use Rattle.sdl_driver.specs.declared.closing.Room.{Room}
-use Rattle.sdl_driver.specs.Closings.{HasRoom, StopsByMemory, end_by}
+use Rattle.sdl_driver.specs.Closings.{HasRoom, StopsByMemory, NamesRefused, end_by}
 use Rattle.sdl_outcome.specs.Lists.{items_in, held_in}
 use Rattle.sdl_driver.proofs.Drives.{map_map}
 use Rattle.sdl_balance.proofs.Balanced.{counts_fit}
@@ -110,6 +110,16 @@ pub stops_as : (plan : Plan) (site : Site) → OwnEnd site.environment.ended →
     → MatchOption refused (IsIdle site) (λ k. k < length (workers_of plan)) → shown ≡ input_end site.environment → end ≡ end_by refused spent quiet → StopsByMemory shown end
 stops_as plan site own refused spent quiet shown end idle e f =
     subst (λ (x : InputEnd). StopsByMemory x end) (sym e) (subst (λ (x : RunEnd). StopsByMemory (input_end site.environment) x) (sym f) (stops plan site.environment own site refl refused spent quiet idle))
+
+-- the end names the worker that was refused memory
+names_by : (refused spent : Option ℕ) (quiet : Bool) → NamesRefused (end_by refused spent quiet) refused
+names_by (Some k) spent quiet = λ w. (λ e. cc, λ e. cc)
+names_by None None quiet = λ w. (λ e. cc, λ e. cc)
+names_by None (Some b) true = λ w. (λ e. cc, λ e. cc)
+names_by None (Some b) false = λ w. (λ e. cc, λ e. cc)
+
+pub names_refused : (refused spent : Option ℕ) (quiet : Bool) (end : RunEnd) → end ≡ end_by refused spent quiet → NamesRefused end refused
+names_refused refused spent quiet end e = subst (λ (x : RunEnd). NamesRefused x refused) (sym e) (names_by refused spent quiet)
 
 -- what slices of its lists show is the same
 unfoldable shown : {Z : Type 0} → List (Vec Event Z) → List EnvOut → List Item → List Hand → List (Station × Rest) → Outcome

@@ -1,6 +1,7 @@
 pub mod Driving
 pub mod Drives
 pub mod Rounds
+pub mod Running
 pub mod Scans
 pub mod Stops
 pub mod Rooms

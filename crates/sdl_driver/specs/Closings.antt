@@ -1,5 +1,5 @@
 -- What a contract sees of a closing, and of the lists that become one.
-use Rattle.std.specs.Prelude.{◌≡◌, ℕ, ◌+◌, ◌≤◌, List, map, Option, None, Some, Bool, vec_len, vec_capacity, if◌then◌else◌}
+use Rattle.std.specs.Prelude.{◌≡◌, ℕ, ◌+◌, ◌≤◌, List, map, Option, None, Some, Bool, ◌↔◌, vec_len, vec_capacity, if◌then◌else◌}
 use Rattle.sdl_transition.specs.declared.binding.Bound.{Bound}
 use Rattle.sdl_transition.specs.Bound.{structure_of, routes_of, blocks_of}
 use Rattle.sdl_transition.specs.Rules.{block_rules}
@@ -18,6 +18,10 @@ use Rattle.sdl_outcome.specs.EnvironmentWork.{HasReadAll, HasWritten, received_t
 use Rattle.sdl_outcome.specs.Plan.{Plan, blocks_in}
 use Rattle.sdl_outcome.specs.Outcome.{Outcome}
 use Rattle.sdl_outcome.specs.Lists.{items_in, held_in}
+use Rattle.sdl_transition.specs.declared.step.Frame.{Frame}
+use Rattle.sdl_transition.specs.declared.step.Step.{Step}
+use Rattle.sdl_order.specs.Driver.{Site, IsFresh, outcome_of}
+use Rattle.sdl_driver.specs.Runs.{Runs}
 
 -- the plan of a bound system with this budget
 abbrev pub plan_of_bound : {S I : Type 0} {F : I → Type 0} {g : _} → Bound S I F g → ℕ → Plan
@@ -55,6 +59,20 @@ HasWrittenIn plan start now c = HasWritten start now (received_text (lexicon_of 
 -- the reading stopped before its end only where memory was refused to a worker
 abbrev pub StopsByMemory : InputEnd → RunEnd → Type 0
 StopsByMemory reading end = (n : ℕ) → reading ≡ input.Stopped n → (w : ℕ) × (end ≡ run_end.Memory w)
+
+-- the end names the worker that was refused memory, and none where none was
+abbrev pub NamesRefused : RunEnd → Option ℕ → Type 0
+NamesRefused end refused = (w : ℕ) → (end ≡ run_end.Memory w) ↔ (refused ≡ Some w)
+
+-- The closing is what a run under the schedule leaves: from a start at which nothing has happened, where it stops.
+pub record IsRunOf {S I : Type 0} {F : I → Type 0} {g : _} (may : ℕ → Frame → Step → Type 0) (plan : Plan) (schedule : List ℕ) (c : Closing S I F g) : Type 0 where
+  pub start : Site
+  pub stop : Site
+  pub refused : Option ℕ
+  pub fresh : IsFresh may plan start
+  pub runs : Runs may plan schedule refused start stop
+  pub left : outcome_in c ≡ outcome_of stop
+  pub ends : NamesRefused c.end refused
 
 -- it is the system that was handed in
 abbrev pub IsSameBound : {S I : Type 0} {F : I → Type 0} {g : _} → Bound S I F g → Bound S I F g → Type 0

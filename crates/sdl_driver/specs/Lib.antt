@@ -12,6 +12,8 @@ pub use Rattle.sdl_order.specs.Driver
 pub use Rattle.sdl_order.specs.Measure
 pub use Rattle.sdl_ledger.specs.Counts
 pub use Rattle.sdl_environment.specs.EnvPhases
+pub use Rattle.sdl_environment.specs.EnvSteps
 pub mod Ended
 pub mod Drivers
+pub mod Runs
 pub mod Closings

@@ -1,25 +1,17 @@
 //! The driver of a run on one thread.
-ghost use Rattle.std.specs.Prelude.{◌≡◌, ℕ, List, Option, ◌+◌, ◌<◌, ◌≤◌, [], length, map, MatchOption, MatchBool};
-ghost use Rattle.sdl_transition.specs.Bound.{AreOneSystem};
-ghost use Rattle.sdl_block.specs.Workers.{behaviours_of};
-ghost use Rattle.sdl_driver.specs.Closings.{HasRoom, IsSystemOf, HasReadIn, HasWrittenIn, StopsByMemory, outcome_in, outcome_left};
-ghost use Rattle.sdl_ledger.specs.Counts.{waiting_in};
-ghost use Rattle.sdl_driver.specs.Ended.{HasEnded};
-ghost use Rattle.sdl_outcome.specs.Plan.{blocks_in, workers_of};
-ghost use Rattle.sdl_outcome.specs.EnvironmentWork.{OwnEnd, HasReadSoFar, HasWrittenSoFar, input_end};
-ghost use Rattle.sdl_order.specs.Driver.{BlockSteps, EnvironmentSteps, ForwarderSteps, IsIdle, outcome_of, finals_of};
-ghost use Rattle.sdl_driver.specs.Drivers.{site_of, plan_of, IsDriving, IsSameSystem, ReadsOver, WritesOver, StepAnswers, RoundAnswers, NoneSpent, FirstSpent, AllDone, SomeUndone, AllLeft, SomeLeft};
+ghost use Rattle.std.specs.Prelude.{◌≡◌, ◌<◌, ◌≤◌, length, MatchOption};
+ghost use Rattle.sdl_outcome.specs.Plan.{workers_of};
+ghost use Rattle.sdl_order.specs.Driver.{BlockSteps, EnvironmentSteps, ForwarderSteps, IsIdle};
+ghost use Rattle.sdl_driver.specs.Drivers.{site_of, plan_of, IsDriving, IsSameSystem, ReadsOver, WritesOver, StepAnswers, RoundAnswers};
+ghost use Rattle.sdl_driver.specs.Runs.{numbers_below, refused_in, WorkerSteps, StepsThrough, Settles, Runs};
 
-use crate::closing::{Closing, Left, Room, end_of, take_blocks, take_forwarders};
 use sdl_block::BlockWorker;
 use sdl_environment::EnvWorker;
 use sdl_forward::{Board, Forwarded, Forwarder};
 use sdl_hand::Stepped;
-use sdl_ledger::Ledger;
 use sdl_parts::Checked;
-use sdl_queue::Rest;
-use sdl_routes::{Routes, Station};
-use sdl_transition::{Agents, Bound};
+use sdl_routes::Routes;
+use sdl_transition::Agents;
 use std::io::{Read, Write};
 
 /// All workers of a run, with the board between them, and the system that they carry out.
@@ -120,6 +112,7 @@ impl<S: Agents> Driver<S> {
         ensures driving { IsDriving S.may self.new }
         ensures same { IsSameSystem self.old self.new }
         ensures answer { StepAnswers (plan_of self.old) number result (site_of self.old) (site_of self.new) }
+        ensures step { WorkerSteps S.may (plan_of self.old) number result (site_of self.old) (site_of self.new) }
         ensures reading { ReadsOver (plan_of self.old) self.old.environment (R.remaining input.old) self.new.environment (R.remaining input.new) }
         ensures writing { WritesOver (plan_of self.old) self.old.environment (W.contents output.old) self.new.environment (W.contents output.new) }
     {
@@ -144,6 +137,7 @@ impl<S: Agents> Driver<S> {
         ensures driving { IsDriving S.may self.new }
         ensures same { IsSameSystem self.old self.new }
         ensures answer { RoundAnswers (plan_of self.old) result (site_of self.old) (site_of self.new) }
+        ensures steps { StepsThrough S.may (plan_of self.old) (numbers_below (length (workers_of (plan_of self.old)))) (refused_in result) (site_of self.old) (site_of self.new) }
         ensures reading { ReadsOver (plan_of self.old) self.old.environment (R.remaining input.old) self.new.environment (R.remaining input.new) }
         ensures writing { WritesOver (plan_of self.old) self.old.environment (W.contents output.old) self.new.environment (W.contents output.new) }
     {
@@ -164,6 +158,7 @@ impl<S: Agents> Driver<S> {
         ensures driving { IsDriving S.may self.new }
         ensures same { IsSameSystem self.old self.new }
         ensures answer { MatchOption result (IsIdle (site_of self.new)) (λ w. w < length (workers_of (plan_of self.old))) }
+        ensures steps { Settles S.may (plan_of self.old) result (site_of self.old) (site_of self.new) }
         ensures reading { ReadsOver (plan_of self.old) self.old.environment (R.remaining input.old) self.new.environment (R.remaining input.new) }
         ensures writing { WritesOver (plan_of self.old) self.old.environment (W.contents output.old) self.new.environment (W.contents output.new) }
     {
@@ -187,6 +182,8 @@ impl<S: Agents> Driver<S> {
         ensures driving { IsDriving S.may self.new }
         ensures same { IsSameSystem self.old self.new }
         ensures answer { MatchOption result (IsIdle (site_of self.new)) (λ w. w < length (workers_of (plan_of self.old))) }
+        // A refusal ends it: no step is made after it.
+        ensures run { Runs S.may (plan_of self.old) schedule.now result (site_of self.old) (site_of self.new) }
         ensures reading { ReadsOver (plan_of self.old) self.old.environment (R.remaining input.old) self.new.environment (R.remaining input.new) }
         ensures writing { WritesOver (plan_of self.old) self.old.environment (W.contents output.old) self.new.environment (W.contents output.new) }
     {
@@ -200,147 +197,4 @@ impl<S: Agents> Driver<S> {
         }
         self.settle(input, output)
     }
-
-    /// The least block whose budget is used.
-    fn first_spent(&self) -> Option<u32>
-        requires { IsDriving S.may self.now }
-        ensures { MatchOption result (NoneSpent (plan_of self.now) (site_of self.now).blocks) (FirstSpent (plan_of self.now) (site_of self.now).blocks) }
-    {
-        for (number, block) in self.blocks.iter().enumerate() {
-            if block.made() == self.budget {
-                return Some(number as u32);
-            }
-        }
-        None
-    }
-
-    /// Whether no instance of any block is ready.
-    fn are_settled(&self) -> bool
-        ensures { MatchBool result (AllDone (site_of self.now).blocks) (SomeUndone (site_of self.now).blocks) }
-    {
-        for block in self.blocks.iter() {
-            if !block.is_settled() {
-                return false;
-            }
-        }
-        true
-    }
-}
-
-impl<S: Agents> Driver<S> {
-    /// Takes the driver apart where the run stops. The worker is the one that was refused memory.
-    pub fn close(self, room: Room<S>, refused: Option<u32>) -> Closing<S>
-        requires driving { IsDriving S.may self }
-        requires system { AreOneSystem S.may self.checked self.routes (map behaviours_of self.blocks.items) }
-        requires room { HasRoom (length self.blocks.items) (length self.blocks.items + (length self.forwarders.items + 1)) room }
-        requires empty { (room.parts.items ≡ []) × (room.logs.items ≡ []) × (room.hands.items ≡ []) }
-        requires refused { MatchOption refused (IsIdle (site_of self)) (λ w. w < length (workers_of (plan_of self))) }
-        ensures ended { HasEnded S.may (plan_of self) (outcome_in result) result.end result.ledger }
-        // What the environment has read and written by then is all that it reads and writes.
-        ensures reading { (start now : Option (List ℕ)) → HasReadSoFar self.checked self.routes (blocks_in (plan_of self)) start now self.environment → HasReadIn (plan_of self) start now result }
-        ensures writing { (start now : Option (List ℕ)) → HasWrittenSoFar self.checked self.routes (blocks_in (plan_of self)) start now self.environment → HasWrittenIn (plan_of self) start now result }
-        ensures stopped { StopsByMemory result.input result.end }
-        ensures bound { IsSystemOf self result.bound }
-    {
-        let spent = self.first_spent();
-        let settled = self.are_settled();
-        let waiting = self.waiting();
-        let Left {
-            bound,
-            logs,
-            env_put,
-            env_received,
-            hands,
-            rests,
-            input,
-            output,
-        } = self.leave(room);
-        let quiet = if settled {
-            is_all_empty(rests.as_slice())
-        } else {
-            false
-        };
-        let ledger = Ledger::of(
-            logs.as_slice(),
-            env_put.as_slice(),
-            env_received.as_slice(),
-            hands.as_slice(),
-            rests.as_slice(),
-            waiting,
-        );
-        Closing {
-            bound,
-            logs,
-            env_put,
-            env_received,
-            hands,
-            rests,
-            ledger,
-            end: end_of(refused, spent, quiet),
-            input,
-            output,
-        }
-    }
-
-    /// Takes the driver apart into the system and what all workers and the board leave.
-    fn leave(self, room: Room<S>) -> Left<S>
-        requires system { AreOneSystem S.may self.checked self.routes (map behaviours_of self.blocks.items) }
-        requires room { HasRoom (length self.blocks.items) (length self.blocks.items + (length self.forwarders.items + 1)) room }
-        requires empty { (room.parts.items ≡ []) × (room.logs.items ≡ []) × (room.hands.items ≡ []) }
-        ensures bound { IsSystemOf self result.bound }
-        ensures outcome { outcome_left result ≡ outcome_of (site_of self) }
-        ensures input { result.input ≡ input_end self.environment }
-        ensures own { OwnEnd self.environment.ended }
-        ensures output { result.output ≡ self.environment.output }
-    {
-        let Driver {
-            checked,
-            routes,
-            blocks,
-            environment,
-            forwarders,
-            board,
-            budget: _,
-        } = self;
-        let env = environment.into_parts();
-        let mut room = room;
-        take_blocks(&mut room, blocks);
-        room.take_hand(env.hand);
-        take_forwarders(&mut room, forwarders);
-        let Room { parts, logs, hands } = room;
-        Left {
-            bound: Bound::of_blocks(checked, routes, parts),
-            logs,
-            env_put: env.put,
-            env_received: env.received,
-            hands,
-            rests: board.into_rests(),
-            input: env.input,
-            output: env.output,
-        }
-    }
-
-    /// The number of signals in the ports of all blocks.
-    fn waiting(&self) -> u64
-        requires { IsDriving S.may self.now }
-        ensures { result ≡ waiting_in (finals_of (site_of self.now)) }
-    {
-        let mut waiting = 0;
-        for block in self.blocks.iter() {
-            waiting += block.left_in_ports();
-        }
-        waiting
-    }
-}
-
-/// Whether nothing is left at any station.
-fn is_all_empty(rests: &[(Station, Rest)]) -> bool
-    ensures { MatchBool result (AllLeft rests.now) (SomeLeft rests.now) }
-{
-    for rest in rests {
-        if rest.1.len() != 0 {
-            return false;
-        }
-    }
-    true
 }

@@ -25,7 +25,7 @@ use Rattle.sdl_block.specs.Workers.{worker_of, behaviours_of, system_around}
 use Rattle.sdl_driver.specs.declared.driver.Driver.{Driver}
 use Rattle.sdl_outcome.specs.declared.end.RunEnd.{RunEnd}
 use Rattle.sdl_driver.specs.declared.closing.Room.{Room}
-use Rattle.sdl_driver.specs.Closings.{HasRoom, HasReadIn, HasWrittenIn, plan_of_bound}
+use Rattle.sdl_driver.specs.Closings.{HasRoom, HasReadIn, HasWrittenIn, IsRunOf, plan_of_bound}
 use Rattle.sdl_driver.specs.declared.closing.Closing.{Closing}
 use Rattle.sdl_outcome.specs.EnvironmentWork.{EnvWorking, HasReadSoFar, HasWrittenSoFar, IsEnvFresh}
 use Rattle.sdl_outcome.specs.Outcome.{Outcome}
@@ -120,7 +120,7 @@ module _ {S I : Type 0} {F : I → Type 0} {g : _} (may : ℕ → Frame → Step
       (core_new n w found fresh, ap (λ (k : Working). k.core.log) fresh.worker, ap (λ (k : Working). k.kept) fresh.worker, ap (λ (k : Working). k.outgoing) fresh.worker)
 
   module _ (environment : IsEnvFresh (blocks_in (plan_of d)) d.environment) (forwarders : d.forwarders.items ≡ map idle_at (lines_from 0 d.checked.channels)) (board : IsBoardOf d.routes d.board) (empty : (s : Station) → waiting d.board s ≡ []) where
-    fresh : IsFresh may (plan_of d) (site_of d)
+    pub fresh : IsFresh may (plan_of d) (site_of d)
     fresh =
         record {
           blocks = length-map d.blocks.items worker_of ∙ (sym (length-map d.blocks.items behaviours_of) ∙ system.dealt.blocks_are);
@@ -169,6 +169,18 @@ module _ {S I : Type 0} {F : I → Type 0} {g : _} (may : ℕ → Frame → Step
   ended_of d ps o end l e h =
       let rules : map (λ w. block_rules (behaviours_of w)) d.blocks.items ≡ map block_rules ps = sym (map_map block_rules behaviours_of d.blocks.items) ∙ ap (map block_rules) e in
       subst (λ (r : List (List Rules)). HasEnded may (record { structure = d.checked; routes = d.routes; rules = r; budget = d.budget }) o end l) rules h
+
+  pub run_of : (d : Driver S I F g) (ps : List (BlockParts S I F g)) (schedule : List ℕ) (c : Closing S I F g) → map behaviours_of d.blocks.items ≡ ps → IsRunOf may (plan_of d) schedule c
+      → IsRunOf may (plan_of_parts d.checked d.routes ps d.budget) schedule c
+  run_of d ps schedule c e h =
+      let rules : map (λ w. block_rules (behaviours_of w)) d.blocks.items ≡ map block_rules ps = sym (map_map block_rules behaviours_of d.blocks.items) ∙ ap (map block_rules) e in
+      subst (λ (r : List (List Rules)). IsRunOf may (record { structure = d.checked; routes = d.routes; rules = r; budget = d.budget }) schedule c) rules h
+
+  pub run_bound : (b : Bound S I F g) (s : Structure) (rows : List Row) (ps : List (BlockParts S I F g)) (budget : ℕ) (schedule : List ℕ) (c : Closing S I F g) → s ≡ structure_of b → rows ≡ routes_of b → ps ≡ blocks_of b
+      → IsRunOf may (plan_of_parts s rows ps budget) schedule c → IsRunOf may (plan_of_bound b budget) schedule c
+  run_bound b s rows ps budget schedule c e f h run =
+      subst (λ (x : Structure). IsRunOf may (plan_of_parts x (routes_of b) (blocks_of b) budget) schedule c) e
+      (subst (λ (x : List Row). IsRunOf may (plan_of_parts s x (blocks_of b) budget) schedule c) f (subst (λ (x : List (BlockParts S I F g)). IsRunOf may (plan_of_parts s rows x budget) schedule c) h run))
 
   pub ended_bound : (b : Bound S I F g) (s : Structure) (rows : List Row) (ps : List (BlockParts S I F g)) (budget : ℕ) (o : Outcome) (end : RunEnd) (l : Ledger) → s ≡ structure_of b → rows ≡ routes_of b → ps ≡ blocks_of b
       → HasEnded may (plan_of_parts s rows ps budget) o end l → HasEnded may (plan_of_bound b budget) o end l

@@ -12,8 +12,10 @@ pub use Rattle.sdl_order.specs.Driver
 pub use Rattle.sdl_order.specs.Measure
 pub use Rattle.sdl_ledger.specs.Counts
 pub use Rattle.sdl_environment.specs.EnvPhases
+pub use Rattle.sdl_environment.specs.EnvSteps
 pub use Rattle.sdl_driver.specs.Ended
 pub use Rattle.sdl_driver.specs.Drivers
+pub use Rattle.sdl_driver.specs.Runs
 pub use Rattle.sdl_driver.specs.Closings
 pub mod Starting
 pub mod Serial

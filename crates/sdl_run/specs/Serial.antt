@@ -17,7 +17,7 @@ use Rattle.sdl_hand.specs.Work.{with_core}
 use Rattle.sdl_block.specs.Workers.{worker_of, behaviours_of, system_around}
 use Rattle.sdl_driver.specs.declared.closing.StartFault.{StartFault}
 use Rattle.sdl_driver.specs.declared.closing.StartFault.TheVariants as fault
-use Rattle.sdl_run.specs.declared.serial.Space.{Space}
+use Rattle.sdl_run.specs.declared.start.Space.{Space}
 use Rattle.sdl_driver.specs.Closings.{IsSameBound, HasRoom}
 use Rattle.sdl_outcome.specs.Plan.{Plan, lines_from}
 use Rattle.sdl_run.specs.Starting.{idle_at}

@@ -2,6 +2,7 @@
 #![tactic(auto)]
 
 pub mod balance;
+mod blocks;
 pub mod closing;
 pub mod driver;
 pub mod environment;

@@ -1,13 +1,61 @@
-//! What stands at the start of a run.
-ghost use Rattle.std.specs.Prelude.{◌≡◌, ◌++◌, ◌≤◌, map, length, OnOk, IfOk};
+//! What stands at the start of a run, beside its blocks.
+ghost use Rattle.std.specs.Prelude.{◌≡◌, ◌++◌, ◌≤◌, [], map, length, OnOk, IfOk};
+ghost use Rattle.sdl_driver.specs.Closings.{HasRoom};
 ghost use Rattle.sdl_outcome.specs.Plan.{path_line, lines_from};
+ghost use Rattle.sdl_run.specs.Serial.{IsSpace};
 ghost use Rattle.sdl_run.specs.Starting.{idle_at};
 
-use sdl_forward::Forwarder;
-use sdl_parts::Channel;
-use sdl_routes::Hop;
+use sdl_block::BlockWorker;
+use sdl_driver::closing::Room;
+use sdl_forward::{Board, Forwarder};
+use sdl_parts::{Channel, Checked};
+use sdl_routes::{Hop, Routes};
 use sdl_signal::{ChannelId, SignalId};
+use sdl_transition::Agents;
 use std::alloc::{AllocError, Global};
+
+/// What a run takes before its blocks: the board, the forwarders, the lists of its closing, and room for the blocks.
+#[derive(Drop)]
+pub struct Space<S> {
+    pub board: Board,
+    pub forwarders: Vec<Forwarder>,
+    pub room: Room<S>,
+    pub workers: Vec<BlockWorker<S>>,
+}
+
+/// Empty lists, with room for what so many blocks and so many workers leave.
+fn make_room<S: Agents>(alloc: Global, blocks: usize, workers: usize) -> Result<Room<S>, AllocError>
+    ensures empty { IfOk result (λ r. (r.parts.items ≡ []) × (r.logs.items ≡ []) × (r.hands.items ≡ [])) }
+    ensures room { IfOk result (λ r. HasRoom blocks workers r) }
+{
+    let parts = Vec::with_capacity(alloc, blocks)?;
+    let logs = Vec::with_capacity(alloc, blocks)?;
+    let hands = Vec::with_capacity(alloc, workers)?;
+    Ok(Room { parts, logs, hands })
+}
+
+/// Takes what a run of so many blocks needs, before any block starts.
+pub fn make_space<S: Agents>(
+    alloc: Global,
+    checked: &Checked,
+    routes: &Routes,
+    blocks: usize,
+) -> Result<Space<S>, AllocError>
+    requires { blocks ≤ 16 }
+    ensures { IfOk result (IsSpace checked.now routes.now blocks) }
+{
+    let structure = checked.structure();
+    let board = Board::new(alloc, routes)?;
+    let forwarders = forwarders_of(alloc, structure.channels())?;
+    let room = make_room(alloc, blocks, blocks + 1 + forwarders.len())?;
+    let workers = Vec::with_capacity(alloc, blocks)?;
+    Ok(Space {
+        board,
+        forwarders,
+        room,
+        workers,
+    })
+}
 
 /// Adds the forwarder of a path, where the path carries a signal. What a refusal leaves is not said.
 fn add_path(

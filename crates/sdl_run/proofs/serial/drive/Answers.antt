@@ -1,4 +1,5 @@
 use Rattle.sdl_driver.specs.Closings.{outcome_in}
+use Rattle.sdl_driver.specs.Drivers.{site_of}
 use Rattle.sdl_run.proofs.Fresh.{system_same, room_same, ended_same, reading_same, writing_same}
 use Rattle.sdl_run.proofs.serial.drive.Goals as goal
 
@@ -12,7 +13,19 @@ pub returns-clause-ended : goal.returns-clause-ended
 returns-clause-ended g c = ended_same g.S.Agents.may c.args.driver c.run-refused.new.self (outcome_in c.close.result) c.close.result.end c.close.result.ledger c.run-refused.ensures.same c.close.ensures.ended
 
 pub returns-clause-reading : goal.returns-clause-reading
-returns-clause-reading g c = reading_same g.S.Agents.may c.args.driver c.run-refused.new.self c.run-refused.ensures.same c.requires.fresh c.close.result _ _ c.run-refused.ensures.reading c.close.ensures.reading
+returns-clause-reading g c = reading_same g.S.Agents.may c.args.driver c.run-refused.new.self c.run-refused.ensures.same c.requires.fresh.environment c.close.result _ _ c.run-refused.ensures.reading c.close.ensures.reading
 
 pub returns-clause-writing : goal.returns-clause-writing
-returns-clause-writing g c = writing_same g.S.Agents.may c.args.driver c.run-refused.new.self c.run-refused.ensures.same c.requires.fresh c.close.result _ _ c.run-refused.ensures.writing c.close.ensures.writing
+returns-clause-writing g c = writing_same g.S.Agents.may c.args.driver c.run-refused.new.self c.run-refused.ensures.same c.requires.fresh.environment c.close.result _ _ c.run-refused.ensures.writing c.close.ensures.writing
+
+pub returns-clause-run : goal.returns-clause-run
+returns-clause-run g c =
+    record {
+      start = site_of c.args.driver;
+      stop = site_of c.run-refused.new.self;
+      refused = c.run-refused.result;
+      fresh = c.requires.fresh;
+      runs = c.run-refused.ensures.run;
+      left = c.close.ensures.left;
+      ends = c.close.ensures.refusal;
+    }

@@ -1,5 +1,5 @@
 use Rattle.sdl_driver.specs.Closings.{outcome_in}
-use Rattle.sdl_run.proofs.Fresh.{ended_bound, reading_bound, writing_bound}
+use Rattle.sdl_run.proofs.Fresh.{ended_bound, run_bound, reading_bound, writing_bound}
 use Rattle.sdl_run.proofs.serial.run_serial.Goals as goal
 
 pub returns-in-Ok-run_in-clause-ended : goal.returns-in-Ok-run_in-clause-ended
@@ -16,3 +16,8 @@ pub returns-in-Ok-run_in-clause-writing : goal.returns-in-Ok-run_in-clause-writi
 returns-in-Ok-run_in-clause-writing g c =
     writing_bound g.S.Agents.may c.args.bound c.into_blocks-checked.result.0 c.into_blocks-checked.result.1 c.into_blocks-checked.result.2.items c.args.budget c.in-Ok-run_in.closing _ _
     c.into_blocks-checked.ensures.structure c.into_blocks-checked.ensures.routes c.in-Ok-run_in.ensures.writing
+
+pub returns-in-Ok-run_in-clause-run : goal.returns-in-Ok-run_in-clause-run
+returns-in-Ok-run_in-clause-run g c =
+    run_bound g.S.Agents.may c.args.bound c.into_blocks-checked.result.0 c.into_blocks-checked.result.1 c.into_blocks-checked.result.2.items c.args.budget c.args.schedule.now c.in-Ok-run_in.closing
+    c.into_blocks-checked.ensures.structure c.into_blocks-checked.ensures.routes c.into_blocks-checked.ensures.blocks c.in-Ok-run_in.ensures.run

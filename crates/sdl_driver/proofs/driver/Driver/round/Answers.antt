@@ -1,6 +1,11 @@
-use Rattle.std.proofs.Common.{arith}
+use Rattle.std.proofs.Common.{◌≡◌, ℕ, None, length, sym, subst, arith}
 use Rattle.sdl_driver.proofs.Drives.{reads_on, writes_on}
 use Rattle.sdl_driver.proofs.Rounds.{same_still, on_did, on_idle, at_end}
+use Rattle.sdl_hand.specs.declared.hand.Stepped.{Stepped}
+use Rattle.sdl_outcome.specs.Plan.{workers_of}
+use Rattle.sdl_driver.specs.Drivers.{site_of, plan_of}
+use Rattle.sdl_driver.specs.Runs.{numbers_below, WorkerSteps, StepsThrough}
+use Rattle.sdl_driver.proofs.Running.{round_on, round_stops, worker_by}
 use Rattle.sdl_driver.proofs.driver.Driver.round.Goals.{in-Did, in-Idle}
 use Rattle.sdl_driver.proofs.driver.Driver.round.Goals as goal
 
@@ -15,6 +20,12 @@ loop-number-preserved g c =
       same = same_still start now next inv.same c.step.ensures.same;
       reading = reads_on start now next inv.same _ _ _ inv.reading c.step.ensures.reading;
       writing = writes_on start now next inv.same _ _ _ inv.writing c.step.ensures.writing;
+      steps = elim c.match-step.branch [
+        | in-Did w ↦ round_on g.S.Agents.may (plan_of start) c.loop-number.number c.step.result (site_of start) (site_of now) (site_of next) inv.steps (λ e. cc)
+            (worker_by g.S.Agents.may start now inv.same c.loop-number.number c.step.result (site_of now) (site_of next) c.step.ensures.step)
+        | in-Idle w ↦ round_on g.S.Agents.may (plan_of start) c.loop-number.number c.step.result (site_of start) (site_of now) (site_of next) inv.steps (λ e. cc)
+            (worker_by g.S.Agents.may start now inv.same c.loop-number.number c.step.result (site_of now) (site_of next) c.step.ensures.step)
+      ];
       gone = elim c.match-step.branch [
         | in-Did w ↦ on_did start now next inv.same c.loop-number.number c.step.result c.loop-number.did inv.gone c.step.ensures.answer w.in-Did.is c.match-step.did w.did-is
         | in-Idle w ↦ on_idle start now next inv.same c.loop-number.number c.step.result c.loop-number.did inv.gone c.step.ensures.answer w.in-Idle.is c.match-step.did w.did-is
@@ -32,3 +43,27 @@ returns-in-Memory-clause-reading g c = reads_on c.args.self.now c.loop-number.se
 
 pub returns-in-Memory-clause-writing : goal.returns-in-Memory-clause-writing
 returns-in-Memory-clause-writing g c = writes_on c.args.self.now c.loop-number.self c.step.new.self c.loop-number.invariant.same _ _ _ c.loop-number.invariant.writing c.step.ensures.writing
+
+pub returns-in-Memory-clause-steps : goal.returns-in-Memory-clause-steps
+returns-in-Memory-clause-steps g c =
+    let may = g.S.Agents.may in
+    let start = c.args.self.now in
+    let now = c.loop-number.self in
+    let next = c.step.new.self in
+    let inv = c.loop-number.invariant in
+    let n = c.loop-number.number in
+    round_stops may (plan_of start) n (length (workers_of (plan_of start))) (site_of start) (site_of now) (site_of next) (omega (arith, c.loop-number-test.true, c.workers-number-end.ensures.count)) inv.steps
+    (subst (λ (a : Stepped). WorkerSteps may (plan_of start) n a (site_of now) (site_of next)) c.in-Memory.is
+    (worker_by may start now inv.same n c.step.result (site_of now) (site_of next) c.step.ensures.step))
+
+pub returns-then-did-clause-steps : goal.returns-then-did-clause-steps
+returns-then-did-clause-steps g c =
+    let start = c.args.self.now in
+    let all : c.loop-number.number ≡ length (workers_of (plan_of start)) = omega (arith, c.loop-number-test.false, c.loop-number.auto.number-end, c.workers-number-end.ensures.count) in
+    subst (λ (k : ℕ). StepsThrough g.S.Agents.may (plan_of start) (numbers_below k) None (site_of start) (site_of c.loop-number.self)) all c.loop-number.invariant.steps
+
+pub returns-else-did-clause-steps : goal.returns-else-did-clause-steps
+returns-else-did-clause-steps g c =
+    let start = c.args.self.now in
+    let all : c.loop-number.number ≡ length (workers_of (plan_of start)) = omega (arith, c.loop-number-test.false, c.loop-number.auto.number-end, c.workers-number-end.ensures.count) in
+    subst (λ (k : ℕ). StepsThrough g.S.Agents.may (plan_of start) (numbers_below k) None (site_of start) (site_of c.loop-number.self)) all c.loop-number.invariant.steps

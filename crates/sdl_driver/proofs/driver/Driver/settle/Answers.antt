@@ -2,7 +2,9 @@ use Rattle.std.proofs.Common.{subst}
 use Rattle.sdl_driver.specs.declared.driver.Round.{Round}
 use Rattle.sdl_driver.specs.Drivers.{site_of, plan_of, RoundAnswers}
 use Rattle.sdl_driver.proofs.Drives.{reads_on, writes_on}
-use Rattle.sdl_driver.proofs.Rounds.{less_by, same_still}
+use Rattle.sdl_driver.proofs.Rounds.{less_by, same_itself, same_still}
+use Rattle.sdl_driver.specs.declared.driver.Round.TheVariants as round
+use Rattle.sdl_driver.proofs.Running.{round_after, none_settled}
 use Rattle.sdl_driver.proofs.driver.Driver.settle.Goals as goal
 
 pub loop-worker-smaller : goal.loop-worker-smaller
@@ -21,6 +23,7 @@ loop-worker-preserved g c =
     record {
       driving = c.round.ensures.driving;
       same = same_still start now next inv.same c.round.ensures.same;
+      steps = round_after g.S.Agents.may start now next inv.same round.Did c.round.result c.in-Did.is inv.steps c.round.ensures.steps;
       reading = reads_on start now next inv.same _ _ _ inv.reading c.round.ensures.reading;
       writing = writes_on start now next inv.same _ _ _ inv.writing c.round.ensures.writing;
     }
@@ -36,3 +39,21 @@ returns-in-Refused-clause-reading g c = reads_on c.args.self.now c.loop-worker.s
 
 pub returns-in-Refused-clause-writing : goal.returns-in-Refused-clause-writing
 returns-in-Refused-clause-writing g c = writes_on c.args.self.now c.loop-worker.self c.round.new.self c.loop-worker.invariant.same _ _ _ c.loop-worker.invariant.writing c.round.ensures.writing
+
+pub loop-worker-init : goal.loop-worker-init
+loop-worker-init g c =
+    record {
+      driving = c.requires.driving;
+      same = same_itself c.args.self.now;
+      steps = none_settled g.S.Agents.may (plan_of c.args.self.now) (site_of c.args.self.now);
+      reading = λ start h. h;
+      writing = λ start h. h;
+    }
+
+pub returns-in-Idle-clause-steps : goal.returns-in-Idle-clause-steps
+returns-in-Idle-clause-steps g c =
+    round_after g.S.Agents.may c.args.self.now c.loop-worker.self c.round.new.self c.loop-worker.invariant.same round.Idle c.round.result c.in-Idle.is c.loop-worker.invariant.steps c.round.ensures.steps
+
+pub returns-in-Refused-clause-steps : goal.returns-in-Refused-clause-steps
+returns-in-Refused-clause-steps g c =
+    round_after g.S.Agents.may c.args.self.now c.loop-worker.self c.round.new.self c.loop-worker.invariant.same (round.Refused c.in-Refused.worker) c.round.result c.in-Refused.is c.loop-worker.invariant.steps c.round.ensures.steps

@@ -1,9 +1,10 @@
-use Rattle.std.proofs.Common.{ℕ, ◌≡◌, ◌≢◌, ◌≤◌, ◌+◌, ◌-◌, length, arith, subst}
+use Rattle.std.proofs.Common.{ℕ, ◌≡◌, ◌≢◌, ◌≤◌, ◌+◌, ◌-◌, inl, inr, length, ap, sym, arith, subst}
 use Rattle.std.proofs.lemmas.List.{length-map}
 use Rattle.sdl_forward.specs.declared.forwarder.Forwarded.{Forwarded}
 use Rattle.sdl_block.specs.Workers.{worker_of}
 use Rattle.sdl_driver.specs.Drivers.{site_of, plan_of, StepAnswers, stepped_by}
 use Rattle.sdl_driver.proofs.Drives.{workers_count, block_answers, block_drives, environment_answers, environment_drives, forwarder_answers, forwarder_drives, reads_still, writes_still}
+use Rattle.sdl_outcome.specs.Plan.{blocks_in}
 use Rattle.sdl_driver.proofs.driver.Driver.step.Goals as goal
 
 place_is : (n b l : ℕ) → l ≡ b → b ≤ n → n ≢ b → n ≡ l + 1 + (n - b - 1)
@@ -105,3 +106,30 @@ pub returns-in-Held-clause-writing : goal.returns-in-Held-clause-writing
 returns-in-Held-clause-writing g c =
     let d = c.args.self.now in
     writes_still (plan_of d) d.environment c.step_forwarder.new.self.environment (g.W.Write.contents c.args.output.now) c.step_forwarder.ensures.step.environment
+
+pub returns-then-number-blocks-clause-step : goal.returns-then-number-blocks-clause-step
+returns-then-number-blocks-clause-step g c = inl c.step_block.ensures.step
+
+pub returns-then-number-blocks-2-clause-step : goal.returns-then-number-blocks-2-clause-step
+returns-then-number-blocks-2-clause-step g c =
+    let d = c.args.self.now in
+    let at : c.args.number ≡ blocks_in (plan_of d) = omega (arith, length-map d.blocks.items worker_of, c.len-blocks.ensures, c.if-number-blocks-2.true, c.requires.driving.work.blocks) in
+    inr (inl (at, c.step_environment.ensures.step))
+
+pub returns-in-Moved-clause-step : goal.returns-in-Moved-clause-step
+returns-in-Moved-clause-step g c =
+    let d = c.args.self.now in
+    let at = place_is c.args.number c.len-blocks.result (blocks_in (plan_of d)) (omega (arith, c.len-blocks.ensures, length-map d.blocks.items worker_of, c.requires.driving.work.blocks)) c.if-number-blocks.false c.if-number-blocks-2.false in
+    inr (inr (c.args.number - c.len-blocks.result - 1, c.step_forwarder.result, at, sym (ap stepped_by c.in-Moved.is), c.step_forwarder.ensures.step))
+
+pub returns-in-Idle-clause-step : goal.returns-in-Idle-clause-step
+returns-in-Idle-clause-step g c =
+    let d = c.args.self.now in
+    let at = place_is c.args.number c.len-blocks.result (blocks_in (plan_of d)) (omega (arith, c.len-blocks.ensures, length-map d.blocks.items worker_of, c.requires.driving.work.blocks)) c.if-number-blocks.false c.if-number-blocks-2.false in
+    inr (inr (c.args.number - c.len-blocks.result - 1, c.step_forwarder.result, at, sym (ap stepped_by c.in-Idle.is), c.step_forwarder.ensures.step))
+
+pub returns-in-Held-clause-step : goal.returns-in-Held-clause-step
+returns-in-Held-clause-step g c =
+    let d = c.args.self.now in
+    let at = place_is c.args.number c.len-blocks.result (blocks_in (plan_of d)) (omega (arith, c.len-blocks.ensures, length-map d.blocks.items worker_of, c.requires.driving.work.blocks)) c.if-number-blocks.false c.if-number-blocks-2.false in
+    inr (inr (c.args.number - c.len-blocks.result - 1, c.step_forwarder.result, at, sym (ap stepped_by c.in-Held.is), c.step_forwarder.ensures.step))

@@ -4,7 +4,7 @@ use Rattle.sdl_transition.specs.Rules.{block_rules}
 use Rattle.sdl_instances.specs.Core.{IsBoundIn, signals_of, sets_of}
 use Rattle.sdl_block.specs.Workers.{behaviours_of}
 use Rattle.sdl_run.specs.Serial.{IsNew}
-use Rattle.sdl_run.proofs.serial.start_blocks.Given as goal
+use Rattle.sdl_run.proofs.blocks.start_blocks.Given as goal
 
 abbrev pub invariant-loop-alloc : goal.invariant-loop-alloc
 invariant-loop-alloc g l = record {

@@ -2,7 +2,7 @@ use Rattle.std.proofs.Common.{◌+◌, ◌++◌, ◌∷◌, [], length, ap, ◌�
 use Rattle.sdl_block.specs.Workers.{behaviours_of}
 use Rattle.sdl_driver.proofs.Rooms.{come_over, fewer_by_one}
 use Rattle.sdl_run.proofs.Begins.{room_for, none_left_of}
-use Rattle.sdl_run.proofs.serial.regain.Goals as goal
+use Rattle.sdl_run.proofs.blocks.regain.Goals as goal
 
 pub put_last-requires : goal.put_last-requires
 put_last-requires g c =

@@ -11,6 +11,7 @@ use Rattle.sdl_driver.specs.Drivers.{site_of, plan_of, AllDone, SomeUndone, AllL
 use Rattle.sdl_driver.specs.Closings.{outcome_left, end_by}
 use Rattle.sdl_driver.proofs.Readings.{reads_shown, writes_shown}
 use Rattle.sdl_driver.proofs.Closes.{fits, closes, closes_unsettled, stops_as, same_shown}
+use Rattle.sdl_driver.proofs.Closes.{names_refused}
 use Rattle.sdl_driver.proofs.driver.Driver.close.Goals.{then-settled, else-settled}
 use Rattle.sdl_driver.proofs.driver.Driver.close.Goals as goal
 
@@ -64,3 +65,9 @@ returns-clause-stopped g c =
     let d = c.args.self in
     stops_as (plan_of d) (site_of d) c.leave-bound.ensures.own c.args.refused c.first_spent-spent.result c.if-settled.quiet c.leave-bound.result.input c.end_of.result
     c.requires.refused c.leave-bound.ensures.input c.end_of.ensures
+
+pub returns-clause-left : goal.returns-clause-left
+returns-clause-left g c = c.leave-bound.ensures.outcome
+
+pub returns-clause-refusal : goal.returns-clause-refusal
+returns-clause-refusal g c = names_refused c.args.refused c.first_spent-spent.result c.if-settled.quiet c.end_of.result c.end_of.ensures

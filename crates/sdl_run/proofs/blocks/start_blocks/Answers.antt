@@ -6,7 +6,7 @@ use Rattle.sdl_block.specs.Workers.{behaviours_of}
 use Rattle.sdl_run.specs.Serial.{IsNew}
 use Rattle.sdl_driver.proofs.Rooms.{fewer_by_one}
 use Rattle.sdl_run.proofs.Begins.{worker_over, room_for, none_left, all_push, all_first, all_fewer, new_worker, stopped_here}
-use Rattle.sdl_run.proofs.serial.start_blocks.Goals as goal
+use Rattle.sdl_run.proofs.blocks.start_blocks.Goals as goal
 
 pub loop-alloc-init : goal.loop-alloc-init
 loop-alloc-init g c =

@@ -1,7 +1,7 @@
 use Rattle.std.proofs.Common.{◌+◌, length, arith}
 use Rattle.sdl_driver.proofs.Rooms.{fewer_by_one}
 use Rattle.sdl_run.proofs.Begins.{one_over, room_for, none_left}
-use Rattle.sdl_run.proofs.serial.take_all.Goals as goal
+use Rattle.sdl_run.proofs.blocks.take_all.Goals as goal
 
 pub put_last-requires : goal.put_last-requires
 put_last-requires g c =

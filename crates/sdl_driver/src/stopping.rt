@@ -1,0 +1,163 @@
+//! What a run leaves where its driver stops.
+ghost use Rattle.std.specs.Prelude.{◌≡◌, ℕ, List, Option, ◌+◌, ◌<◌, [], length, map, MatchOption, MatchBool};
+ghost use Rattle.sdl_transition.specs.Bound.{AreOneSystem};
+ghost use Rattle.sdl_block.specs.Workers.{behaviours_of};
+ghost use Rattle.sdl_ledger.specs.Counts.{waiting_in};
+ghost use Rattle.sdl_outcome.specs.Plan.{blocks_in, workers_of};
+ghost use Rattle.sdl_outcome.specs.EnvironmentWork.{OwnEnd, HasReadSoFar, HasWrittenSoFar, input_end};
+ghost use Rattle.sdl_order.specs.Driver.{IsIdle, outcome_of, finals_of};
+ghost use Rattle.sdl_driver.specs.Closings.{HasRoom, IsSystemOf, HasReadIn, HasWrittenIn, StopsByMemory, NamesRefused, outcome_in, outcome_left};
+ghost use Rattle.sdl_driver.specs.Ended.{HasEnded};
+ghost use Rattle.sdl_driver.specs.Drivers.{site_of, plan_of, IsDriving, NoneSpent, FirstSpent, AllDone, SomeUndone, AllLeft, SomeLeft};
+
+use crate::closing::{Closing, Left, Room, end_of, take_blocks, take_forwarders};
+use crate::driver::Driver;
+use sdl_ledger::Ledger;
+use sdl_queue::Rest;
+use sdl_routes::Station;
+use sdl_transition::{Agents, Bound};
+
+impl<S: Agents> Driver<S> {
+    /// Takes the driver apart where the run stops. The worker is the one that was refused memory.
+    pub fn close(self, room: Room<S>, refused: Option<u32>) -> Closing<S>
+        requires driving { IsDriving S.may self }
+        requires system { AreOneSystem S.may self.checked self.routes (map behaviours_of self.blocks.items) }
+        requires room { HasRoom (length self.blocks.items) (length self.blocks.items + (length self.forwarders.items + 1)) room }
+        requires empty { (room.parts.items ≡ []) × (room.logs.items ≡ []) × (room.hands.items ≡ []) }
+        requires refused { MatchOption refused (IsIdle (site_of self)) (λ w. w < length (workers_of (plan_of self))) }
+        ensures ended { HasEnded S.may (plan_of self) (outcome_in result) result.end result.ledger }
+        // What the environment has read and written by then is all that it reads and writes.
+        ensures reading { (start now : Option (List ℕ)) → HasReadSoFar self.checked self.routes (blocks_in (plan_of self)) start now self.environment → HasReadIn (plan_of self) start now result }
+        ensures writing { (start now : Option (List ℕ)) → HasWrittenSoFar self.checked self.routes (blocks_in (plan_of self)) start now self.environment → HasWrittenIn (plan_of self) start now result }
+        ensures stopped { StopsByMemory result.input result.end }
+        ensures left { outcome_in result ≡ outcome_of (site_of self) }
+        ensures refusal { NamesRefused result.end refused }
+        ensures bound { IsSystemOf self result.bound }
+    {
+        let spent = self.first_spent();
+        let settled = self.are_settled();
+        let waiting = self.waiting();
+        let Left {
+            bound,
+            logs,
+            env_put,
+            env_received,
+            hands,
+            rests,
+            input,
+            output,
+        } = self.leave(room);
+        let quiet = if settled {
+            is_all_empty(rests.as_slice())
+        } else {
+            false
+        };
+        let ledger = Ledger::of(
+            logs.as_slice(),
+            env_put.as_slice(),
+            env_received.as_slice(),
+            hands.as_slice(),
+            rests.as_slice(),
+            waiting,
+        );
+        Closing {
+            bound,
+            logs,
+            env_put,
+            env_received,
+            hands,
+            rests,
+            ledger,
+            end: end_of(refused, spent, quiet),
+            input,
+            output,
+        }
+    }
+
+    /// Takes the driver apart into the system and what all workers and the board leave.
+    fn leave(self, room: Room<S>) -> Left<S>
+        requires system { AreOneSystem S.may self.checked self.routes (map behaviours_of self.blocks.items) }
+        requires room { HasRoom (length self.blocks.items) (length self.blocks.items + (length self.forwarders.items + 1)) room }
+        requires empty { (room.parts.items ≡ []) × (room.logs.items ≡ []) × (room.hands.items ≡ []) }
+        ensures bound { IsSystemOf self result.bound }
+        ensures outcome { outcome_left result ≡ outcome_of (site_of self) }
+        ensures input { result.input ≡ input_end self.environment }
+        ensures own { OwnEnd self.environment.ended }
+        ensures output { result.output ≡ self.environment.output }
+    {
+        let Driver {
+            checked,
+            routes,
+            blocks,
+            environment,
+            forwarders,
+            board,
+            budget: _,
+        } = self;
+        let env = environment.into_parts();
+        let mut room = room;
+        take_blocks(&mut room, blocks);
+        room.take_hand(env.hand);
+        take_forwarders(&mut room, forwarders);
+        let Room { parts, logs, hands } = room;
+        Left {
+            bound: Bound::of_blocks(checked, routes, parts),
+            logs,
+            env_put: env.put,
+            env_received: env.received,
+            hands,
+            rests: board.into_rests(),
+            input: env.input,
+            output: env.output,
+        }
+    }
+
+    /// The number of signals in the ports of all blocks.
+    fn waiting(&self) -> u64
+        requires { IsDriving S.may self.now }
+        ensures { result ≡ waiting_in (finals_of (site_of self.now)) }
+    {
+        let mut waiting = 0;
+        for block in self.blocks.iter() {
+            waiting += block.left_in_ports();
+        }
+        waiting
+    }
+
+    /// The least block whose budget is used.
+    fn first_spent(&self) -> Option<u32>
+        requires { IsDriving S.may self.now }
+        ensures { MatchOption result (NoneSpent (plan_of self.now) (site_of self.now).blocks) (FirstSpent (plan_of self.now) (site_of self.now).blocks) }
+    {
+        for (number, block) in self.blocks.iter().enumerate() {
+            if block.made() == self.budget {
+                return Some(number as u32);
+            }
+        }
+        None
+    }
+
+    /// Whether no instance of any block is ready.
+    fn are_settled(&self) -> bool
+        ensures { MatchBool result (AllDone (site_of self.now).blocks) (SomeUndone (site_of self.now).blocks) }
+    {
+        for block in self.blocks.iter() {
+            if !block.is_settled() {
+                return false;
+            }
+        }
+        true
+    }
+}
+
+/// Whether nothing is left at any station.
+fn is_all_empty(rests: &[(Station, Rest)]) -> bool
+    ensures { MatchBool result (AllLeft rests.now) (SomeLeft rests.now) }
+{
+    for rest in rests {
+        if rest.1.len() != 0 {
+            return false;
+        }
+    }
+    true
+}
