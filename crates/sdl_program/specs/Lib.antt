@@ -1,3 +1,1 @@
-pub mod Pipe
-pub mod Arguments
 pub mod Running

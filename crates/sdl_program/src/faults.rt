@@ -1,33 +1,59 @@
 //! The texts of the faults of the checker and of binding.
 use crate::names::{agent_name, channel_name, end_agent_name, gate_name, set_name, signal_name};
-use crate::program::without_memory;
+use sdl_command::errors::{without_memory, write_error};
 use sdl_parts::{CheckFault, Direction, Side, Structure};
+use sdl_signal::{ChannelId, GateId, SignalId};
 use sdl_transition::BindFault;
-use std::io::{Result, Write};
+use std::io::Write;
 
 /// Writes the fault of the structure as one line.
-pub fn write_check_fault<E: Write>(
-    errors: &mut E,
-    structure: &Structure,
-    fault: CheckFault,
-) -> Result<()> {
+pub fn write_check_fault<E: Write>(errors: &mut E, structure: &Structure, fault: CheckFault) {
     match fault {
         CheckFault::BadEnds(channel) => {
-            writeln!(
-                errors,
-                "C1 BadEnds channel {}",
-                channel_name(structure, channel)
-            )
+            let channel = channel_name(structure, channel);
+            write_error(errors, format_args!("C1 BadEnds channel {channel}"))
         }
         CheckFault::EmptyChannel(channel) => {
-            writeln!(
+            let channel = channel_name(structure, channel);
+            write_error(errors, format_args!("C2 EmptyChannel channel {channel}"))
+        }
+        CheckFault::NotInGate(channel, direction, signal, gate) => {
+            write_not_in_gate(errors, structure, (channel, direction, signal, gate))
+        }
+        CheckFault::Unjoined(gate, side) => {
+            let agent = agent_name(structure, gate);
+            let gate = gate_name(structure, gate);
+            let side = side_text(side);
+            write_error(
                 errors,
-                "C2 EmptyChannel channel {}",
-                channel_name(structure, channel)
+                format_args!("C4 Unjoined gate {agent}.{gate} {side}"),
             )
         }
-        CheckFault::NotInGate(channel, direction, signal, gate) => writeln!(
-            errors,
+        CheckFault::LeadsNowhere(channel, direction, signal) => {
+            let channel = channel_name(structure, channel);
+            let direction = direction_text(direction);
+            let signal = signal_name(structure, signal);
+            write_error(
+                errors,
+                format_args!("C5 LeadsNowhere channel {channel} {direction} {signal}"),
+            )
+        }
+        CheckFault::InitialOverMax(set) => {
+            let set = set_name(structure, set);
+            write_error(errors, format_args!("C6 InitialOverMax set {set}"))
+        }
+    }
+}
+
+/// Writes that a gate does not list a signal of a channel's path.
+fn write_not_in_gate<E: Write>(
+    errors: &mut E,
+    structure: &Structure,
+    (channel, direction, signal, gate): (ChannelId, Direction, SignalId, GateId),
+) {
+    write_error(
+        errors,
+        format_args!(
             "C3 NotInGate channel {} {} {} {}.{}",
             channel_name(structure, channel),
             direction_text(direction),
@@ -35,24 +61,7 @@ pub fn write_check_fault<E: Write>(
             end_agent_name(structure, channel, gate),
             gate_name(structure, gate)
         ),
-        CheckFault::Unjoined(gate, side) => writeln!(
-            errors,
-            "C4 Unjoined gate {}.{} {}",
-            agent_name(structure, gate),
-            gate_name(structure, gate),
-            side_text(side)
-        ),
-        CheckFault::LeadsNowhere(channel, direction, signal) => writeln!(
-            errors,
-            "C5 LeadsNowhere channel {} {} {}",
-            channel_name(structure, channel),
-            direction_text(direction),
-            signal_name(structure, signal)
-        ),
-        CheckFault::InitialOverMax(set) => {
-            writeln!(errors, "C6 InitialOverMax set {}", set_name(structure, set))
-        }
-    }
+    );
 }
 
 fn direction_text(direction: Direction) -> &'static str {
@@ -83,5 +92,5 @@ pub fn write_bind_fault<E: Write>(errors: &mut E, fault: BindFault) {
         BindFault::TwoRows(set) => ("B9 TwoRows", set),
         BindFault::Memory => return without_memory(errors),
     };
-    let _ = writeln!(errors, "{text} set {}", set.0);
+    write_error(errors, format_args!("{text} set {}", set.0));
 }

@@ -1,14 +1,15 @@
-//! The parts of the program `sdlrun`: its arguments, its commands, the run of a built-in system, and its texts.
+//! The program `sdlrun` over any reader and writers: its commands, the run of a built-in system, and its texts. What it is
+//! asked for and the command `pipe` are passed on.
 #![tactic(auto)]
 
-pub mod arguments;
-mod ends;
+mod closing;
 mod faults;
 mod files;
 mod ledger;
 mod names;
-pub mod pipe;
 pub mod program;
 pub mod running;
 pub mod systems;
 mod trace;
+
+pub use sdl_command::{arguments, pipe};

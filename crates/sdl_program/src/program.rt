@@ -1,26 +1,16 @@
 //! What the program does, over any reader and writers, and its exit statuses.
-use crate::arguments::{Arguments, Options, read_arguments};
-use crate::ends;
 use crate::files::{FileRead, read_file};
-use crate::pipe::pipe;
 use crate::systems::run_file;
+use sdl_command::arguments::{Arguments, Options, read_arguments};
+pub use sdl_command::errors::without_memory;
+use sdl_command::errors::write_error;
+pub use sdl_command::pipe::pipe_command;
+pub use sdl_command::status::{FAULTY, REFUSED, WHOLE, WRONG_ARGUMENTS};
 use sdl_structure::FileFault;
 use std::alloc::{AllocError, Global};
 use std::env;
 use std::io::{ErrorKind, Read, Write};
 use std::rt::{Env, Files};
-
-/// The status of a whole run.
-pub const WHOLE: u8 = 0;
-
-/// The status of a refusal before a run.
-pub const REFUSED: u8 = 1;
-
-/// The status of wrong arguments.
-pub const WRONG_ARGUMENTS: u8 = 2;
-
-/// The status of a run that did not end quietly, or whose input or output had a fault.
-pub const FAULTY: u8 = 3;
 
 const USAGE: &str =
     "usage: sdlrun pipe | check FILE | routes FILE | run [--serial] [--ledger] [--trace] FILE";
@@ -54,18 +44,35 @@ fn run_arguments<H: Env + Files + AllocGlobal, R: Read, W: Write, E: Write>(
     let Some(words) = words_of(rt, alloc)? else {
         return Ok(wrong_arguments(errors));
     };
-    let mut shown: Vec<&str> = Vec::new(alloc);
+    let shown = words_behind_the_name(alloc, words.as_slice())?;
+    Ok(run_words(rt, alloc, shown.as_slice(), input, output, errors))
+}
+
+/// Does what the words after the program's name ask for.
+fn run_words<H: Files, R: Read, W: Write, E: Write>(
+    rt: &H,
+    alloc: Global,
+    words: &[&str],
+    input: &mut R,
+    output: &mut W,
+    errors: &mut E,
+) -> u8 {
+    match read_arguments(words) {
+        Some(Arguments::Pipe) => pipe_command(alloc, input, output, errors),
+        Some(Arguments::File(options, place)) => match words.get(place) {
+            Some(path) => file_command(rt, alloc, path, options, input, output, errors),
+            None => wrong_arguments(errors),
+        },
+        None => wrong_arguments(errors),
+    }
+}
+
+fn words_behind_the_name(alloc: Global, words: &[String]) -> Result<Vec<&str>, AllocError> {
+    let mut shown = Vec::new(alloc);
     for word in words.iter().skip(1) {
         shown.push(word.as_str())?;
     }
-    match read_arguments(shown.as_slice()) {
-        Some(Arguments::Pipe) => Ok(pipe_command(alloc, input, output, errors)),
-        Some(Arguments::File(options, place)) => match shown.get(place) {
-            Some(path) => Ok(file_command(rt, alloc, path, options, input, output, errors)),
-            None => Ok(wrong_arguments(errors)),
-        },
-        None => Ok(wrong_arguments(errors)),
-    }
+    Ok(shown)
 }
 
 /// The program's name and the words after it, and None where one of them is not UTF-8.
@@ -81,29 +88,8 @@ fn words_of<H: Env + AllocGlobal>(
 }
 
 fn wrong_arguments<E: Write>(errors: &mut E) -> u8 {
-    let _ = writeln!(errors, "{USAGE}");
+    write_error(errors, USAGE);
     WRONG_ARGUMENTS
-}
-
-/// Says that memory was refused.
-pub fn without_memory<E: Write>(errors: &mut E) {
-    let _ = writeln!(errors, "memory");
-}
-
-/// `pipe`, with how it ended.
-pub fn pipe_command<R: Read, W: Write, E: Write>(
-    alloc: Global,
-    input: &mut R,
-    output: &mut W,
-    errors: &mut E,
-) -> u8 {
-    match pipe(alloc, input, output) {
-        Ok((read, written)) => ends::report(read, ends::flushed(output, written), errors),
-        Err(_) => {
-            without_memory(errors);
-            FAULTY
-        }
-    }
 }
 
 /// A command on a structure file.
@@ -127,11 +113,11 @@ fn file_command<H: Files, R: Read, W: Write, E: Write>(
             errors,
         ),
         FileRead::CannotRead => {
-            let _ = writeln!(errors, "file: cannot read");
+            write_error(errors, "file: cannot read");
             REFUSED
         }
         FileRead::Memory => {
-            let _ = writeln!(errors, "{}", FileFault::Memory);
+            write_error(errors, FileFault::Memory);
             REFUSED
         }
     }

@@ -2,20 +2,18 @@
 ghost use Rattle.sdl_program.specs.Running.{CanRun, HasBudget};
 ghost use Rattle.sdl_transition.specs.Bound.{IsBound, structure_of};
 
-use crate::arguments::Options;
-use crate::ends::{flushed, report_end, report_input, report_output};
+use crate::closing::report_closing;
 use crate::faults::write_bind_fault;
-use crate::ledger::write_ledger;
-use crate::program::{REFUSED, without_memory};
-use crate::trace::write_trace;
 use sdl_agents::{Runner, system_named};
+use sdl_command::arguments::Options;
+use sdl_command::errors::{without_memory, write_error};
+use sdl_command::status::REFUSED;
 use sdl_parts::Checked;
 use sdl_routes::Routes;
-use sdl_run::{Closing, StartFault, run_serial};
-use sdl_signal::OutputEnd;
+use sdl_run::{StartFault, run_serial};
 use sdl_transition::{Agents, Behaviour, Bound, bind};
 use std::alloc::Global;
-use std::io::{Read, Result, Write};
+use std::io::{Read, Write};
 
 /// How a system is run.
 #[derive(Clone, Copy)]
@@ -51,7 +49,7 @@ pub fn run_command<R: Read, W: Write, E: Write>(
 {
     let name = checked.structure().system();
     let Some(system) = system_named(name) else {
-        let _ = writeln!(errors, "no agents for {name}");
+        write_error(errors, format_args!("no agents for {name}"));
         return REFUSED;
     };
     let sets = checked.structure().sets().len() as u32;
@@ -125,45 +123,4 @@ fn run_bound<S: Agents + Drop, R: Read, W: Write, E: Write>(
             REFUSED
         }
     }
-}
-
-/// Writes what was asked for of a run that ended, and how it ended, and answers the exit status.
-fn report_closing<S: Drop, W: Write, E: Write>(
-    options: Options,
-    closing: &Closing<S>,
-    output: &mut W,
-    errors: &mut E,
-) -> u8 {
-    let written = write_closing(options, closing, output);
-    let input_status = report_input(closing.input, errors);
-    let output_status = report_output(written, errors);
-    let end_status = report_end(closing.bound.checked().structure(), closing.end, errors);
-    input_status.max(output_status).max(end_status)
-}
-
-/// Writes the ledger and the trace, where they were asked for and all lines of the environment went out.
-fn write_closing<S, W: Write>(options: Options, closing: &Closing<S>, output: &mut W) -> OutputEnd {
-    match flushed(output, closing.output) {
-        OutputEnd::Whole => {}
-        OutputEnd::WriteFault => return OutputEnd::WriteFault,
-    }
-    match write_books(options, closing, output) {
-        Ok(()) => flushed(output, OutputEnd::Whole),
-        Err(_) => OutputEnd::WriteFault,
-    }
-}
-
-/// Writes the ledger and the trace, where they were asked for.
-fn write_books<S, W: Write>(options: Options, closing: &Closing<S>, output: &mut W) -> Result<()> {
-    if options.ledger {
-        write_ledger(output, &closing.ledger)?;
-    }
-    if options.trace {
-        write_trace(
-            output,
-            closing.bound.checked().structure(),
-            closing.logs.as_slice(),
-        )?;
-    }
-    Ok(())
 }

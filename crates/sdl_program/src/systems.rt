@@ -1,20 +1,22 @@
 //! The commands on a structure file.
-ghost use Rattle.std.specs.Prelude.{IfSome};
+ghost use Rattle.std.specs.Prelude.{IfSome, IfOk};
 ghost use Rattle.sdl_program.specs.Running.{HasBudget, CanRun};
 
-use crate::arguments::{Command, Options};
-use crate::ends::{flushed, report_output};
 use crate::faults::write_check_fault;
 use crate::files::LONGEST_FILE;
 use crate::names::{agent_name, channel_name, gate_name, signal_name};
-use crate::program::REFUSED;
 use crate::running::{Settings, run_command};
+use sdl_command::arguments::{Command, Options};
+use sdl_command::ends::{flushed, report_output};
+use sdl_command::errors::write_error;
+use sdl_command::status::REFUSED;
 use sdl_parts::{Checked, Structure, check};
 use sdl_routes::{Route, Routes};
-use sdl_signal::{OutputEnd, RouteId};
+use sdl_signal::{GateId, OutputEnd, RouteId};
 use sdl_structure::{FileFault, read_structure};
 use std::alloc::Global;
-use std::io::{Read, Result, Write};
+use std::io;
+use std::io::{Read, Write};
 
 /// Carries out the command on the bytes of a structure file, and answers the exit status: the first refusal of the
 /// file, of its structure, of the table of its routes or of its agents; and else what the command prints, or how the run
@@ -54,7 +56,7 @@ pub fn carry_out<R: Read, W: Write, E: Write>(
     match Routes::build(settings.alloc, &checked) {
         Ok(routes) => with_routes(settings, checked, routes, input, output, errors),
         Err(fault) => {
-            let _ = writeln!(errors, "{fault}");
+            write_error(errors, fault);
             REFUSED
         }
     }
@@ -83,30 +85,36 @@ fn checked_file<E: Write>(alloc: Global, file: &[u8], errors: &mut E) -> Option<
     ensures { IfSome result (λ c. HasBudget c) }
 {
     if file.len() > LONGEST_FILE {
-        let _ = writeln!(errors, "file: too long");
+        write_error(errors, "file: too long");
         return None;
     }
-    let read = match str::from_utf8(file) {
-        Ok(text) => read_structure(alloc, text),
-        Err(_) => Err(FileFault::NotToml),
-    };
-    match read {
+    match structure_of_file(alloc, file) {
         Ok(structure) => match check(structure) {
             Ok(checked) => Some(checked),
             Err((structure, fault)) => {
-                let _ = write_check_fault(errors, &structure, fault);
+                write_check_fault(errors, &structure, fault);
                 None
             }
         },
         Err(fault) => {
-            let _ = writeln!(errors, "{fault}");
+            write_error(errors, fault);
             None
         }
     }
 }
 
+/// The structure of the file, where the file keeps the rules of files.
+fn structure_of_file(alloc: Global, file: &[u8]) -> Result<Structure, FileFault>
+    ensures { IfOk result (λ s. HasBudget s) }
+{
+    match str::from_utf8(file) {
+        Ok(text) => read_structure(alloc, text),
+        Err(_) => Err(FileFault::NotToml),
+    }
+}
+
 /// The status of a text that was written.
-fn written<W: Write, E: Write>(text: Result<()>, output: &mut W, errors: &mut E) -> u8 {
+fn written<W: Write, E: Write>(text: io::Result<()>, output: &mut W, errors: &mut E) -> u8 {
     let end = match text {
         Ok(()) => OutputEnd::Whole,
         Err(_) => OutputEnd::WriteFault,
@@ -114,7 +122,7 @@ fn written<W: Write, E: Write>(text: Result<()>, output: &mut W, errors: &mut E)
     report_output(flushed(output, end), errors)
 }
 
-fn write_check<W: Write>(output: &mut W, structure: &Structure) -> Result<()> {
+fn write_check<W: Write>(output: &mut W, structure: &Structure) -> io::Result<()> {
     writeln!(
         output,
         "ok {} blocks {} sets {} channels {} signals {}",
@@ -126,7 +134,11 @@ fn write_check<W: Write>(output: &mut W, structure: &Structure) -> Result<()> {
     )
 }
 
-fn write_routes<W: Write>(output: &mut W, structure: &Structure, routes: &Routes) -> Result<()> {
+fn write_routes<W: Write>(
+    output: &mut W,
+    structure: &Structure,
+    routes: &Routes,
+) -> io::Result<()> {
     for number in 0..routes.len() {
         if let Some(route) = routes.get(RouteId(number as u32)) {
             write_route(output, structure, number, route)?;
@@ -141,22 +153,28 @@ fn write_route<W: Write>(
     structure: &Structure,
     number: usize,
     route: &Route,
-) -> Result<()> {
-    write!(
-        output,
-        "{number} {} {}.{}",
-        signal_name(structure, route.signal),
-        agent_name(structure, route.start),
-        gate_name(structure, route.start)
-    )?;
+) -> io::Result<()> {
+    let signal = signal_name(structure, route.signal);
+    write!(output, "{number} {signal}")?;
+    write_gate(output, structure, route.start)?;
+    write_hops(output, structure, route)?;
+    write_gate(output, structure, route.end_gate)?;
+    writeln!(output)
+}
+
+/// Writes a gate as a field, with its agent.
+fn write_gate<W: Write>(output: &mut W, structure: &Structure, gate: GateId) -> io::Result<()> {
+    let agent = agent_name(structure, gate);
+    let gate = gate_name(structure, gate);
+    write!(output, " {agent}.{gate}")
+}
+
+/// Writes the hops of a route, each as a field.
+fn write_hops<W: Write>(output: &mut W, structure: &Structure, route: &Route) -> io::Result<()> {
     for hop in route.hops.as_slice() {
+        let channel = channel_name(structure, hop.channel);
         let sign = if hop.back { '-' } else { '+' };
-        write!(output, " {}{sign}", channel_name(structure, hop.channel))?;
+        write!(output, " {channel}{sign}")?;
     }
-    writeln!(
-        output,
-        " {}.{}",
-        agent_name(structure, route.end_gate),
-        gate_name(structure, route.end_gate)
-    )
+    Ok(())
 }

@@ -2,7 +2,7 @@
 use crate::names::{set_name, signal_name};
 use sdl_instances::{Cause, Done, Event, Trigger};
 use sdl_parts::Structure;
-use sdl_signal::Pid;
+use sdl_signal::{Pid, SignalId};
 use std::io::{Result, Write};
 
 /// Writes the logs of all blocks, blocks by number: a line for each event, and after the line of a turn one for each thing
@@ -42,21 +42,13 @@ impl<W: Write> Log<'_, W> {
     fn write_event(&mut self, event: &Event) -> Result<()> {
         match event {
             Event::Entered(item, pid) => {
-                write!(
-                    self.output,
-                    "{} enter {}",
-                    self.block,
-                    signal_name(self.structure, item.signal.id)
-                )?;
+                self.begin_with("enter", item.signal.id)?;
                 self.end_with(*pid)
             }
-            Event::Discarded(item, cause) => writeln!(
-                self.output,
-                "{} discard {} {}",
-                self.block,
-                signal_name(self.structure, item.signal.id),
-                cause_text(*cause)
-            ),
+            Event::Discarded(item, cause) => {
+                self.begin_with("discard", item.signal.id)?;
+                writeln!(self.output, " {}", cause_text(*cause))
+            }
             Event::Turn {
                 pid,
                 trigger,
@@ -76,19 +68,9 @@ impl<W: Write> Log<'_, W> {
     /// Writes what a turn begins with, as the front of a line.
     fn write_trigger(&mut self, trigger: &Trigger) -> Result<()> {
         match trigger {
-            Trigger::Start => write!(self.output, "{} start", self.block),
-            Trigger::Fire(item) => write!(
-                self.output,
-                "{} fire {}",
-                self.block,
-                signal_name(self.structure, item.signal.id)
-            ),
-            Trigger::Implicit(item) => write!(
-                self.output,
-                "{} implicit {}",
-                self.block,
-                signal_name(self.structure, item.signal.id)
-            ),
+            Trigger::Start => self.begin("start"),
+            Trigger::Fire(item) => self.begin_with("fire", item.signal.id),
+            Trigger::Implicit(item) => self.begin_with("implicit", item.signal.id),
         }
     }
 
@@ -101,21 +83,16 @@ impl<W: Write> Log<'_, W> {
 
     fn write_done(&mut self, done: &Done) -> Result<()> {
         match done {
-            Done::Sent(item) => writeln!(
-                self.output,
-                "{} sent {} {}",
-                self.block,
-                signal_name(self.structure, item.signal.id),
-                item.route.0
-            ),
-            Done::NoRoute(_, signal) => writeln!(
-                self.output,
-                "{} noroute {}",
-                self.block,
-                signal_name(self.structure, *signal)
-            ),
+            Done::Sent(item) => {
+                self.begin_with("sent", item.signal.id)?;
+                writeln!(self.output, " {}", item.route.0)
+            }
+            Done::NoRoute(_, signal) => {
+                self.begin_with("noroute", *signal)?;
+                writeln!(self.output)
+            }
             Done::Made(pid) => {
-                write!(self.output, "{} made", self.block)?;
+                self.begin("made")?;
                 self.end_with(*pid)
             }
         }
@@ -124,12 +101,23 @@ impl<W: Write> Log<'_, W> {
     fn write_stop(&mut self, pid: Pid, stopped: Option<u64>) -> Result<()> {
         match stopped {
             Some(dropped) => {
-                write!(self.output, "{} stopped", self.block)?;
+                self.begin("stopped")?;
                 self.write_pid(pid)?;
                 writeln!(self.output, " {dropped}")
             }
             None => Ok(()),
         }
+    }
+
+    /// Writes the first fields of a line: the block, and what happened.
+    fn begin(&mut self, what: &str) -> Result<()> {
+        write!(self.output, "{} {what}", self.block)
+    }
+
+    /// Writes the first fields of a line: the block, what happened, and the signal.
+    fn begin_with(&mut self, what: &str, signal: SignalId) -> Result<()> {
+        let signal = signal_name(self.structure, signal);
+        write!(self.output, "{} {what} {signal}", self.block)
     }
 
     /// Writes the last field of a line.

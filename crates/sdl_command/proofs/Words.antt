@@ -1,7 +1,7 @@
 -- The words after `run`: the last, and those before it.
 use Rattle.std.proofs.Common.{◌≡◌, ℕ, List, [], ◌∷◌, ◌++◌, Some, Bor, map, length, refl, ap, sym, ◌∙◌}
 use Rattle.std.proofs.lemmas.List.{map-append, length-map}
-use Rattle.sdl_program.specs.Arguments.{last_word, words_before, run_file_arguments, run_arguments_of, chosen_arguments_of}
+use Rattle.sdl_command.specs.Arguments.{last_word, words_before, run_file_arguments, run_arguments_of, chosen_arguments_of}
 
 last_word-behind : (words : List (List ℕ)) (file : List ℕ) → last_word (words ++ file ∷ []) ≡ Some file
 last_word-behind [] file = refl

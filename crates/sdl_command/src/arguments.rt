@@ -1,7 +1,7 @@
 //! The program's arguments.
 ghost use Rattle.std.specs.Prelude.{◌≡◌, map};
 ghost use Rattle.std.specs.List.{list_all};
-ghost use Rattle.sdl_program.specs.Arguments.{arguments_of, file_arguments_of, run_arguments_of, chosen_arguments_of, is_run_option, has};
+ghost use Rattle.sdl_command.specs.Arguments.{arguments_of, file_arguments_of, run_arguments_of, chosen_arguments_of, is_run_option, has};
 
 /// What is done with a structure file.
 #[derive(Clone, Copy, Debug, PartialEq, Eq)]

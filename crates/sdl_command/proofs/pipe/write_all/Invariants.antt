@@ -2,8 +2,8 @@ use Rattle.std.proofs.Common.{◌≡◌, List, ◌++◌, length}
 use Rattle.std.specs.List.{AllByRecursion}
 use Rattle.std.specs.Io.KnownBytes.{Appends}
 use Rattle.sdl_signal.specs.declared.values.Item.{Item}
-use Rattle.sdl_program.specs.Pipe.{IsWritable, text_of}
-use Rattle.sdl_program.proofs.pipe.write_all.Given as goal
+use Rattle.sdl_command.specs.Pipe.{IsWritable, text_of}
+use Rattle.sdl_command.proofs.pipe.write_all.Given as goal
 
 abbrev pub invariant-loop-item : goal.invariant-loop-item
 invariant-loop-item g l =

@@ -5,8 +5,11 @@ ghost use Rattle.std.specs.Io.KnownBytes.{Keeps};
 ghost use Rattle.sdl_signal.specs.Names.{Lexicon};
 ghost use Rattle.sdl_signal.specs.declared.values.EnvLine.{EnvLine};
 ghost use Rattle.sdl_signal.specs.Environment.{HasRead};
-ghost use Rattle.sdl_program.specs.Pipe.{pipe_lexicon, IsPiped, HasQueued, IsWritable, text_of, HasWritten, queued_item};
+ghost use Rattle.sdl_command.specs.Pipe.{pipe_lexicon, IsPiped, HasQueued, IsWritable, text_of, HasWritten, queued_item};
 
+use crate::ends::{flushed, report};
+use crate::errors::without_memory;
+use crate::status::FAULTY;
 use arrayvec::ArrayVec;
 use sdl_queue::SerialQueue;
 use sdl_signal::{
@@ -15,6 +18,22 @@ use sdl_signal::{
 };
 use std::alloc::{AllocError, Global};
 use std::io::{Read, Write};
+
+/// `pipe`, with how it ended on standard error, and the exit status.
+pub fn pipe_command<R: Read, W: Write, E: Write>(
+    alloc: Global,
+    input: &mut R,
+    output: &mut W,
+    errors: &mut E,
+) -> u8 {
+    match pipe(alloc, input, output) {
+        Ok((read, write)) => report(read, flushed(output, write), errors),
+        Err(_) => {
+            without_memory(errors);
+            FAULTY
+        }
+    }
+}
 
 /// Reads the lines of the input, up to its end, its first fault or the limit, and then writes each of them again,
 /// without its TO part. The one gate is `line`, and the one signal is `ping` with a parameter of the sort Integer.

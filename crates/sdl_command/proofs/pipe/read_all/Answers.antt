@@ -1,7 +1,7 @@
-use Rattle.std.proofs.Common.{◌≡◌, ◌+◌, ◌++◌, ◌∷◌, [], ℕ, List, ap, sym, ◌∙◌, arith, length, length-append}
-use Rattle.sdl_program.specs.Pipe.{queued_item, queued_items}
-use Rattle.sdl_program.proofs.Piped.{queued_items-push, AreWritable-push}
-use Rattle.sdl_program.proofs.pipe.read_all.Goals as goal
+use Rattle.std.proofs.Common.{◌≡◌, ◌+◌, ◌++◌, ◌∷◌, [], ap, ◌∙◌, arith, length, length-append}
+use Rattle.sdl_command.specs.Pipe.{queued_item, queued_items}
+use Rattle.sdl_command.proofs.Piped.{queued_items-push, AreWritable-push}
+use Rattle.sdl_command.proofs.pipe.read_all.Goals as goal
 
 pub loop-end-preserved : goal.loop-end-preserved
 loop-end-preserved g c =

@@ -1,8 +1,6 @@
 //! How an input and an output ended, on standard error.
-use crate::names::block_name;
-use crate::program::{FAULTY, WHOLE};
-use sdl_parts::Structure;
-use sdl_run::RunEnd;
+use crate::errors::write_error;
+use crate::status::{FAULTY, WHOLE};
 use sdl_signal::{InputEnd, OutputEnd};
 use std::io::Write;
 
@@ -23,12 +21,14 @@ pub fn report<E: Write>(input: InputEnd, output: OutputEnd, errors: &mut E) -> u
 
 /// Writes that an input had a fault, where it had one, and answers the exit status.
 pub fn report_input<E: Write>(end: InputEnd, errors: &mut E) -> u8 {
-    let _ = match end {
+    match end {
         InputEnd::Whole | InputEnd::Stopped(_) => return WHOLE,
-        InputEnd::BadLine(line, fault) => writeln!(errors, "input line {line}: {fault}"),
-        InputEnd::ReadFault => writeln!(errors, "input: read fault"),
-        InputEnd::TooMuch => writeln!(errors, "input: over 16384 lines"),
-    };
+        InputEnd::BadLine(line, fault) => {
+            write_error(errors, format_args!("input line {line}: {fault}"))
+        }
+        InputEnd::ReadFault => write_error(errors, "input: read fault"),
+        InputEnd::TooMuch => write_error(errors, "input: over 16384 lines"),
+    }
     FAULTY
 }
 
@@ -37,18 +37,8 @@ pub fn report_output<E: Write>(end: OutputEnd, errors: &mut E) -> u8 {
     match end {
         OutputEnd::Whole => WHOLE,
         OutputEnd::WriteFault => {
-            let _ = writeln!(errors, "output: write fault");
+            write_error(errors, "output: write fault");
             FAULTY
         }
     }
-}
-
-/// Writes how a run ended, where it did not end quietly, and answers the exit status.
-pub fn report_end<E: Write>(structure: &Structure, end: RunEnd, errors: &mut E) -> u8 {
-    let _ = match end {
-        RunEnd::Quiet => return WHOLE,
-        RunEnd::Spent(block) => writeln!(errors, "end spent {}", block_name(structure, block)),
-        RunEnd::Memory(worker) => writeln!(errors, "end memory worker {worker}"),
-    };
-    FAULTY
 }

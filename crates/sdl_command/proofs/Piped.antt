@@ -1,5 +1,5 @@
 -- Lines that go through the queue of the pipe.
-use Rattle.std.proofs.Common.{◌≡◌, ℕ, zero, suc, ◌+◌, ◌<◌, ◌≤◌, List, [], ◌∷◌, ◌++◌, length, take, drop, Option, Some, None, IsSome, flat_map, refl, sym, ap, ◌∙◌, subst, append_assoc, append-nil, arith, length-append}
+use Rattle.std.proofs.Common.{◌≡◌, ℕ, zero, suc, ◌+◌, ◌<◌, ◌≤◌, List, [], ◌∷◌, ◌++◌, length, take, drop, Option, Some, None, IsSome, refl, sym, ap, ◌∙◌, subst, append_assoc, append-nil, arith, length-append}
 use Rattle.std.specs.List.{AllByRecursion}
 use Rattle.std.specs.Io.KnownBytes.{Appends}
 use Rattle.std.proofs.KnownBytes.{Appends-trans}
@@ -13,7 +13,7 @@ use Rattle.sdl_signal.specs.Names.{Lexicon}
 use Rattle.sdl_signal.specs.Line.{line_text}
 use Rattle.sdl_signal.specs.Bytes.{ended_line}
 use Rattle.std.specs.Prelude.{unwrap_or}
-use Rattle.sdl_program.specs.Pipe.{pipe_lexicon, line_at_gate, text_or_none, piped_text, queued_item, queued_items, AreWritable, IsWritable, text_of}
+use Rattle.sdl_command.specs.Pipe.{pipe_lexicon, line_at_gate, text_or_none, piped_text, queued_item, queued_items, AreWritable, IsWritable, text_of}
 
 -- one line more in the queue
 pub queued_items-push : (number : ℕ) (carried : List EnvLine) (l : EnvLine) → queued_items number carried ++ queued_item (number + length carried) l.signal ∷ [] ≡ queued_items number (carried ++ l ∷ [])

@@ -1,11 +1,11 @@
 -- What the program's arguments ask for.
-use Rattle.std.specs.Prelude.{ℕ, Bool, true, false, ◌||◌, if◌then◌else◌, List, [], ◌∷◌, length, Option, Some, None, codes, bytes_eq, nat_eq}
+use Rattle.std.specs.Prelude.{ℕ, Bool, false, ◌||◌, if◌then◌else◌, List, [], ◌∷◌, length, Option, Some, None, codes, bytes_eq, nat_eq}
 use Rattle.std.specs.List.{starts_with, list_all, list_any}
-use Rattle.sdl_program.specs.declared.arguments.Command.{Command}
-use Rattle.sdl_program.specs.declared.arguments.Command.TheVariants as command
-use Rattle.sdl_program.specs.declared.arguments.Options.{Options}
-use Rattle.sdl_program.specs.declared.arguments.Arguments.{Arguments}
-use Rattle.sdl_program.specs.declared.arguments.Arguments.TheVariants as arguments
+use Rattle.sdl_command.specs.declared.arguments.Command.{Command}
+use Rattle.sdl_command.specs.declared.arguments.Command.TheVariants as command
+use Rattle.sdl_command.specs.declared.arguments.Options.{Options}
+use Rattle.sdl_command.specs.declared.arguments.Arguments.{Arguments}
+use Rattle.sdl_command.specs.declared.arguments.Arguments.TheVariants as arguments
 
 -- a command without options
 abbrev pub plain : Command → Options

@@ -1,11 +1,11 @@
-use Rattle.std.proofs.Common.{◌≡◌, ◌<◌, ◌++◌, ◌∷◌, [], List, ℕ, Some, length, take, ap, subst, sym, ◌∙◌, arith, length-append}
+use Rattle.std.proofs.Common.{◌≡◌, ◌<◌, ◌++◌, ◌∷◌, [], List, ℕ, Some, length, take, ap, subst, sym, ◌∙◌, length-append}
 use Rattle.std.specs.Io.KnownBytes.{Appends}
 use Rattle.std.proofs.KnownBytes.{Appends-trans}
 use Rattle.sdl_signal.specs.Line.{line_text}
-use Rattle.sdl_signal.specs.Bytes.{ended_line, newline}
-use Rattle.sdl_program.specs.Pipe.{line_at_gate, text_of}
-use Rattle.sdl_program.proofs.Piped.{text_of-taken, rest_is_writable, written_front}
-use Rattle.sdl_program.proofs.pipe.write_all.Goals as goal
+use Rattle.sdl_signal.specs.Bytes.{ended_line}
+use Rattle.sdl_command.specs.Pipe.{line_at_gate, text_of}
+use Rattle.sdl_command.proofs.Piped.{text_of-taken, rest_is_writable, written_front}
+use Rattle.sdl_command.proofs.pipe.write_all.Goals as goal
 
 pub loop-item-preserved : goal.loop-item-preserved
 loop-item-preserved g c =

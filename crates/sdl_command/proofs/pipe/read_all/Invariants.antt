@@ -1,8 +1,8 @@
-use Rattle.std.proofs.Common.{◌≡◌, List, ℕ, ◌-◌, ◌≤◌, length}
+use Rattle.std.proofs.Common.{◌≡◌, List, ◌-◌, ◌≤◌, length}
 use Rattle.sdl_signal.specs.declared.values.EnvLine.{EnvLine}
 use Rattle.sdl_signal.specs.Environment.{HasCarried}
-use Rattle.sdl_program.specs.Pipe.{queued_items, AreWritable}
-use Rattle.sdl_program.proofs.pipe.read_all.Given as goal
+use Rattle.sdl_command.specs.Pipe.{queued_items, AreWritable}
+use Rattle.sdl_command.proofs.pipe.read_all.Given as goal
 
 abbrev pub invariant-loop-end : goal.invariant-loop-end
 invariant-loop-end g l =

@@ -1,12 +1,11 @@
-use Rattle.std.proofs.Common.{◌≡◌, List, ℕ, Option, ap, sym, subst, ◌∙◌}
+use Rattle.std.proofs.Common.{◌≡◌, List, ℕ, ap, sym, subst, ◌∙◌}
 use Rattle.std.specs.List.{AllByRecursion}
 use Rattle.sdl_signal.specs.Names.{Lexicon}
 use Rattle.sdl_signal.specs.declared.values.Item.{Item}
-use Rattle.sdl_signal.specs.declared.values.EnvLine.{EnvLine}
 use Rattle.sdl_signal.specs.Environment.{HasRead}
-use Rattle.sdl_program.specs.Pipe.{pipe_lexicon, queued_items, HasQueued, HasWritten, IsWritable, text_of, piped_text}
-use Rattle.sdl_program.proofs.Piped.{queue_is_writable, text_of-queued_items}
-use Rattle.sdl_program.proofs.pipe.pipe.Goals as goal
+use Rattle.sdl_command.specs.Pipe.{pipe_lexicon, HasQueued, HasWritten, IsWritable, text_of, piped_text}
+use Rattle.sdl_command.proofs.Piped.{queue_is_writable, text_of-queued_items}
+use Rattle.sdl_command.proofs.pipe.pipe.Goals as goal
 
 pub write_all-written-requires : goal.write_all-written-requires
 write_all-written-requires g c =

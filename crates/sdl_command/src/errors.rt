@@ -1,0 +1,21 @@
+//! Lines on standard error.
+use arrayvec::ArrayString;
+use std::fmt::{Display, Write};
+use std::io;
+
+/// The most bytes of a line with its newline. The longest has some 30 bytes of words and four names of 32 bytes each.
+const LONGEST_ERROR: usize = 256;
+
+/// Writes the text as one line, which is composed first and then handed to the writer whole, so that the lines of two
+/// programs on one standard error do not mix. A line that the writer does not take is dropped.
+pub fn write_error<E: io::Write, D: Display + Drop>(errors: &mut E, text: D) {
+    let mut line = ArrayString::<LONGEST_ERROR>::new();
+    if writeln!(line, "{text}").is_ok() {
+        let _ = errors.write_all(line.as_str().as_bytes());
+    }
+}
+
+/// Says that memory was refused.
+pub fn without_memory<E: io::Write>(errors: &mut E) {
+    write_error(errors, "memory");
+}
