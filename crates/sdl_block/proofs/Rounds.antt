@@ -7,8 +7,8 @@ use Rattle.sdl_signal.specs.declared.values.Item.{Item}
 use Rattle.sdl_routes.specs.declared.parts.Row.{Row}
 use Rattle.sdl_routes.specs.declared.parts.Station.{Station}
 use Rattle.sdl_routes.specs.declared.parts.Station.TheVariants as station
-use Rattle.sdl_transition.specs.declared.step.Frame.{Frame}
-use Rattle.sdl_transition.specs.declared.step.Step.{Step}
+use Rattle.sdl_behaviour.specs.declared.step.Frame.{Frame}
+use Rattle.sdl_behaviour.specs.declared.step.Step.{Step}
 use Rattle.sdl_instances.specs.declared.event.Event.{Event}
 use Rattle.sdl_instances.specs.declared.event.Event.TheVariants as event
 use Rattle.sdl_instances.specs.Machine.{System}

@@ -18,8 +18,8 @@ use Rattle.sdl_outcome.specs.EnvironmentWork.{HasReadAll, HasWritten, received_t
 use Rattle.sdl_outcome.specs.Plan.{Plan, blocks_in}
 use Rattle.sdl_outcome.specs.Outcome.{Outcome}
 use Rattle.sdl_outcome.specs.Lists.{items_in, held_in}
-use Rattle.sdl_transition.specs.declared.step.Frame.{Frame}
-use Rattle.sdl_transition.specs.declared.step.Step.{Step}
+use Rattle.sdl_behaviour.specs.declared.step.Frame.{Frame}
+use Rattle.sdl_behaviour.specs.declared.step.Step.{Step}
 use Rattle.sdl_order.specs.Driver.{Site, IsFresh, outcome_of}
 use Rattle.sdl_driver.specs.Runs.{Runs}
 
