@@ -16,4 +16,4 @@ returns-in-Fault g c = λ start text wrote.
     ∙ c.line_of-line.ensures.text ∙ ap Some (sym c.as_slice.ensures.value) in
     let whole : HasWritten start before text output.Whole = subst (λ (e : OutputEnd). HasWritten start before text e) c.in-Whole.is wrote in
     subst (λ (t : List ℕ). HasWritten start after (text ++ t) output.WriteFault) (received_one c.args.names.now c.args.routes.now c.args.item.now c.as_slice.result.now line)
-    (written_fault start before after text c.as_slice.result.now c.in-Fault.field-0 whole c.in-Fault.ensures)
+    (written_fault start before after text c.as_slice.result.now c.in-Fault.field-0 whole c.in-Fault.ensures.written)
