@@ -1,0 +1,5 @@
+pub mod Reading
+pub mod Running
+pub mod Ending
+pub mod Changed
+pub mod Altered
