@@ -18,7 +18,7 @@ struct Piped {
 }
 
 /// Pipes the input to a writer that takes so many bytes, after some interruptions.
-fn piped(
+fn run_pipe(
     alloc: Global,
     input: &mut Bytes,
     room: usize,
@@ -35,7 +35,7 @@ fn piped(
 
 #[test]
 fn pipe_writes_what_it_read(rt: HostRuntime) -> Result<(), Fail> {
-    let it = piped(rt.alloc(), &mut reader_of(TWO_LINES), 100, 0)?;
+    let it = run_pipe(rt.alloc(), &mut reader_of(TWO_LINES), 100, 0)?;
     assert!(rt; it.ends == (InputEnd::Whole, OutputEnd::Whole));
     assert_eq!(rt; it.written.as_slice(), TWO_LINES);
     Ok(())
@@ -60,7 +60,7 @@ fn pipe_over_a_reader_that_fails(rt: HostRuntime) -> Result<(), Fail> {
             interruptions: 0,
             fails: true,
         };
-        let it = piped(rt.alloc(), &mut input, 100, 0)?;
+        let it = run_pipe(rt.alloc(), &mut input, 100, 0)?;
         assert!(rt; it.ends == (InputEnd::ReadFault, OutputEnd::Whole));
         assert_eq!(rt;
             it.written.as_slice(),
@@ -74,7 +74,7 @@ fn pipe_over_a_reader_that_fails(rt: HostRuntime) -> Result<(), Fail> {
 #[test]
 fn pipe_over_a_writer_that_fails(rt: HostRuntime) -> Result<(), Fail> {
     for count in 0..TWO_LINES.len() {
-        let it = piped(rt.alloc(), &mut reader_of(TWO_LINES), count, 0)?;
+        let it = run_pipe(rt.alloc(), &mut reader_of(TWO_LINES), count, 0)?;
         assert!(rt; it.ends == (InputEnd::Whole, OutputEnd::WriteFault));
         assert_eq!(rt; it.written.as_slice(), &TWO_LINES[..count]);
     }
@@ -93,7 +93,7 @@ fn pipe_over_interruptions(rt: HostRuntime) -> Result<(), Fail> {
     for (reads, writes, ends) in INTERRUPTIONS {
         let mut input = reader_of(TWO_LINES);
         input.interruptions = reads;
-        let it = piped(rt.alloc(), &mut input, 100, writes)?;
+        let it = run_pipe(rt.alloc(), &mut input, 100, writes)?;
         assert!(rt; it.ends == ends);
     }
     Ok(())
@@ -102,7 +102,7 @@ fn pipe_over_interruptions(rt: HostRuntime) -> Result<(), Fail> {
 /// How a pipe of a line of so many letters ends.
 fn ends_of_letters(alloc: Global, letters: usize) -> Result<(InputEnd, OutputEnd), AllocError> {
     let text = vec![in alloc; b'a'; letters]?;
-    Ok(piped(alloc, &mut reader_of(text.as_slice()), 100, 0)?.ends)
+    Ok(run_pipe(alloc, &mut reader_of(text.as_slice()), 100, 0)?.ends)
 }
 
 #[test]
