@@ -4,12 +4,8 @@
 #[cfg(test)]
 mod bytes;
 #[cfg(test)]
-mod errors;
-#[cfg(test)]
 mod pipes;
 #[cfg(test)]
 mod runs;
-#[cfg(test)]
-mod trial;
 #[cfg(test)]
 mod words;
