@@ -22,22 +22,22 @@ use thiserror::Error;
 #[derive(Clone, Copy, Debug, PartialEq, Eq, Error)]
 pub enum CheckFault {
     /// C1: both ends of the channel are at one gate, or both are at inner sides.
-    #[error("channel {}: its ends are not at two gates that a channel may join", .0.0)]
+    #[error("C1 BadEnds channel {}: its ends are not at two gates that a channel may join", .0.0)]
     BadEnds(ChannelId),
     /// C2: both lists of the channel are empty.
-    #[error("channel {}: it carries no signal", .0.0)]
+    #[error("C2 EmptyChannel channel {}: it carries no signal", .0.0)]
     EmptyChannel(ChannelId),
     /// C3: a signal of the path is not in the list that the gate at its start or its end needs.
-    #[error("channel {}: signal {} is not in the list of gate {}", .0.0, .2.0, .3.0)]
+    #[error("C3 NotInGate channel {}: signal {} is not in the list of gate {}", .0.0, .2.0, .3.0)]
     NotInGate(ChannelId, Direction, SignalId, GateId),
     /// C4: no channel ends at this side of the gate.
-    #[error("gate {}: no channel ends at one of its sides", .0.0)]
+    #[error("C4 Unjoined gate {}: no channel ends at one of its sides", .0.0)]
     Unjoined(GateId, Side),
     /// C5: the path ends at a block gate, and no path that starts on the gate's other side carries the signal.
-    #[error("channel {}: signal {} goes no further", .0.0, .2.0)]
+    #[error("C5 LeadsNowhere channel {}: signal {} goes no further", .0.0, .2.0)]
     LeadsNowhere(ChannelId, Direction, SignalId),
     /// C6: the set's initial number of instances is over its maximum.
-    #[error("set {}: its initial number is over its maximum", .0.0)]
+    #[error("C6 InitialOverMax set {}: its initial number is over its maximum", .0.0)]
     InitialOverMax(SetId),
 }
 
