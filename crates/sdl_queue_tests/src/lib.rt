@@ -4,6 +4,8 @@
 #[cfg(test)]
 mod ends;
 #[cfg(test)]
+mod many;
+#[cfg(test)]
 mod one_thread;
 #[cfg(test)]
 mod refused;
