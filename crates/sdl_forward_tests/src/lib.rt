@@ -9,3 +9,5 @@ mod moved;
 mod refused;
 #[cfg(test)]
 mod stations;
+#[cfg(test)]
+mod wide;
