@@ -27,16 +27,18 @@ impl Read for Bytes<'_> {
     }
 }
 
-/// Takes as many bytes as it has room for, after some interruptions, and then fails.
+/// Takes as many bytes as it has room for, after some interruptions, and then fails. It counts its calls.
 #[derive(Drop)]
 pub struct Room {
     pub taken: Vec<u8>,
     room: usize,
     pub interruptions: u32,
+    pub calls: u32,
 }
 
 impl Write for Room {
     fn write(&mut self, buffer: &[u8]) -> io::Result<usize> {
+        self.calls = self.calls.saturating_add(1);
         if self.interruptions > 0 {
             self.interruptions -= 1;
             return Err(io::Error::from(ErrorKind::Interrupted));
@@ -70,5 +72,6 @@ pub fn writer_of(alloc: Global, room: usize) -> Room {
         taken: Vec::new(alloc),
         room,
         interruptions: 0,
+        calls: 0,
     }
 }

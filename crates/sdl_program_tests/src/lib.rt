@@ -4,8 +4,12 @@
 #[cfg(test)]
 mod bytes;
 #[cfg(test)]
+mod errors;
+#[cfg(test)]
 mod pipes;
 #[cfg(test)]
 mod runs;
+#[cfg(test)]
+mod trial;
 #[cfg(test)]
 mod words;

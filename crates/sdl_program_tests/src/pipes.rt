@@ -3,17 +3,53 @@ use super::bytes::{Bytes, reader_of, writer_of};
 use sdl_program::pipe::pipe;
 use sdl_program::program::{FAULTY, WHOLE, pipe_command};
 use sdl_signal::{InputEnd, LineFault, OutputEnd};
+use std::alloc::{AllocError, Global};
 use std::test::Fail;
+
+const ONE_LINE: &[u8] = b"line ping 7\n";
 
 const TWO_LINES: &[u8] = b"line ping 7\nline ping -1\n";
 
+/// What a pipe answered and wrote.
+#[derive(Drop)]
+struct Piped {
+    ends: (InputEnd, OutputEnd),
+    written: Vec<u8>,
+}
+
+/// Pipes the input to a writer that takes so many bytes, after some interruptions.
+fn run_pipe(
+    alloc: Global,
+    input: &mut Bytes,
+    room: usize,
+    interruptions: u32,
+) -> Result<Piped, AllocError> {
+    let mut output = writer_of(alloc, room);
+    output.interruptions = interruptions;
+    let ends = pipe(alloc, input, &mut output)?;
+    Ok(Piped {
+        ends,
+        written: output.taken,
+    })
+}
+
 #[test]
 fn pipe_writes_what_it_read(rt: HostRuntime) -> Result<(), Fail> {
-    let mut output = writer_of(rt.alloc(), 100);
-    let ends = pipe(rt.alloc(), &mut reader_of(TWO_LINES), &mut output)?;
-    assert!(rt; ends == (InputEnd::Whole, OutputEnd::Whole));
-    assert_eq!(rt; output.taken.as_slice(), TWO_LINES);
+    let it = run_pipe(rt.alloc(), &mut reader_of(TWO_LINES), 100, 0)?;
+    assert!(rt; it.ends == (InputEnd::Whole, OutputEnd::Whole));
+    assert_eq!(rt; it.written.as_slice(), TWO_LINES);
     Ok(())
+}
+
+/// The lines that stand whole in so many bytes of the two.
+fn whole_lines(count: usize) -> &'static [u8] {
+    if count < 12 {
+        &[]
+    } else if count < 25 {
+        ONE_LINE
+    } else {
+        TWO_LINES
+    }
 }
 
 #[test]
@@ -24,19 +60,11 @@ fn pipe_over_a_reader_that_fails(rt: HostRuntime) -> Result<(), Fail> {
             interruptions: 0,
             fails: true,
         };
-        let mut output = writer_of(rt.alloc(), 100);
-        let ends = pipe(rt.alloc(), &mut input, &mut output)?;
-        assert!(rt; ends == (InputEnd::ReadFault, OutputEnd::Whole));
-        let whole = if count < 12 {
-            0
-        } else if count < 25 {
-            12
-        } else {
-            25
-        };
+        let it = run_pipe(rt.alloc(), &mut input, 100, 0)?;
+        assert!(rt; it.ends == (InputEnd::ReadFault, OutputEnd::Whole));
         assert_eq!(rt;
-            output.taken.as_slice(),
-            &TWO_LINES[..whole],
+            it.written.as_slice(),
+            whole_lines(count),
             "after {count} bytes"
         );
     }
@@ -46,28 +74,35 @@ fn pipe_over_a_reader_that_fails(rt: HostRuntime) -> Result<(), Fail> {
 #[test]
 fn pipe_over_a_writer_that_fails(rt: HostRuntime) -> Result<(), Fail> {
     for count in 0..TWO_LINES.len() {
-        let mut output = writer_of(rt.alloc(), count);
-        let ends = pipe(rt.alloc(), &mut reader_of(TWO_LINES), &mut output)?;
-        assert!(rt; ends == (InputEnd::Whole, OutputEnd::WriteFault));
-        assert_eq!(rt; output.taken.as_slice(), &TWO_LINES[..count]);
+        let it = run_pipe(rt.alloc(), &mut reader_of(TWO_LINES), count, 0)?;
+        assert!(rt; it.ends == (InputEnd::Whole, OutputEnd::WriteFault));
+        assert_eq!(rt; it.written.as_slice(), &TWO_LINES[..count]);
     }
     Ok(())
 }
 
+/// Interruptions of the reads and of the writes, and how the pipe ends.
+const INTERRUPTIONS: [(u32, u32, (InputEnd, OutputEnd)); 3] = [
+    (1_000, 1_000, (InputEnd::Whole, OutputEnd::Whole)),
+    (1_001, 0, (InputEnd::ReadFault, OutputEnd::Whole)),
+    (0, 1_001, (InputEnd::Whole, OutputEnd::WriteFault)),
+];
+
 #[test]
 fn pipe_over_interruptions(rt: HostRuntime) -> Result<(), Fail> {
-    for (reads, writes, ends) in [
-        (1_000, 1_000, (InputEnd::Whole, OutputEnd::Whole)),
-        (1_001, 0, (InputEnd::ReadFault, OutputEnd::Whole)),
-        (0, 1_001, (InputEnd::Whole, OutputEnd::WriteFault)),
-    ] {
+    for (reads, writes, ends) in INTERRUPTIONS {
         let mut input = reader_of(TWO_LINES);
         input.interruptions = reads;
-        let mut output = writer_of(rt.alloc(), 100);
-        output.interruptions = writes;
-        assert!(rt; pipe(rt.alloc(), &mut input, &mut output)? == ends);
+        let it = run_pipe(rt.alloc(), &mut input, 100, writes)?;
+        assert!(rt; it.ends == ends);
     }
     Ok(())
+}
+
+/// How a pipe of a line of so many letters ends.
+fn ends_of_letters(alloc: Global, letters: usize) -> Result<(InputEnd, OutputEnd), AllocError> {
+    let text = vec![in alloc; b'a'; letters]?;
+    Ok(run_pipe(alloc, &mut reader_of(text.as_slice()), 100, 0)?.ends)
 }
 
 #[test]
@@ -77,9 +112,7 @@ fn pipe_refuses_long_lines(rt: HostRuntime) -> Result<(), Fail> {
         (321, LineFault::TooLong),
         (1_000_000, LineFault::TooLong),
     ] {
-        let text = vec![in rt.alloc(); b'a'; letters]?;
-        let mut output = writer_of(rt.alloc(), 100);
-        let ends = pipe(rt.alloc(), &mut reader_of(text.as_slice()), &mut output)?;
+        let ends = ends_of_letters(rt.alloc(), letters)?;
         assert!(rt; ends == (InputEnd::BadLine(1, fault), OutputEnd::Whole));
     }
     Ok(())

@@ -1,72 +1,10 @@
 //! Runs over readers and writers in memory, and over such as fail.
 use super::bytes::{Bytes, reader_of, writer_of};
-use sdl_examples::{ECHO, RELAY};
+use super::trial::{ECHO_TRIAL, PLENTY, RELAY_TRIAL, Trial, run};
+use sdl_examples::ECHO;
 use sdl_program::arguments::{Command, Options};
 use sdl_program::program::{FAULTY, REFUSED, WHOLE};
-use sdl_program::running::Settings;
-use sdl_program::systems::{carry_out, run_file};
-use std::alloc::Global;
-use std::test::Fail;
-
-/// What a run wrote and answered.
-#[derive(Drop)]
-struct Ran {
-    status: u8,
-    output: Vec<u8>,
-    errors: Vec<u8>,
-}
-
-/// A run with the ledger and the trace or without, over writers that take so many bytes.
-#[derive(Clone, Copy)]
-struct Trial<'a> {
-    file: &'a str,
-    books: bool,
-    schedule: &'a [u32],
-    output_room: usize,
-    errors_room: usize,
-}
-
-const PLENTY: usize = 10_000;
-
-const ECHO_TRIAL: Trial = Trial {
-    file: ECHO,
-    books: false,
-    schedule: &[],
-    output_room: PLENTY,
-    errors_room: PLENTY,
-};
-
-const RELAY_TRIAL: Trial = Trial {
-    file: RELAY,
-    ..ECHO_TRIAL
-};
-
-fn run(alloc: Global, trial: Trial, input: &mut Bytes) -> Ran {
-    let mut output = writer_of(alloc, trial.output_room);
-    let mut errors = writer_of(alloc, trial.errors_room);
-    let settings = Settings {
-        alloc,
-        options: Options {
-            command: Command::Run,
-            serial: true,
-            ledger: trial.books,
-            trace: trial.books,
-        },
-        schedule: trial.schedule,
-    };
-    let status = carry_out(
-        settings,
-        trial.file.as_bytes(),
-        input,
-        &mut output,
-        &mut errors,
-    );
-    Ran {
-        status,
-        output: output.taken,
-        errors: errors.taken,
-    }
-}
+use sdl_program::systems::run_file;
 
 const PING: &[u8] = b"line ping 7\n";
 
@@ -87,7 +25,7 @@ const WRITE_FAULT: &[u8] = b"output: write fault\n";
 const READ_FAULT: &[u8] = b"input: read fault\n";
 
 #[test]
-fn echo_answers(rt: HostRuntime) -> Result<(), Fail> {
+fn echo_answers(rt: HostRuntime) {
     let mut output = writer_of(rt.alloc(), PLENTY);
     let mut errors = writer_of(rt.alloc(), PLENTY);
     let options = Options {
@@ -108,12 +46,11 @@ fn echo_answers(rt: HostRuntime) -> Result<(), Fail> {
     assert_eq!(rt; status, WHOLE);
     assert_eq!(rt; output.taken.as_slice(), BOOKS);
     assert!(rt; errors.taken.is_empty());
-    Ok(())
 }
 
 /// The order of the lines of two routes is that of the workers' steps.
 #[test]
-fn relay_goes_by_the_schedule(rt: HostRuntime) -> Result<(), Fail> {
+fn relay_goes_by_the_schedule(rt: HostRuntime) {
     let lines = b"left put 1\nright put 2\n".as_slice();
     for (schedule, wanted) in [
         ([].as_slice(), b"sink out 1\nsink out 2\n".as_slice()),
@@ -130,11 +67,10 @@ fn relay_goes_by_the_schedule(rt: HostRuntime) -> Result<(), Fail> {
         assert_eq!(rt; ran.output.as_slice(), wanted);
         assert_eq!(rt; ran.status, WHOLE);
     }
-    Ok(())
 }
 
 #[test]
-fn writes_four_bytes_where_no_more_are_taken(rt: HostRuntime) -> Result<(), Fail> {
+fn writes_four_bytes_where_no_more_are_taken(rt: HostRuntime) {
     for books in [false, true] {
         let trial = Trial {
             books,
@@ -146,12 +82,11 @@ fn writes_four_bytes_where_no_more_are_taken(rt: HostRuntime) -> Result<(), Fail
         assert_eq!(rt; ran.output.as_slice(), b"line".as_slice());
         assert_eq!(rt; ran.errors.as_slice(), WRITE_FAULT);
     }
-    Ok(())
 }
 
 /// Wherever the writer fails, what went out is a front of the whole, and one line says so.
 #[test]
-fn writes_a_front_where_the_writer_fails(rt: HostRuntime) -> Result<(), Fail> {
+fn writes_a_front_where_the_writer_fails(rt: HostRuntime) {
     for count in 0..BOOKS.len() {
         let trial = Trial {
             books: true,
@@ -163,12 +98,11 @@ fn writes_a_front_where_the_writer_fails(rt: HostRuntime) -> Result<(), Fail> {
         assert_eq!(rt; ran.output.as_slice(), &BOOKS[..count]);
         assert_eq!(rt; ran.errors.as_slice(), WRITE_FAULT);
     }
-    Ok(())
 }
 
-/// A line that the reader's fault cut off is not carried out; the books are written after a fault of the reader.
+/// A line that the reader's fault cut off is not carried out.
 #[test]
-fn reads_up_to_the_readers_fault(rt: HostRuntime) -> Result<(), Fail> {
+fn reads_up_to_the_readers_fault(rt: HostRuntime) {
     for count in 0..PING.len() + 1 {
         let mut input = Bytes {
             left: &PING[..count],
@@ -181,6 +115,10 @@ fn reads_up_to_the_readers_fault(rt: HostRuntime) -> Result<(), Fail> {
         assert_eq!(rt; ran.output.as_slice(), wanted, "after {count} bytes");
         assert_eq!(rt; ran.errors.as_slice(), READ_FAULT);
     }
+}
+
+#[test]
+fn writes_the_books_after_a_readers_fault(rt: HostRuntime) {
     let trial = Trial {
         books: true,
         ..ECHO_TRIAL
@@ -192,41 +130,41 @@ fn reads_up_to_the_readers_fault(rt: HostRuntime) -> Result<(), Fail> {
     };
     let ran = run(rt.alloc(), trial, &mut input);
     assert_eq!(rt; ran.output.as_slice(), BOOKS);
-    Ok(())
 }
 
 #[test]
-fn tries_interrupted_reads_again(rt: HostRuntime) -> Result<(), Fail> {
+fn tries_interrupted_reads_again(rt: HostRuntime) {
     for (interruptions, status) in [(1_000, WHOLE), (1_001, FAULTY)] {
         let mut input = reader_of(PING);
         input.interruptions = interruptions;
         assert_eq!(rt; run(rt.alloc(), ECHO_TRIAL, &mut input).status, status);
     }
-    Ok(())
 }
 
-/// A line that standard error does not take is dropped.
+/// Echo, where standard error takes nothing: a line of it is dropped.
+const SILENT: Trial = Trial {
+    errors_room: 0,
+    ..ECHO_TRIAL
+};
+
 #[test]
-fn goes_on_where_standard_error_fails(rt: HostRuntime) -> Result<(), Fail> {
-    let silent = Trial {
-        errors_room: 0,
-        ..ECHO_TRIAL
-    };
-    let ran = run(rt.alloc(), silent, &mut reader_of(b"line ping 7\nline\n"));
+fn goes_on_where_standard_error_fails(rt: HostRuntime) {
+    let ran = run(rt.alloc(), SILENT, &mut reader_of(b"line ping 7\nline\n"));
     assert_eq!(rt; ran.status, FAULTY);
     assert_eq!(rt; ran.output.as_slice(), PONG);
+}
+
+#[test]
+fn answers_a_status_where_standard_error_fails(rt: HostRuntime) {
     let refused = Trial {
         file: "x =",
-        ..silent
+        ..SILENT
     };
-    assert_eq!(rt;
-        run(rt.alloc(), refused, &mut reader_of(PING)).status,
-        REFUSED
-    );
     let full = Trial {
         output_room: 4,
-        ..silent
+        ..SILENT
     };
-    assert_eq!(rt; run(rt.alloc(), full, &mut reader_of(PING)).status, FAULTY);
-    Ok(())
+    for (trial, status) in [(refused, REFUSED), (full, FAULTY)] {
+        assert_eq!(rt; run(rt.alloc(), trial, &mut reader_of(PING)).status, status);
+    }
 }

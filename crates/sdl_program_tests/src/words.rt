@@ -1,82 +1,101 @@
 //! The program's arguments.
 use sdl_program::arguments::{Arguments, Command, Options, read_arguments};
 
+const PLAIN: Options = Options {
+    command: Command::Run,
+    serial: false,
+    ledger: false,
+    trace: false,
+};
+
+const LEDGER: Options = Options {
+    ledger: true,
+    ..PLAIN
+};
+
+const ALL: Options = Options {
+    serial: true,
+    trace: true,
+    ..LEDGER
+};
+
+/// Lists of words that ask for a command on the file that is the last of them.
+const ACCEPTED: [(&[&str], Options); 11] = [
+    (
+        &["check", "f.toml"],
+        Options {
+            command: Command::Check,
+            ..PLAIN
+        },
+    ),
+    (
+        &["check", ""],
+        Options {
+            command: Command::Check,
+            ..PLAIN
+        },
+    ),
+    (
+        &["routes", "f.toml"],
+        Options {
+            command: Command::Routes,
+            ..PLAIN
+        },
+    ),
+    (
+        &["routes", ""],
+        Options {
+            command: Command::Routes,
+            ..PLAIN
+        },
+    ),
+    (&["run", "f.toml"], PLAIN),
+    (&["run", ""], PLAIN),
+    (&["run", "run"], PLAIN),
+    (&["run", "--ledger", "f.toml"], LEDGER),
+    (&["run", "--ledger", "--ledger", "f.toml"], LEDGER),
+    (&["run", "--ledger", "--trace", "--serial", "-"], ALL),
+    (&["run", "--serial", "--ledger", "--trace", "f"], ALL),
+];
+
+/// Wrong arguments.
+const WRONG: [&[&str]; 19] = [
+    &[],
+    &["check"],
+    &["check", "--ledger"],
+    &["check", "f.toml", "f.toml"],
+    &["routes"],
+    &["routes", "--ledger"],
+    &["routes", "f.toml", "f.toml"],
+    &["pipe", "f.toml"],
+    &["--", "pipe"],
+    &["run", "--trace"],
+    &["run", "--fast", "f.toml"],
+    &["run"],
+    &["run", "--serial"],
+    &["run", "f.toml", "--serial"],
+    &["run", "f.toml", "g.toml"],
+    &["run", "--ledger", "f.toml", "--trace", "f.toml"],
+    &["run", "--Ledger", "f.toml"],
+    &["run", "-ledger", "f.toml"],
+    &["run", "--", "f.toml"],
+];
+
 #[test]
 fn arguments_are_read(rt: HostRuntime) {
     assert_eq!(rt; read_arguments(&["pipe"]), Some(Arguments::Pipe));
-    for (word, command) in [("check", Command::Check), ("routes", Command::Routes)] {
-        let options = Options {
-            command,
-            serial: false,
-            ledger: false,
-            trace: false,
-        };
+    for (words, options) in ACCEPTED {
+        let place = words.len().saturating_sub(1);
         assert_eq!(rt;
-            read_arguments(&[word, "f.toml"]),
-            Some(Arguments::File(options, 1))
+            read_arguments(words),
+            Some(Arguments::File(options, place))
         );
-        assert_eq!(rt;
-            read_arguments(&[word, ""]),
-            Some(Arguments::File(options, 1))
-        );
-        assert_eq!(rt; read_arguments(&[word, "--ledger"]), None);
-        assert_eq!(rt; read_arguments(&[word]), None);
-        assert_eq!(rt; read_arguments(&[word, "f.toml", "f.toml"]), None);
     }
-    for words in [["pipe", "f.toml"], ["--", "pipe"], ["run", "--trace"]] {
-        assert_eq!(rt; read_arguments(words.as_slice()), None);
-    }
-    assert_eq!(rt; read_arguments(&["run", "--fast", "f.toml"]), None);
-    assert_eq!(rt; read_arguments(&[]), None);
 }
 
 #[test]
-fn options_come_in_any_order(rt: HostRuntime) {
-    let plain = Options {
-        command: Command::Run,
-        serial: false,
-        ledger: false,
-        trace: false,
-    };
-    let ledger = Options {
-        ledger: true,
-        ..plain
-    };
-    let all = Options {
-        serial: true,
-        trace: true,
-        ..ledger
-    };
-    for (words, options) in [
-        (["run", "f.toml"].as_slice(), plain),
-        (["run", ""].as_slice(), plain),
-        (["run", "run"].as_slice(), plain),
-        (["run", "--ledger", "f.toml"].as_slice(), ledger),
-        (["run", "--ledger", "--ledger", "f.toml"].as_slice(), ledger),
-        (
-            ["run", "--ledger", "--trace", "--serial", "-"].as_slice(),
-            all,
-        ),
-        (
-            ["run", "--serial", "--ledger", "--trace", "f"].as_slice(),
-            all,
-        ),
-    ] {
-        assert_eq!(rt;
-            read_arguments(words),
-            Some(Arguments::File(options, words.len() - 1))
-        );
-    }
-    for words in [
-        ["run"].as_slice(),
-        ["run", "--serial"].as_slice(),
-        ["run", "f.toml", "--serial"].as_slice(),
-        ["run", "f.toml", "g.toml"].as_slice(),
-        ["run", "--ledger", "f.toml", "--trace", "f.toml"].as_slice(),
-        ["run", "--Ledger", "f.toml"].as_slice(),
-        ["run", "-ledger", "f.toml"].as_slice(),
-        ["run", "--", "f.toml"].as_slice(),
-    ] {
+fn wrong_arguments_are_refused(rt: HostRuntime) {
+    for words in WRONG {
         assert_eq!(rt; read_arguments(words), None);
     }
 }

@@ -1,0 +1,75 @@
+//! The lines on standard error: each is handed to its writer in one call.
+use super::bytes::reader_of;
+use super::trial::{ECHO_TRIAL, Trial, run};
+use sdl_examples::ECHO;
+use sdl_program::program::{FAULTY, REFUSED};
+use std::test::Fail;
+
+/// The block's gate lets no signal in.
+const NOT_IN_GATE: &str = "version = 1
+system = 'S'
+signal = [{ name = 's' }]
+gate = [{ name = 'g', inward = ['s'] }]
+channel = [{ name = 'c', ends = ['env.g', 'B.h'], forth = ['s'] }]
+
+[[block]]
+name = 'B'
+gate = [{ name = 'h' }]
+set = [{ name = 'E' }]
+";
+
+const NO_AGENTS: &str = "version = 1
+system = 'S'
+
+[[block]]
+name = 'B'
+set = [{ name = 'E' }]
+";
+
+const RENAMED_SET: &str = "version = 1
+system = 'Echo'
+
+[[block]]
+name = 'B'
+set = [{ name = 'F' }]
+";
+
+const REFUSALS: [(&str, &[u8]); 5] = [
+    ("x =", b"F1 NotToml\n"),
+    ("version = 2", b"F9 OutOfRange system 0 0 0 version\n"),
+    (NOT_IN_GATE, b"C3 NotInGate channel c forth s B.h\n"),
+    (NO_AGENTS, b"no agents for S\n"),
+    (RENAMED_SET, b"B3 WrongName set 0\n"),
+];
+
+#[test]
+fn a_refusal_is_written_in_one_call(rt: HostRuntime) {
+    for (file, text) in REFUSALS {
+        let trial = Trial { file, ..ECHO_TRIAL };
+        let ran = run(rt.alloc(), trial, &mut reader_of(b""));
+        assert_eq!(rt; ran.status, REFUSED);
+        assert_eq!(rt; ran.errors.as_slice(), text);
+        assert_eq!(rt; ran.error_calls, 1);
+    }
+}
+
+const THREE_ENDS: &[u8] = b"input line 3: L6 WrongCount
+output: write fault
+end spent B
+";
+
+#[test]
+fn each_end_is_written_in_one_call(rt: HostRuntime) -> Result<(), Fail> {
+    let file = format!(in rt.alloc(); "budget = 2\n{ECHO}")?;
+    let trial = Trial {
+        file: file.as_str(),
+        output_room: 0,
+        ..ECHO_TRIAL
+    };
+    let lines = b"line ping 7\nline ping 8\nline ping\n".as_slice();
+    let ran = run(rt.alloc(), trial, &mut reader_of(lines));
+    assert_eq!(rt; ran.status, FAULTY);
+    assert_eq!(rt; ran.errors.as_slice(), THREE_ENDS);
+    assert_eq!(rt; ran.error_calls, 3);
+    Ok(())
+}
