@@ -17,7 +17,8 @@ use Rattle.sdl_behaviour.specs.declared.step.Step.{Step}
 use Rattle.sdl_behaviour.specs.declared.offer.Offer.{Offer}
 use Rattle.sdl_behaviour.specs.declared.offer.OfferedOutput.{OfferedOutput}
 use Rattle.sdl_behaviour.specs.declared.offer.SignalSorts.{SignalSorts}
-use Rattle.sdl_behaviour.specs.Offers.{IsFrameOf, Conforms, IsActionOf, IsLegalValue, IsLegalPid, IsLegalDest, IsTriggerOf, AreOfSorts}
+use Rattle.sdl_behaviour.specs.Offers.{IsFrameOf, Conforms, IsActionOf, IsLegalValue, IsLegalPid, IsLegalDest, IsTriggerOf}
+use Rattle.sdl_signal.specs.Sorts.{AreOfSorts}
 use Rattle.sdl_agents.specs.Tables.{LeadsToIdle, Stops, output, output_integer, values_of, forwarded_values, made, killed, replied, answered, born, passed_on, next_token}
 use Rattle.sdl_agents.specs.Offered.{IsMakeOffer, IsKillOffer, Offers, OffersOne, OffersStop, offered}
 

@@ -1,7 +1,7 @@
 //! The offers of transitions that lead to idle, without variables.
 ghost use Rattle.std.specs.Prelude.{◌≡◌, [], ◌∷◌, Some, None};
 ghost use Rattle.sdl_signal.specs.declared.values.Sort.TheVariants as sort;
-ghost use Rattle.sdl_routes.specs.declared.parts.Via.TheVariants as via;
+ghost use Rattle.sdl_routes.specs.declared.route.Via.TheVariants as via;
 ghost use Rattle.sdl_agents.specs.Offered.{IsIdleOffer, Offers, OffersOne, sorted, offered};
 
 use arrayvec::ArrayVec;

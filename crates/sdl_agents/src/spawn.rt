@@ -11,11 +11,11 @@ use crate::behaviours::{Use, behaviour, with_row};
 use crate::offers::{forward_offer, start_offer};
 use crate::runner::Runner;
 use crate::steps::{begin, forward};
-use offers::{answer_offer, birth_offer, die_offer, kill_offer, make_offer};
+use offers::{answer_offer, born_offer, die_offer, kill_offer, make_offer};
 use sdl_behaviour::{Agents, Behaviour, Frame, Kind, Run, Transition};
 use sdl_signal::{SetId, SignalId};
 use std::alloc::{AllocError, Global};
-use steps::{kill, make, reply, stop, tell_answer, tell_birth};
+use steps::{kill, make, reply, stop, tell_answer, tell_born};
 
 pub const MAKE: SignalId = SignalId(0);
 
@@ -101,7 +101,7 @@ pub fn run<R: Runner + Drop>(alloc: Global, sets: u32, runner: R) -> Result<R::A
     let on_query: Run = Box::new(alloc, |frame: &Frame| reply(frame))?;
     let start_kid: Run = Box::new(alloc, |frame: &Frame| begin(frame))?;
     let on_ask: Run = Box::new(alloc, |frame: &Frame| forward(frame, QUERY))?;
-    let on_hello: Run = Box::new(alloc, |frame: &Frame| tell_birth(frame))?;
+    let on_hello: Run = Box::new(alloc, |frame: &Frame| tell_born(frame))?;
     let on_reply: Run = Box::new(alloc, |frame: &Frame| tell_answer(frame))?;
     let on_die: Run = Box::new(alloc, |_frame: &Frame| stop())?;
     let of_boss = OfBoss {
@@ -113,7 +113,7 @@ pub fn run<R: Runner + Drop>(alloc: Global, sets: u32, runner: R) -> Result<R::A
     let of_kid = OfKid {
         start: Transition::store(0, start_offer(sets), start_kid),
         ask: Transition::store(4, forward_offer(sets, ASK, QUERY), on_ask),
-        hello: Transition::store(5, birth_offer(sets), on_hello),
+        hello: Transition::store(5, born_offer(sets), on_hello),
         reply: Transition::store(6, answer_offer(sets), on_reply),
         die: stored_die(sets, on_die),
     };

@@ -19,8 +19,8 @@ use Rattle.sdl_outcome.specs.declared.environment_output.EnvOut.TheVariants as e
 use Rattle.sdl_ledger.specs.declared.ledger.Ledger.{Ledger}
 use Rattle.sdl_outcome.specs.EnvironmentWork.{env_sent}
 use Rattle.sdl_outcome.specs.Plan.{Plan, system_at}
-use Rattle.sdl_outcome.specs.Outcome.{Held, Outcome, AreRunsFrom}
-use Rattle.sdl_ledger.specs.Counts.{IsTraced, IsLimited, IsLedgerOf, Balances, Fits, output_by, no_route_by, no_route_at, entered_in, no_instance_in, gone_in, fired_in, implicit_in, stopped_in, items_held, over_events, all_output, all_no_route, all_entered, all_left, waiting_in, most_outputs}
+use Rattle.sdl_outcome.specs.Outcome.{WorkerHand, Outcome, AreRunsFrom}
+use Rattle.sdl_ledger.specs.Counts.{IsTraced, IsLimited, IsLedgerOf, Balances, CountsFit, output_by, no_route_by, no_route_at, entered_in, no_instance_in, gone_in, fired_in, implicit_in, stopped_in, items_held, over_events, all_output, all_no_route, all_entered, all_left, waiting_in, most_outputs}
 use Rattle.sdl_outcome.proofs.Sums.{sum_both}
 use Rattle.sdl_ledger.proofs.Adding.{sum_map}
 use Rattle.sdl_balance.proofs.Ports.{ports_balance}
@@ -96,9 +96,9 @@ module _ (may : ℕ → Frame → Step → Type 0) (plan : Plan) (o : Outcome) (
       let s2 = lines_sent o.env_put in
       let r = and_one arrived o.logs o.env_received in
       let r1 = three_sums (λ (log : List Event). length (arrived log)) (λ log. sum_by entered_in log) (λ log. sum_by no_instance_in log) (λ log. sum_by gone_in log) o.logs log_arrived in
-      let k = sum_both items_held (λ (x : Held). length (option_to_list x.kept)) (λ x. length x.outgoing) o.hands (λ x. refl) in
-      let k1 = sum_map length (λ (x : Held). option_to_list x.kept) o.hands in
-      let k2 = sum_map length (λ (x : Held). x.outgoing) o.hands in
+      let k = sum_both items_held (λ (x : WorkerHand). length (option_to_list x.kept)) (λ x. length x.outgoing) o.hands (λ x. refl) in
+      let k1 = sum_map length (λ (x : WorkerHand). option_to_list x.kept) o.hands in
+      let k2 = sum_map length (λ (x : WorkerHand). x.outgoing) o.hands in
       omega (arith, lost, s, s1, s2, r, r1, k, k1, k2)
 
 runs_balance : (may : ℕ → Frame → Step → Type 0) (plan : Plan) (n : ℕ) (logs : List (List Event)) (finals : List State) → AreRunsFrom may plan n logs finals
@@ -159,7 +159,7 @@ few_outputs may plan o finals h few =
     let c = h.is_plan.structure.few_blocks in
     omega (arith, a, b, c, few.few_lines)
 
-pub counts_fit : (may : ℕ → Frame → Step → Type 0) (plan : Plan) (o : Outcome) (finals : List State) → IsTraced may plan o finals → IsLimited o → Fits o
+pub counts_fit : (may : ℕ → Frame → Step → Type 0) (plan : Plan) (o : Outcome) (finals : List State) → IsTraced may plan o finals → IsLimited o → CountsFit o
 counts_fit may plan o finals h few =
     let a = few_outputs may plan o finals h few in
     let b = outputs_balance may plan o finals h in

@@ -15,7 +15,7 @@ use Rattle.sdl_behaviour.specs.declared.step.Action.TheVariants as action
 use Rattle.sdl_behaviour.specs.declared.step.Next.{Next}
 use Rattle.sdl_behaviour.specs.declared.step.Next.TheVariants as next_is
 use Rattle.sdl_transition.specs.Rules.{Rule, Rules, rules_for}
-use Rattle.sdl_instances.specs.declared.parts.ProcessSet.{ProcessSet}
+use Rattle.sdl_instances.specs.declared.process_set.ProcessSet.{ProcessSet}
 use Rattle.sdl_instances.specs.declared.event.Cause.TheVariants as cause
 use Rattle.sdl_instances.specs.declared.event.Done.{Done}
 use Rattle.sdl_instances.specs.declared.event.Done.TheVariants as done
@@ -24,7 +24,7 @@ use Rattle.sdl_instances.specs.declared.event.Event.TheVariants as event
 use Rattle.sdl_instances.specs.declared.event.Trigger.{Trigger}
 use Rattle.sdl_instances.specs.declared.event.Trigger.TheVariants as trigger
 use Rattle.sdl_instances.specs.Record.{Record}
-use Rattle.sdl_instances.specs.Machine.{State, System, FitsAt, Becomes, Leaves, Does, DoesAll, Finishes, Transits, Turns, IsBorn, newborn, consumed, next_any}
+use Rattle.sdl_instances.specs.Machine.{State, System, FitsAt, Becomes, Leaves, Does, DoesAll, Finishes, Transits, Turns, IsCreated, created_record, consumed, next_any}
 use Rattle.sdl_instances.specs.Run.{IsRun, Leads, first_instances, initial_of, initial_in, initial_instances, initial, waiting}
 use Rattle.sdl_ledger.specs.Counts.{entered_in, fired_in, implicit_in, stopped_in, fired_by, implicit_by}
 
@@ -48,13 +48,13 @@ same_waits : (old new : State) → new ≡ old → waiting new.living ≡ waitin
 same_waits old new e = ap (λ (s : State). waiting s.living) e
 
 module _ (may : ℕ → Frame → Step → Type 0) (sys : System) where
-  -- an instance is born with an empty port
-  born_waits : (set : SetId) (p q : Pid) (old new : State) → IsBorn sys set p q old new → waiting new.living ≡ waiting old.living
-  born_waits set p q old new b =
+  -- an instance is created with an empty port
+  created_waits : (set : SetId) (p q : Pid) (old new : State) → IsCreated sys set p q old new → waiting new.living ≡ waiting old.living
+  created_waits set p q old new b =
       let f : Pid × Record → ℕ = λ e. length e.1.port in
       let written = ap waiting b.living in
-      let both = sum_by-append f old.living ((q, newborn b.rules.vars p) ∷ []) in
-      let one = sum_by-cons f (q, newborn b.rules.vars p) [] in
+      let both = sum_by-append f old.living ((q, created_record b.rules.vars p) ∷ []) in
+      let one = sum_by-cons f (q, created_record b.rules.vars p) [] in
       omega (arith, written, both, one)
 
   does_waits : (p : Pid) (old : State) (a : Action) (d : Done) (new : State) → Does may (FitsAt sys.routes) sys p old a d new → waiting new.living ≡ waiting old.living
@@ -62,9 +62,9 @@ module _ (may : ℕ → Frame → Step → Type 0) (sys : System) where
   does_waits p old (action.Output signal to via) (done.NoRoute origin id) new (set, own, r, lives, none, named, same) = same_waits old new same
   does_waits p old (action.Create set) (done.Made pid.Null) new (full, (r, became)) =
       let b = becomes_waits p r (record r { offspring = pid.Null }) old new became in omega (arith, b)
-  does_waits p old (action.Create set) (done.Made (pid.Inst own serial)) new (r, mid, born, became) =
+  does_waits p old (action.Create set) (done.Made (pid.Inst own serial)) new (r, mid, creation, became) =
       let b = becomes_waits p r (record r { offspring = pid.Inst own serial }) mid new became in
-      let c = born_waits set p (pid.Inst own serial) old mid born in
+      let c = created_waits set p (pid.Inst own serial) old mid creation in
       omega (arith, b, c)
   does_waits p old (action.Create set) (done.Made pid.Env) new did = absurd did
   does_waits p old (action.Output signal to via) (done.Made q) new did = absurd did
@@ -141,8 +141,8 @@ none_of_both xs ys a b = let c = sum_by-append (λ (e : Pid × Record). length e
 first_waits : (set : SetId) (vars : List Value) (n : ℕ) → waiting (first_instances set vars n) ≡ 0
 first_waits set vars zero = refl
 first_waits set vars (suc n) =
-    let one = sum_by-cons (λ (e : Pid × Record). length e.1.port) (pid.Inst set (suc n), newborn vars pid.Null) [] in
-    none_of_both (first_instances set vars n) ((pid.Inst set (suc n), newborn vars pid.Null) ∷ []) (first_waits set vars n) (omega (arith, one))
+    let one = sum_by-cons (λ (e : Pid × Record). length e.1.port) (pid.Inst set (suc n), created_record vars pid.Null) [] in
+    none_of_both (first_instances set vars n) ((pid.Inst set (suc n), created_record vars pid.Null) ∷ []) (first_waits set vars n) (omega (arith, one))
 
 of_rules_waits : (block : BlockId) (n : ℕ) (d : ProcessSet) (o : Option Rules)
     → waiting (elim o as (λ _. List (Pid × Record)) [ None ↦ [] | Some r ↦ first_instances (record { 0 = n }) r.vars (initial_in block d) ]) ≡ 0

@@ -4,11 +4,11 @@ use Rattle.std.specs.List.{AllByRecursion}
 use Rattle.std.proofs.lemmas.Bool.{cond_both, cond-true, cond-false, cases_Bool}
 use Rattle.std.proofs.lemmas.List.Sums.{sum_by-cons}
 use Rattle.sdl_signal.specs.declared.values.Item.{Item}
-use Rattle.sdl_routes.specs.declared.parts.Hop.{Hop}
-use Rattle.sdl_routes.specs.declared.parts.Station.{Station}
-use Rattle.sdl_routes.specs.declared.parts.Station.TheVariants.{Line, Inlet, Outlet}
+use Rattle.sdl_routes.specs.declared.route.Hop.{Hop}
+use Rattle.sdl_routes.specs.declared.route.Station.{Station}
+use Rattle.sdl_routes.specs.declared.route.Station.TheVariants.{Line, Inlet, Outlet}
 use Rattle.sdl_routes.specs.Routes.{EachOnce}
-use Rattle.sdl_forward.specs.Boards.{same_station, stations_of, waiting, StandsBefore, AreInOrder}
+use Rattle.sdl_forward.specs.Boards.{same_station, stations_of, waiting, IsStationBefore, AreStationsInOrder}
 use Rattle.sdl_outcome.specs.declared.worker.Worker.{Worker}
 use Rattle.sdl_outcome.specs.declared.worker.Worker.TheVariants.{Block, Environment, Forwarder}
 use Rattle.sdl_outcome.specs.Stations.{Among, Once, place, taker, same_worker}
@@ -72,15 +72,15 @@ over_stations (r ∷ rests) once =
     let e = sum_by-cons (λ (x : Station × List Item). length x.1) r rests in
     omega (arith, a, b, c, d, e)
 
-not_before : (s : Station) → StandsBefore s s → ⊥
+not_before : (s : Station) → IsStationBefore s s → ⊥
 not_before (Line h) b = omega (arith, b)
 not_before (Inlet b) c = omega (arith, c)
 not_before Outlet b = b
 
-pub order_once : (ss : List Station) → AreInOrder ss → EachOnce ss
+pub order_once : (ss : List Station) → AreStationsInOrder ss → EachOnce ss
 order_once [] h = tt
 order_once (s ∷ ss) h = (
-  all_weaker (StandsBefore s) (λ t. s ≢ t) (λ t b e. not_before s (subst (StandsBefore s) (sym e) b)) ss h.0,
+  all_weaker (IsStationBefore s) (λ t. s ≢ t) (λ t b e. not_before s (subst (IsStationBefore s) (sym e) b)) ss h.0,
   order_once ss h.1,
 )
 

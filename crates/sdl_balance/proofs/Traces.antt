@@ -12,13 +12,13 @@ use Rattle.sdl_signal.specs.declared.ids.SetId.{SetId}
 use Rattle.sdl_signal.specs.declared.values.Item.{Item}
 use Rattle.sdl_parts.specs.Structure.{Structure, set_at}
 use Rattle.sdl_parts.specs.declared.parts.Set.{Set}
-use Rattle.sdl_routes.specs.declared.parts.Hop.{Hop}
-use Rattle.sdl_routes.specs.declared.parts.Row.{Row}
-use Rattle.sdl_routes.specs.declared.parts.Station.{Station}
+use Rattle.sdl_routes.specs.declared.route.Hop.{Hop}
+use Rattle.sdl_routes.specs.declared.route.TableRow.{TableRow}
+use Rattle.sdl_routes.specs.declared.route.Station.{Station}
 use Rattle.sdl_routes.specs.Routes.{EachOnce}
 use Rattle.sdl_behaviour.specs.declared.step.Frame.{Frame}
 use Rattle.sdl_behaviour.specs.declared.step.Step.{Step}
-use Rattle.sdl_instances.specs.declared.parts.ProcessSet.{ProcessSet}
+use Rattle.sdl_instances.specs.declared.process_set.ProcessSet.{ProcessSet}
 use Rattle.sdl_instances.specs.declared.event.Event.{Event}
 use Rattle.sdl_instances.specs.Machine.{State}
 use Rattle.sdl_instances.specs.Run.{Leads as LeadsTo, IsRun, done_in, sent_by, sent, arrived, all_done, initial}
@@ -31,11 +31,11 @@ use Rattle.sdl_outcome.specs.EnvironmentWork.{ComesIn, env_sent}
 use Rattle.sdl_outcome.specs.Stations.{Ways, IsAgent, Leads, Among, Once, place, taker, same_worker}
 use Rattle.sdl_outcome.specs.Books.{Books, of_route, standing, left}
 use Rattle.sdl_outcome.specs.Plan.{Plan, blocks_in, blocks_from, lines_of, workers_of, ways_of, system_at, starter, worker_of_set}
-use Rattle.sdl_outcome.specs.Outcome.{Held, Outcome, AreRunsFrom, of_worker, books_of}
+use Rattle.sdl_outcome.specs.Outcome.{WorkerHand, Outcome, AreRunsFrom, of_worker, books_of}
 use Rattle.sdl_ledger.specs.Counts.{IsTraced}
 use Rattle.sdl_outcome.proofs.Lists.{all_front, all_end, all_append, all_weaker, all_every, all_both}
 use Rattle.sdl_outcome.proofs.Comparisons.{same_station_is, same_station_itself, same_worker_is, same_worker_itself}
-use Rattle.sdl_outcome.proofs.Way.{place_taker}
+use Rattle.sdl_outcome.proofs.AlongStations.{place_taker}
 use Rattle.sdl_outcome.proofs.Along.{no_other}
 use Rattle.sdl_outcome.proofs.Ways.{ways_are, leads_within, row_of}
 use Rattle.sdl_outcome.proofs.Workers.{count_blocks}
@@ -79,7 +79,7 @@ module _ (may : ℕ → Frame → Step → Type 0) (plan : Plan) (o : Outcome) (
   boards = stations_of o.rests
 
   -- the numbers of routes
-  row_less : (r : ℕ) (row : Row) → slice_get plan.routes r ≡ Some row → r < many
+  row_less : (r : ℕ) (row : TableRow) → slice_get plan.routes r ≡ Some row → r < many
   row_less r row at = slice_get_within plan.routes r row at
 
   leads_less : (r : ℕ) → Leads t r → r < many
@@ -89,7 +89,7 @@ module _ (may : ℕ → Frame → Step → Type 0) (plan : Plan) (o : Outcome) (
   block_less r n e = elim (slice_get_cases plan.routes r).1 [
     | inl row ↦ row_less r row.0 row.2
     | inr none ↦ (
-        let at : t.start r ≡ Environment = ap (λ (x : Option Row). elim x as (λ _. Worker) [ None ↦ Environment | Some row ↦ starter plan.structure row.source ]) none.1 in
+        let at : t.start r ≡ Environment = ap (λ (x : Option TableRow). elim x as (λ _. Worker) [ None ↦ Environment | Some row ↦ starter plan.structure row.source ]) none.1 in
         absurd (env_block n (sym at ∙ e)))
   ]
     where
@@ -102,7 +102,7 @@ module _ (may : ℕ → Frame → Step → Type 0) (plan : Plan) (o : Outcome) (
 
   from_starts : (n : BlockId) (i : Item) → IsFromBlock (sets_of plan.structure) plan.routes n i → StartsAt (Block n) i
   from_starts n i (set, serial, d, row, sender, found, here, at, from) = (
-    ap (λ (x : Option Row). elim x as (λ _. Worker) [ None ↦ Environment | Some y ↦ starter plan.structure y.source ]) at
+    ap (λ (x : Option TableRow). elim x as (λ _. Worker) [ None ↦ Environment | Some y ↦ starter plan.structure y.source ]) at
         ∙ (ap (starter plan.structure) from
         ∙ (set_worker plan.structure set d (set_at plan.structure set) refl (sym (slice_get-map numbers_of plan.structure.sets set.0) ∙ found) ∙ ap Block here)),
     row_less i.route.0 row at,
@@ -138,7 +138,7 @@ module _ (may : ℕ → Frame → Step → Type 0) (plan : Plan) (o : Outcome) (
 
   comes_starts : (i : Item) → ComesIn plan.routes i → StartsAt Environment i
   comes_starts i (row, gate, at, from) = (
-    ap (λ (x : Option Row). elim x as (λ _. Worker) [ None ↦ Environment | Some y ↦ starter plan.structure y.source ]) at ∙ ap (starter plan.structure) from,
+    ap (λ (x : Option TableRow). elim x as (λ _. Worker) [ None ↦ Environment | Some y ↦ starter plan.structure y.source ]) at ∙ ap (starter plan.structure) from,
     row_less i.route.0 row at,
   )
 
@@ -232,7 +232,7 @@ module _ (may : ℕ → Frame → Step → Type 0) (plan : Plan) (o : Outcome) (
       let f = λ (s : Station). number r (b.kept (taker s)) in
       let a = sum_over same_station same_station_is same_station_itself f (map place everyone) (t.stations r) (places_once everyone (workers_once plan)) (once_each (t.stations r) (stations_once r leads))
       (λ s m away. not_through r s (b.kept (taker s)) (kept_at s) away)
-      (λ s m away. ap (number r) (no_worker (taker s) everyone (map (λ (x : Held). option_to_list x.kept) o.hands) (λ k. away (among_places s everyone k)))) in
+      (λ s m away. ap (number r) (no_worker (taker s) everyone (map (λ (x : WorkerHand). option_to_list x.kept) o.hands) (λ k. away (among_places s everyone k)))) in
       let c = sum_map f place everyone in
       let d = sum_same (λ w. f (place w)) (λ w. number r (b.kept w)) everyone (λ w m. ap (λ (v : Worker). number r (b.kept v)) (place_taker w)) in
       omega (arith, a, c, d)
@@ -267,13 +267,13 @@ module _ (may : ℕ → Frame → Step → Type 0) (plan : Plan) (o : Outcome) (
       omega (arith, a, a1, a2, a3, a4, a5, a6, a7)
 
   -- what is kept, and what rests, over all routes
-  all_kept : sum_by kept_on (below many) ≡ sum_by length (map (λ (x : Held). option_to_list x.kept) o.hands)
+  all_kept : sum_by kept_on (below many) ≡ sum_by length (map (λ (x : WorkerHand). option_to_list x.kept) o.hands)
   all_kept =
       let c = sum_swap (λ r w. number r (b.kept w)) (below many) everyone in
       let d = sum_same (λ w. sum_by (λ r. number r (b.kept w)) (below many)) (λ w. length (b.kept w)) everyone
       (λ w m. number_all many (b.kept w) (all_weaker (Passes (place w)) (λ (i : Item). i.route.0 < many) (passes_less (place w)) (b.kept w) (subst (λ (v : Worker). AllByRecursion (Passes (place w)) (b.kept v)) (place_taker w) (kept_at (place w))))) in
-      let e = over_workers everyone (map (λ (x : Held). option_to_list x.kept) o.hands) (workers_once plan)
-      (let f = length-map o.hands (λ (x : Held). option_to_list x.kept) in let g = h.complete.hands in omega (arith, f, g)) in
+      let e = over_workers everyone (map (λ (x : WorkerHand). option_to_list x.kept) o.hands) (workers_once plan)
+      (let f = length-map o.hands (λ (x : WorkerHand). option_to_list x.kept) in let g = h.complete.hands in omega (arith, f, g)) in
       omega (arith, c, d, e)
 
   all_rest : sum_by rest_on (below many) ≡ sum_by (λ (r : Station × List Item). length r.1) o.rests
@@ -295,8 +295,8 @@ module _ (may : ℕ → Frame → Step → Type 0) (plan : Plan) (o : Outcome) (
 
   -- all that was sent is what arrived, what is yet to be put, what is kept and what rests
   pub nothing_lost : sum_by length (map sent o.logs ++ env_sent o.env_put ∷ [])
-      ≡ (sum_by length (map arrived o.logs ++ o.env_received ∷ []) + sum_by length (map (λ (x : Held). x.outgoing) o.hands))
-      + (sum_by length (map (λ (x : Held). option_to_list x.kept) o.hands) + sum_by (λ (r : Station × List Item). length r.1) o.rests)
+      ≡ (sum_by length (map arrived o.logs ++ o.env_received ∷ []) + sum_by length (map (λ (x : WorkerHand). x.outgoing) o.hands))
+      + (sum_by length (map (λ (x : WorkerHand). option_to_list x.kept) o.hands) + sum_by (λ (r : Station × List Item). length r.1) o.rests)
   nothing_lost =
       let routes = below many in
       let a = sum_same (λ r. number r (b.sent (t.start r))) (λ r. (number r (b.arrived (t.finish r)) + number r (b.outgoing (t.start r))) + (kept_on r + rest_on r)) routes (λ r m. on_route r (below_less many r m)) in
@@ -305,8 +305,8 @@ module _ (may : ℕ → Frame → Step → Type 0) (plan : Plan) (o : Outcome) (
       let e = sum_both (λ r. kept_on r + rest_on r) kept_on rest_on routes (λ r. refl) in
       let s = all_routes t.start (map sent o.logs ++ env_sent o.env_put ∷ []) (few_logs sent (env_sent o.env_put)) sent_all in
       let i = all_routes t.finish (map arrived o.logs ++ o.env_received ∷ []) (few_logs arrived o.env_received) arrived_all in
-      let g = all_routes t.start (map (λ (x : Held). x.outgoing) o.hands)
-      (let f = length-map o.hands (λ (x : Held). x.outgoing) in let n = h.complete.hands in omega (arith, f, n)) outgoing_all in
+      let g = all_routes t.start (map (λ (x : WorkerHand). x.outgoing) o.hands)
+      (let f = length-map o.hands (λ (x : WorkerHand). x.outgoing) in let n = h.complete.hands in omega (arith, f, n)) outgoing_all in
       let k = all_kept in
       let q = all_rest in
       omega (arith, a, c, d, e, s, i, g, k, q)

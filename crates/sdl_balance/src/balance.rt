@@ -8,7 +8,7 @@ ghost use Rattle.sdl_ledger.specs.declared.ledger.Ledger.{Ledger};
 ghost use Rattle.sdl_outcome.specs.Plan.{Plan};
 ghost use Rattle.sdl_outcome.specs.Outcome.{Outcome};
 ghost use Rattle.sdl_outcome.specs.Ring.{leaves, tok, no_one};
-ghost use Rattle.sdl_ledger.specs.Counts.{IsTraced, IsLimited, IsLedgerOf, Balances, Fits, waiting_in, most_outputs, entered_in, fired_in, implicit_in, stopped_in};
+ghost use Rattle.sdl_ledger.specs.Counts.{IsTraced, IsLimited, IsLedgerOf, Balances, CountsFit, waiting_in, most_outputs, entered_in, fired_in, implicit_in, stopped_in};
 
 use sdl_transition::Agents;
 
@@ -26,7 +26,7 @@ pub fn balances<S: Agents>()
 
 /// The counts of a run that kept to its limits are small.
 pub fn fits<S: Agents>()
-    ensures { (plan : Plan) (o : Outcome) (finals : List State) → IsTraced S.may plan o finals → IsLimited o → Fits o }
+    ensures { (plan : Plan) (o : Outcome) (finals : List State) → IsTraced S.may plan o finals → IsLimited o → CountsFit o }
 {}
 
 /// Few signals wait in the ports of a run that kept to its limits.

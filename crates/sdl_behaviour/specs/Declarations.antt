@@ -15,7 +15,7 @@ pub record DeclaredRow : Type 0 where
   pub offer : Offer
 
 -- the number of its states stands for their names
-pub record Declared : Type 0 where
+pub record DeclaredBehaviour : Type 0 where
   pub set : SetId
   pub uses : List Named
   pub vars : List Value
@@ -26,8 +26,8 @@ pub record Declared : Type 0 where
 abbrev pub declared_row : {S I : Type 0} {F : I → Type 0} {g : _} → Row S I F g → DeclaredRow
 declared_row r = record { state = r.state; signal = r.signal; offer = r.transition.offer }
 
-abbrev pub declared : {S I : Type 0} {F : I → Type 0} {g : _} → Behaviour S I F g → Declared
-declared b = record {
+abbrev pub declared_behaviour : {S I : Type 0} {F : I → Type 0} {g : _} → Behaviour S I F g → DeclaredBehaviour
+declared_behaviour b = record {
   set = b.set;
   uses = b.uses.items;
   vars = b.vars.items;
@@ -47,5 +47,5 @@ HasTwo R [] = ⊥
 HasTwo R (x ∷ xs) = HasOne (R x) xs ⊎ HasTwo R xs
 
 -- it is so of the start's offer, or of the offer of a row
-unfoldable pub SomeOffer : (Offer → Type 0) → Declared → Type 0
+unfoldable pub SomeOffer : (Offer → Type 0) → DeclaredBehaviour → Type 0
 SomeOffer P b = P b.start ⊎ HasOne (λ row. P row.offer) b.rows

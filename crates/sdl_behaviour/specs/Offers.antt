@@ -2,16 +2,16 @@
 use Rattle.std.specs.Prelude.{◌≡◌, ℕ, ◌<◌, ◌≤◌, List, length, IsTrue, All, Contains, map, Option, Some, None}
 use Rattle.std.specs.List.{HoldsAt}
 use Rattle.sdl_signal.specs.declared.values.Sort.{Sort}
-use Rattle.sdl_signal.specs.declared.values.Sort.TheVariants as sort
 use Rattle.sdl_signal.specs.declared.values.Pid.{Pid}
 use Rattle.sdl_signal.specs.declared.values.Pid.TheVariants.{Null, Env, Inst}
 use Rattle.sdl_signal.specs.declared.values.Value.{Value}
 use Rattle.sdl_signal.specs.declared.values.Value.TheVariants as value
 use Rattle.sdl_signal.specs.declared.values.Signal.{Signal}
+use Rattle.sdl_signal.specs.Sorts.{sort_of, AreOfSorts}
 use Rattle.sdl_behaviour.specs.declared.step.Frame.{Frame}
 use Rattle.sdl_behaviour.specs.declared.step.Dest.{Dest}
 use Rattle.sdl_behaviour.specs.declared.step.Dest.TheVariants as dest
-use Rattle.sdl_routes.specs.declared.parts.Via.{Via}
+use Rattle.sdl_routes.specs.declared.route.Via.{Via}
 use Rattle.sdl_behaviour.specs.declared.step.Action.{Action}
 use Rattle.sdl_behaviour.specs.declared.step.Action.TheVariants.{Output, Create}
 use Rattle.sdl_behaviour.specs.declared.step.Next.{Next}
@@ -20,15 +20,6 @@ use Rattle.sdl_behaviour.specs.declared.step.Step.{Step}
 use Rattle.sdl_behaviour.specs.declared.offer.SignalSorts.{SignalSorts}
 use Rattle.sdl_behaviour.specs.declared.offer.OfferedOutput.{OfferedOutput}
 use Rattle.sdl_behaviour.specs.declared.offer.Offer.{Offer}
-
-abbrev pub sort_of : Value → Sort
-sort_of (value.Integer _) = sort.Integer
-sort_of (value.Boolean _) = sort.Boolean
-sort_of (value.Pid _) = sort.Pid
-
--- the values are of these sorts, one by one
-abbrev pub AreOfSorts : List Value → List Sort → Type 0
-AreOfSorts values sorts = map sort_of values ≡ sorts
 
 -- an instance's set is among the first `sets`, and its serial number is at least 1
 abbrev pub IsLegalPid : ℕ → Pid → Type 0

@@ -2,9 +2,9 @@
 use Rattle.std.proofs.Common.{◌≡◌, ℕ, List, [], ◌∷◌, ◌++◌, All, sym, ◌∙◌, subst, arith}
 use Rattle.std.proofs.lemmas.List.Elements.{All-append, All-tail}
 use Rattle.sdl_signal.specs.declared.values.Item.{Item}
-use Rattle.sdl_routes.specs.declared.parts.Row.{Row}
-use Rattle.sdl_routes.specs.declared.parts.Station.{Station}
-use Rattle.sdl_routes.specs.declared.parts.Station.TheVariants as station
+use Rattle.sdl_routes.specs.declared.route.TableRow.{TableRow}
+use Rattle.sdl_routes.specs.declared.route.Station.{Station}
+use Rattle.sdl_routes.specs.declared.route.Station.TheVariants as station
 use Rattle.sdl_behaviour.specs.declared.step.Frame.{Frame}
 use Rattle.sdl_behaviour.specs.declared.step.Step.{Step}
 use Rattle.sdl_transition.specs.Rules.{Rules}
@@ -41,8 +41,8 @@ module _ (may : ℕ → Frame → Step → Type 0) (sys : System) (old : Working
         let all = subst (All (IsLegalIn sys)) (sym w.went) (All-append (IsLegalIn sys) old.outgoing (sent w.events) legal w.legal) in
         subst (λ (s : System). All (IsLegalIn s) new.outgoing) (sym same) (all_behind (IsLegalIn sys) w.put new.outgoing all)
 
-  pub system_again : (answer : Stepped) → StepsAs may sys old before answer new after → IsSound may sys old.core → (rows : List Row) (rules more : List Rules) → sys ≡ system_of old.core rows rules → more ≡ rules → system_of new.core rows more ≡ sys
+  pub system_again : (answer : Stepped) → StepsAs may sys old before answer new after → IsSound may sys old.core → (rows : List TableRow) (rules more : List Rules) → sys ≡ system_of old.core rows rules → more ≡ rules → system_of new.core rows more ≡ sys
   system_again answer steps sound rows rules more is same = same_system old.core new.core rows rules more (works_so answer steps sound).rest same ∙ sym is
 
-  pub board_again : (answer : Stepped) → StepsAs may sys old before answer new after → IsSound may sys old.core → (rows : List Row) → IsBoardOf rows before → IsBoardOf rows after
+  pub board_again : (answer : Stepped) → StepsAs may sys old before answer new after → IsSound may sys old.core → (rows : List TableRow) → IsBoardOf rows before → IsBoardOf rows after
   board_again answer steps sound rows h = subst (AreAllStations rows) (sym (works_so answer steps sound).stations) h

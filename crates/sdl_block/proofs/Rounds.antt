@@ -4,9 +4,9 @@ use Rattle.std.specs.Result.{IsErr}
 use Rattle.std.proofs.Math.Seq.{drop-append_seam}
 use Rattle.sdl_signal.specs.declared.values.Pid.{Pid}
 use Rattle.sdl_signal.specs.declared.values.Item.{Item}
-use Rattle.sdl_routes.specs.declared.parts.Row.{Row}
-use Rattle.sdl_routes.specs.declared.parts.Station.{Station}
-use Rattle.sdl_routes.specs.declared.parts.Station.TheVariants as station
+use Rattle.sdl_routes.specs.declared.route.TableRow.{TableRow}
+use Rattle.sdl_routes.specs.declared.route.Station.{Station}
+use Rattle.sdl_routes.specs.declared.route.Station.TheVariants as station
 use Rattle.sdl_behaviour.specs.declared.step.Frame.{Frame}
 use Rattle.sdl_behaviour.specs.declared.step.Step.{Step}
 use Rattle.sdl_instances.specs.declared.event.Event.{Event}
@@ -22,7 +22,7 @@ use Rattle.sdl_hand.specs.declared.hand.Stepped.TheVariants as stepped
 use Rattle.sdl_hand.specs.declared.hand.Refused.{Refused}
 use Rattle.sdl_hand.specs.Work.{Working, beginning_at}
 use Rattle.sdl_hand.specs.Puts.{PutsOut, answer_of}
-use Rattle.sdl_block.specs.Phases.{IsSpent, TakesFrom, LetsIn, Turns}
+use Rattle.sdl_block.specs.Phases.{IsSpent, TakesFrom, LetsIn, TriesTurn}
 use Rattle.sdl_block.specs.Rounds.{new_events, arrivals, turns_made, NoneComes, IsOneRound}
 use Rattle.sdl_block.proofs.Parts.{arrived-append, turns-append}
 use Rattle.sdl_block.proofs.Going.{arrived_one, arrived_none}
@@ -93,14 +93,14 @@ filled None = false
 some_not_none : {X : Type 0} (o : Option X) (x : X) → o ≡ Some x → o ≡ None → ⊥
 some_not_none o x some none = true≢false (ap filled (sym some ∙ none))
 
-grows_put : (rows : List Row) (s : Station) (items : List Item) (before : List (Station × List Item)) (result : Result Bool Refused) (rest : List Item) (after : List (Station × List Item))
+grows_put : (rows : List TableRow) (s : Station) (items : List Item) (before : List (Station × List Item)) (result : Result Bool Refused) (rest : List Item) (after : List (Station × List Item))
     → PutsOut rows items before result rest after → Grows s before after
 grows_put rows s items before (Ok true) rest after (puts, some, none) = (beginning_at rows s items, puts.each s)
 grows_put rows s items before (Ok false) rest after (was, none, same) = grows_same s before after same
 grows_put rows s items before (Err r) rest after (put, same, puts) = (beginning_at rows s put, puts.each s)
 
 -- what waits at a station once all is put
-put_all : (rows : List Row) (s : Station) (items : List Item) (before : List (Station × List Item)) (p : Bool) (rest : List Item) (after : List (Station × List Item))
+put_all : (rows : List TableRow) (s : Station) (items : List Item) (before : List (Station × List Item)) (p : Bool) (rest : List Item) (after : List (Station × List Item))
     → PutsOut rows items before (Ok p) rest after → waiting before s ++ beginning_at rows s items ≡ waiting after s
 put_all rows s items before true rest after (puts, some, none) = sym (puts.each s)
 put_all rows s items before false rest after (was, none, same) =
@@ -127,7 +127,7 @@ module _ (may : ℕ → Frame → Step → Type 0) (sys : System) where
   refused_adds old before r new after (inl (used, same, board)) = adds_same old.core new.core (ap (λ (w : Working). w.core) same)
   refused_adds old before r new after (inr (unspent, (i, takes, same))) = adds_same old.core new.core (ap (λ (w : Working). w.core) same)
 
-  turn_adds : (old : Working) (t : Bool) (new : Working) → Turns may sys old (Ok t) new → Adds old.core new.core 0 (once t)
+  turn_adds : (old : Working) (t : Bool) (new : Working) → TriesTurn may sys old (Ok t) new → Adds old.core new.core 0 (once t)
   turn_adds old true new made =
       record {
         events = made.event ∷ [];
@@ -138,7 +138,7 @@ module _ (may : ℕ → Frame → Step → Type 0) (sys : System) where
   turn_adds old false new (same, work) = adds_same old.core new.core (ap (λ (w : Working). w.core) same)
 
   -- a turn is left out only where none can be made
-  turn_left : (old : Working) (t : Bool) (new : Working) → Turns may sys old (Ok t) new → (t ≡ true) ⊎ (IsSpent new.core ⊎ ((p : Pid) → IsReady p new.core.state → ⊥))
+  turn_left : (old : Working) (t : Bool) (new : Working) → TriesTurn may sys old (Ok t) new → (t ≡ true) ⊎ (IsSpent new.core ⊎ ((p : Pid) → IsReady p new.core.state → ⊥))
   turn_left old true new made = inl refl
   turn_left old false new (same, work) = inr (subst (λ (w : Working). IsSpent w.core ⊎ ((p : Pid) → IsReady p w.core.state → ⊥)) (sym same) work)
 
@@ -167,7 +167,7 @@ adds_so : (old new : Core) (m n k l : ℕ) → m ≡ k → n ≡ l → Adds old 
 adds_so old new m n k l p q a = record { events = a.events; log = a.log; items_are = a.items_are ∙ p; made_are = a.made_are ∙ q }
 
 -- a round that was refused
-refused_round : (rows : List Row) (old : Working) (before : List (Station × List Item)) (result : Result Bool Refused) (new : Working) (after : List (Station × List Item)) (m n : ℕ)
+refused_round : (rows : List TableRow) (old : Working) (before : List (Station × List Item)) (result : Result Bool Refused) (new : Working) (after : List (Station × List Item)) (m n : ℕ)
     → IsErr result → Adds old.core new.core m n → m ≤ 1 → n ≤ 1 → ((i : Item) → old.kept ≡ Some i → Grows (station.Inlet old.core.block) before after) → IsOneRound rows old before (answer_of result) new after
 refused_round rows old before result new after m n err adds few_m few_n grows =
     record {
@@ -214,7 +214,7 @@ module _ (may : ℕ → Frame → Step → Type 0) (sys : System) (old : Working
           (adds_then old.core arrived.core new.core (once a) 0 0 0 first_adds (adds_same arrived.core new.core (ap (λ (w : Working). w.core) same))))
           (few a) (omega arith) (grows_lets (Ok a) arrived taken lets)
 
-      module _ (others : System) (t : Bool) (turned : Working) (makes : Turns may others arrived (Ok t) turned) where
+      module _ (others : System) (t : Bool) (turned : Working) (makes : TriesTurn may others arrived (Ok t) turned) where
         both_add : Adds old.core turned.core (once a) (once t)
         both_add =
             adds_so old.core turned.core (once a + 0) (0 + once t) (once a) (once t) (and_none a) (none_and t)

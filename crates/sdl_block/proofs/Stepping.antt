@@ -5,8 +5,8 @@ use Rattle.std.specs.Result.{IsErr}
 use Rattle.std.proofs.lemmas.List.Elements.{All-nil}
 use Rattle.sdl_signal.specs.declared.values.Pid.{Pid}
 use Rattle.sdl_signal.specs.declared.values.Item.{Item}
-use Rattle.sdl_routes.specs.declared.parts.Station.{Station}
-use Rattle.sdl_routes.specs.declared.parts.Station.TheVariants as station
+use Rattle.sdl_routes.specs.declared.route.Station.{Station}
+use Rattle.sdl_routes.specs.declared.route.Station.TheVariants as station
 use Rattle.sdl_behaviour.specs.declared.step.Frame.{Frame}
 use Rattle.sdl_behaviour.specs.declared.step.Step.{Step}
 use Rattle.sdl_instances.specs.Machine.{System}
@@ -16,7 +16,7 @@ use Rattle.sdl_instances.specs.Calls.{KeepsRest}
 use Rattle.sdl_forward.specs.Boards.{waiting, IsBoardOf, AreAllStations}
 use Rattle.sdl_hand.specs.declared.hand.Refused.{Refused}
 use Rattle.sdl_hand.specs.Work.{Working, IsAtRest}
-use Rattle.sdl_block.specs.Phases.{IsSpent, LetsIn, Turns, StepsTo, PutsFirst, IsEmptyAfter}
+use Rattle.sdl_block.specs.Phases.{IsSpent, LetsIn, TriesTurn, StepsTo, PutsFirst, IsEmptyAfter}
 use Rattle.sdl_hand.specs.Puts.{Puts, PutsOut, answer_of}
 use Rattle.sdl_block.proofs.Parts.{Part, no_part, works, keeps-same}
 use Rattle.sdl_hand.proofs.Fronts.{put_none}
@@ -121,7 +121,7 @@ module _ (may : ℕ → Frame → Step → Type 0) (sys : System) where
         (ap (λ (c : Core). c.log) core ∙ sym (append-nil old.core.log)) (subst (λ (c : Core). IsSound may sys c) (sym core) sound) (subst (λ (c : Core). KeepsRest old.core c) (sym core) (keeps-same old.core)) in
         record { put = []; taken = taken; events = []; part = part; few = few; spent = λ used. core }
 
-    pub turn_phase : (t : Bool) (old : Working) (before : List (Station × List Item)) (new : Working) → Turns may sys old (Ok t) new → old.outgoing ≡ [] → IsSound may sys old.core → Phase 0 t old before new before
+    pub turn_phase : (t : Bool) (old : Working) (before : List (Station × List Item)) (new : Working) → TriesTurn may sys old (Ok t) new → old.outgoing ≡ [] → IsSound may sys old.core → Phase 0 t old before new before
     turn_phase true old before new made none sound =
         record {
           going = record { put = []; taken = []; events = made.event ∷ []; part = turn_part may sys inlet old before new made none; few = omega arith; spent = λ used. absurd (made.within used) };
@@ -133,12 +133,12 @@ module _ (may : ℕ → Frame → Step → Type 0) (sys : System) where
           says = record { some = λ said. absurd (true≢false (sym said)); none = λ said. (same, refl) };
         }
 
-  pub legal_after : (t : Bool) (old new : Working) → Turns may sys old (Ok t) new → old.outgoing ≡ [] → All (IsLegalIn sys) new.outgoing
+  pub legal_after : (t : Bool) (old new : Working) → TriesTurn may sys old (Ok t) new → old.outgoing ≡ [] → All (IsLegalIn sys) new.outgoing
   legal_after true old new made none = made.legal
   legal_after false old new (same, work) none = subst (All (IsLegalIn sys)) (sym (ap (λ (w : Working). w.outgoing) same ∙ none)) (All-nil (IsLegalIn sys))
 
   -- where something is then put, a turn was made
-  put_after_turn : (t q : Bool) (old new : Working) (before after : List (Station × List Item)) (rest : List Item) → Turns may sys old (Ok t) new → old.outgoing ≡ [] → PutsOut sys.routes new.outgoing before (Ok q) rest after → q ≡ true → t ≡ true
+  put_after_turn : (t q : Bool) (old new : Working) (before after : List (Station × List Item)) (rest : List Item) → TriesTurn may sys old (Ok t) new → old.outgoing ≡ [] → PutsOut sys.routes new.outgoing before (Ok q) rest after → q ≡ true → t ≡ true
   put_after_turn true q old new before after rest turned none h said = refl
   put_after_turn false true old new before after rest (same, work) none h said = absurd (h.1 (ap (λ (w : Working). w.outgoing) same ∙ none))
   put_after_turn false false old new before after rest turned none h said = said
@@ -148,7 +148,7 @@ module _ (may : ℕ → Frame → Step → Type 0) (sys : System) where
   kept_none inlet true old before new after (i, unspent, takes, admits) = admits.hand.0
   kept_none inlet false old before new after (same, board, kept, work) = ap (λ (w : Working). w.kept) same ∙ kept
 
-  kept_still : (t : Bool) (old new : Working) → Turns may sys old (Ok t) new → new.kept ≡ old.kept
+  kept_still : (t : Bool) (old new : Working) → TriesTurn may sys old (Ok t) new → new.kept ≡ old.kept
   kept_still true old new made = made.kept
   kept_still false old new (same, work) = ap (λ (w : Working). w.kept) same
 
@@ -232,13 +232,13 @@ module _ (may : ℕ → Frame → Step → Type 0) (sys : System) where
       both_so = phase_then here 0 1 p a old before mid between arrived taken put_so arrive_so
 
       -- a turn that was refused
-      pub ends_at_turn : (r : Refused) (new : Working) → Turns may sys arrived (Err r) new → Ends old before (Err r) new taken
+      pub ends_at_turn : (r : Refused) (new : Working) → TriesTurn may sys arrived (Err r) new → Ends old before (Err r) new taken
       ends_at_turn r new same =
           let g = going_same here 0 arrived taken new taken same refl sound_then in
           ends_refused r old before new taken (going_then may sys here 1 0 old before arrived taken new taken both_so.going g)
           (first_put here 1 old mid between new taken (going_then may sys here 1 0 mid between arrived taken new taken arrive_so.going g) refl empty)
 
-      module _ (t : Bool) (turned : Working) (makes : Turns may sys arrived (Ok t) turned) where
+      module _ (t : Bool) (turned : Working) (makes : TriesTurn may sys arrived (Ok t) turned) where
         turn_so : Phase here 0 t arrived taken turned taken
         turn_so = turn_phase here t arrived taken turned makes empty_then sound_then
 
@@ -268,7 +268,7 @@ module _ (may : ℕ → Frame → Step → Type 0) (sys : System) where
             let no_turn : t ≡ false = or_right (p || a) t said in
             let o = subst (λ (x : Bool). PutsOut sys.routes old.outgoing before (Ok x) rest between) no_put out in
             let l = subst (λ (x : Bool). LetsIn may sys mid between (Ok x) arrived taken) no_arrival lets in
-            let m = subst (λ (x : Bool). Turns may sys arrived (Ok x) turned) no_turn makes in
+            let m = subst (λ (x : Bool). TriesTurn may sys arrived (Ok x) turned) no_turn makes in
             record {
               kept = sym still ∙ l.2;
               outgoing = o.0;

@@ -2,8 +2,8 @@
 use Rattle.std.specs.Prelude.{◌≡◌, ℕ, ◌≤◌, ◌⊎◌, Bool, true, false, List, [], ◌∷◌, ◌++◌, Option, None, Some, Result, Ok, Err, length, All}
 use Rattle.sdl_signal.specs.declared.values.Pid.{Pid}
 use Rattle.sdl_signal.specs.declared.values.Item.{Item}
-use Rattle.sdl_routes.specs.declared.parts.Station.{Station}
-use Rattle.sdl_routes.specs.declared.parts.Station.TheVariants as station
+use Rattle.sdl_routes.specs.declared.route.Station.{Station}
+use Rattle.sdl_routes.specs.declared.route.Station.TheVariants as station
 use Rattle.sdl_behaviour.specs.declared.step.Frame.{Frame}
 use Rattle.sdl_behaviour.specs.declared.step.Step.{Step}
 use Rattle.sdl_instances.specs.declared.event.Event.{Event}
@@ -29,7 +29,7 @@ TakesFrom w before (Some i) after =
     × ChangesOnly before after (station.Inlet w.core.block))
 
 -- the item arrives, which is one event
-pub record Admits (may : ℕ → Frame → Step → Type 0) (sys : System) (old : Working) (i : Item) (new : Working) : Type 0 where
+pub record LetsArrive (may : ℕ → Frame → Step → Type 0) (sys : System) (old : Working) (i : Item) (new : Working) : Type 0 where
   pub arrival : Arrival
   pub log : new.core.log ≡ old.core.log ++ arrival_event i arrival ∷ []
   pub sound : IsSound may sys new.core
@@ -43,7 +43,7 @@ IsSpent c = turns c.log ≡ c.budget
 -- Unless the budget is used, the item taken arrives, or is kept; the answer says whether it arrived.
 abbrev pub LetsIn : (ℕ → Frame → Step → Type 0) → System → Working → List (Station × List Item) → Result Bool Refused → Working → List (Station × List Item) → Type 0
 LetsIn may sys old before (Ok true) new after =
-    (i : Item) × (IsSpent old.core → ⊥) × TakesFrom old before (Some i) after × Admits may sys (record old { kept = None }) i new
+    (i : Item) × (IsSpent old.core → ⊥) × TakesFrom old before (Some i) after × LetsArrive may sys (record old { kept = None }) i new
 LetsIn may sys old before (Ok false) new after =
     (new ≡ old) × (after ≡ before) × (old.kept ≡ None) × (IsSpent old.core ⊎ (waiting before (station.Inlet old.core.block) ≡ []))
 LetsIn may sys old before (Err _) new after =
@@ -64,10 +64,10 @@ pub record MakesTurn (may : ℕ → Frame → Step → Type 0) (sys : System) (o
   pub few : length new.outgoing ≤ 8
 
 -- An instance makes a turn; none does where none is ready, the budget is used, or memory is refused.
-abbrev pub Turns : (ℕ → Frame → Step → Type 0) → System → Working → Result Bool Refused → Working → Type 0
-Turns may sys old (Ok true) new = MakesTurn may sys old new
-Turns may sys old (Ok false) new = (new ≡ old) × (IsSpent old.core ⊎ ((p : Pid) → IsReady p old.core.state → ⊥))
-Turns may sys old (Err _) new = new ≡ old
+abbrev pub TriesTurn : (ℕ → Frame → Step → Type 0) → System → Working → Result Bool Refused → Working → Type 0
+TriesTurn may sys old (Ok true) new = MakesTurn may sys old new
+TriesTurn may sys old (Ok false) new = (new ≡ old) × (IsSpent old.core ⊎ ((p : Pid) → IsReady p old.core.state → ⊥))
+TriesTurn may sys old (Err _) new = new ≡ old
 
 abbrev pub StepsTo : (ℕ → Frame → Step → Type 0) → System → Working → List (Station × List Item) → Result Bool Refused → Working → List (Station × List Item) → Type 0
 StepsTo may sys old before result new after = StepsAs may sys old before (answer_of result) new after

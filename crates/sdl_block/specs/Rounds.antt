@@ -2,9 +2,9 @@
 use Rattle.std.specs.Prelude.{◌≡◌, ℕ, ◌≤◌, ◌⊎◌, List, [], ◌++◌, None, Some, length, drop}
 use Rattle.sdl_signal.specs.declared.values.Pid.{Pid}
 use Rattle.sdl_signal.specs.declared.values.Item.{Item}
-use Rattle.sdl_routes.specs.declared.parts.Row.{Row}
-use Rattle.sdl_routes.specs.declared.parts.Station.{Station}
-use Rattle.sdl_routes.specs.declared.parts.Station.TheVariants as station
+use Rattle.sdl_routes.specs.declared.route.TableRow.{TableRow}
+use Rattle.sdl_routes.specs.declared.route.Station.{Station}
+use Rattle.sdl_routes.specs.declared.route.Station.TheVariants as station
 use Rattle.sdl_instances.specs.declared.event.Event.{Event}
 use Rattle.sdl_instances.specs.Run.{arrived, turns}
 use Rattle.sdl_instances.specs.Core.{Core, IsReady}
@@ -25,12 +25,12 @@ abbrev pub turns_made : Core → Core → ℕ
 turns_made old new = turns (new_events old new)
 
 -- no item can come: none is kept, and the inlet is empty, also once what is in hand is put
-pub record NoneComes (rows : List Row) (w : Working) (board : List (Station × List Item)) : Type 0 where
+pub record NoneComes (rows : List TableRow) (w : Working) (board : List (Station × List Item)) : Type 0 where
   pub kept : w.kept ≡ None
   pub inlet : waiting board (station.Inlet w.core.block) ++ beginning_at rows (station.Inlet w.core.block) w.outgoing ≡ []
 
 -- A step is one round: at most one item arrives, and at most one turn is made. Neither is left out that can be.
-pub record IsOneRound (rows : List Row) (old : Working) (before : List (Station × List Item)) (answer : Stepped) (new : Working) (after : List (Station × List Item)) : Type 0 where
+pub record IsOneRound (rows : List TableRow) (old : Working) (before : List (Station × List Item)) (answer : Stepped) (new : Working) (after : List (Station × List Item)) : Type 0 where
   pub one_arrival : arrivals old.core new.core ≤ 1
   pub one_turn : turns_made old.core new.core ≤ 1
   -- a kept item arrives in place of one taken: the inlet loses none

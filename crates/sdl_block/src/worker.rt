@@ -3,10 +3,10 @@ ghost use Rattle.std.specs.Prelude.{◌≡◌, [], All, IsTrue, ◌↔◌, Match
 ghost use Rattle.sdl_signal.specs.declared.values.Pid.{Pid};
 ghost use Rattle.sdl_forward.specs.Boards.{IsBoardOf};
 ghost use Rattle.sdl_instances.specs.Core.{IsSound, IsLegalIn, IsReady};
-ghost use Rattle.sdl_instances.specs.Cores.{core_of, parts_of, CanFire};
+ghost use Rattle.sdl_instances.specs.CoreOf.{core_of, parts_of, CanFire};
 ghost use Rattle.sdl_instances.specs.Run.{turns, waiting};
 ghost use Rattle.sdl_hand.specs.Work.{with_core, StepsAs};
-ghost use Rattle.sdl_block.specs.Phases.{TakesFrom, Admits, LetsIn, Turns, StepsTo, PutsFirst, IsEmptyAfter};
+ghost use Rattle.sdl_block.specs.Phases.{TakesFrom, LetsArrive, LetsIn, TriesTurn, StepsTo, PutsFirst, IsEmptyAfter};
 ghost use Rattle.sdl_block.specs.Rounds.{IsOneRound};
 ghost use Rattle.sdl_hand.specs.Puts as puts;
 ghost use Rattle.sdl_block.specs.Workers.{worker_of, behaviours_of, system_around};
@@ -127,7 +127,7 @@ impl<S: Agents> BlockWorker<S> {
     fn admit(&mut self, routes: &Routes, item: Item, pick: u32) -> Result<(), Item>
         requires sound { IsSound S.may (system_around self.old routes.now) (worker_of self.old).core }
         ensures arrived { MatchResult result
-            (λ _. Admits S.may (system_around self.old routes.now) (worker_of self.old) item (worker_of self.new))
+            (λ _. LetsArrive S.may (system_around self.old routes.now) (worker_of self.old) item (worker_of self.new))
             (λ back. (back ≡ item) × (worker_of self.new ≡ worker_of self.old)) }
         ensures parts { behaviours_of self.new ≡ behaviours_of self.old }
     {
@@ -146,7 +146,7 @@ impl<S: Agents> BlockWorker<S> {
         requires parts { CanFire S.may (behaviours_of self.old) }
         requires sound { IsSound S.may (system_around self.old routes.now) (worker_of self.old).core }
         requires hand { (worker_of self.old).outgoing ≡ [] }
-        ensures turn { Turns S.may (system_around self.old routes.now) (worker_of self.old) result (worker_of self.new) }
+        ensures turn { TriesTurn S.may (system_around self.old routes.now) (worker_of self.old) result (worker_of self.new) }
         ensures parts { behaviours_of self.new ≡ behaviours_of self.old }
     {
         match self.core.turn(routes, pick) {

@@ -8,8 +8,8 @@ use Rattle.sdl_command.specs.declared.arguments.Arguments.{Arguments}
 use Rattle.sdl_command.specs.declared.arguments.Arguments.TheVariants as arguments
 
 -- a command without options
-abbrev pub plain : Command → Options
-plain command = record { command = command; serial = false; ledger = false; trace = false }
+abbrev pub without_options : Command → Options
+without_options command = record { command = command; serial = false; ledger = false; trace = false }
 
 -- an option begins with two dashes, and a file does not
 abbrev pub is_option : List ℕ → Bool
@@ -19,8 +19,8 @@ is_option word = starts_with nat_eq word (codes "--")
 abbrev pub file_arguments_of : List ℕ → List (List ℕ) → Option Arguments
 file_arguments_of word (file ∷ []) =
     if is_option file then None
-    else if bytes_eq word (codes "check") then Some (arguments.File (plain command.Check) 1)
-    else if bytes_eq word (codes "routes") then Some (arguments.File (plain command.Routes) 1)
+    else if bytes_eq word (codes "check") then Some (arguments.File (without_options command.Check) 1)
+    else if bytes_eq word (codes "routes") then Some (arguments.File (without_options command.Routes) 1)
     else None
 file_arguments_of word _ = None
 

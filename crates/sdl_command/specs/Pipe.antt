@@ -31,14 +31,14 @@ abbrev pub piped_text : Lexicon → List EnvLine → List ℕ
 piped_text names carried = flat_map (λ l. ended_line (text_or_none names (record l { to = None }))) carried
 
 -- the text was written whole, or a shorter front of it
-abbrev pub HasWritten : Option (List ℕ) → Option (List ℕ) → List ℕ → OutputEnd → Type 0
-HasWritten old new text output.Whole = Appends old new text
-HasWritten old new text output.WriteFault = (n : ℕ) × (n < length text) × Appends old new (take n text)
+abbrev pub HasWrittenText : Option (List ℕ) → Option (List ℕ) → List ℕ → OutputEnd → Type 0
+HasWrittenText old new text output.Whole = Appends old new text
+HasWrittenText old new text output.WriteFault = (n : ℕ) × (n < length text) × Appends old new (take n text)
 
 -- The lines of an input were read up to its end, and written again.
 abbrev pub IsPiped : Option (List ℕ) → Option (List ℕ) → Option (List ℕ) → Option (List ℕ) → InputEnd → OutputEnd → Type 0
 IsPiped unread rest old new end written =
-    (carried : List EnvLine) × HasRead pipe_lexicon unread rest carried end × HasWritten old new (piped_text pipe_lexicon carried) written
+    (carried : List EnvLine) × HasRead pipe_lexicon unread rest carried end × HasWrittenText old new (piped_text pipe_lexicon carried) written
 
 -- the item of a line's signal, by the line's position from 0
 abbrev pub queued_item : ℕ → Signal → Item

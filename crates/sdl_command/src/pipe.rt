@@ -5,7 +5,7 @@ ghost use Rattle.std.specs.Io.KnownBytes.{Keeps};
 ghost use Rattle.sdl_signal.specs.Names.{Lexicon};
 ghost use Rattle.sdl_signal.specs.declared.values.EnvLine.{EnvLine};
 ghost use Rattle.sdl_signal.specs.Environment.{HasRead};
-ghost use Rattle.sdl_command.specs.Pipe.{pipe_lexicon, IsPiped, HasQueued, IsWritable, text_of, HasWritten, queued_item};
+ghost use Rattle.sdl_command.specs.Pipe.{pipe_lexicon, IsPiped, HasQueued, IsWritable, text_of, HasWrittenText, queued_item};
 
 use crate::ends::{flushed, report};
 use crate::errors::without_memory;
@@ -112,7 +112,7 @@ fn item_of(number: u64, signal: Signal) -> Item
 /// Takes all items from the queue and writes each as a line.
 fn write_all<W: Write>(names: &Names, queue: &mut SerialQueue, output: &mut W) -> OutputEnd
     requires { AllByRecursion (IsWritable names.now) queue.old }
-    ensures { HasWritten (W.contents output.old) (W.contents output.new) (text_of names.now queue.old) result }
+    ensures { HasWrittenText (W.contents output.old) (W.contents output.new) (text_of names.now queue.old) result }
 {
     let mut sink = LineSink::new();
     while let Some(item) = queue.take() {

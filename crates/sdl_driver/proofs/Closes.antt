@@ -1,7 +1,7 @@
 -- What a closing shows is what the driver left.
 use Rattle.std.proofs.Common.{ℕ, ◌<◌, ◌≤◌, Bool, true, false, cond, List, [], ◌∷◌, ◌++◌, length, map, Option, Some, None, Vec, MatchOption, MatchBool, ◌≡◌, ◌≢◌, refl, ap, sym, ◌∙◌, subst, arith, append_assoc}
 use Rattle.sdl_signal.specs.declared.values.Item.{Item}
-use Rattle.sdl_routes.specs.declared.parts.Station.{Station}
+use Rattle.sdl_routes.specs.declared.route.Station.{Station}
 use Rattle.sdl_behaviour.specs.declared.step.Frame.{Frame}
 use Rattle.sdl_behaviour.specs.declared.step.Step.{Step}
 use Rattle.sdl_instances.specs.declared.event.Event.{Event}
@@ -17,16 +17,16 @@ use Rattle.sdl_signal.specs.declared.ends.InputEnd.{InputEnd}
 use Rattle.sdl_signal.specs.declared.ends.InputEnd.TheVariants as input
 use Rattle.sdl_outcome.specs.EnvironmentWork.{EnvWorking, OwnEnd, input_end}
 use Rattle.sdl_outcome.specs.Plan.{Plan, blocks_in, workers_of}
-use Rattle.sdl_outcome.specs.Outcome.{Held, Outcome}
+use Rattle.sdl_outcome.specs.Outcome.{WorkerHand, Outcome}
 use Rattle.sdl_ledger.specs.declared.ledger.Ledger.{Ledger}
-use Rattle.sdl_ledger.specs.Counts.{Fits, IsLedgerOf, waiting_in}
+use Rattle.sdl_ledger.specs.Counts.{CountsFit, IsLedgerOf, waiting_in}
 use Rattle.sdl_outcome.specs.Ends.{EndsAs}
 use Rattle.sdl_driver.specs.Ended.{HasEnded}
 use Rattle.sdl_order.specs.Driver.{Site, IsIdle, outcome_of, finals_of, block_hand, env_hand, forwarder_hand}
 use Rattle.sdl_driver.specs.Drivers.{site_of, plan_of, IsDriving, NoneSpent, FirstSpent, AllDone, SomeUndone, AllLeft, SomeLeft}
 use Rattle.sdl_parts.specs.Structure.{Structure}
-use Rattle.sdl_routes.specs.declared.parts.Row.{Row}
-use Rattle.sdl_transition.specs.declared.parts.BlockParts.{BlockParts}
+use Rattle.sdl_routes.specs.declared.route.TableRow.{TableRow}
+use Rattle.sdl_transition.specs.declared.block_parts.BlockParts.{BlockParts}
 use Rattle.sdl_transition.specs.Bound.{AreOneSystem}
 use Rattle.sdl_driver.specs.declared.closing.Room.{Room}
 use Rattle.sdl_driver.specs.Closings.{HasRoom, StopsByMemory, NamesRefused, end_by}
@@ -37,12 +37,12 @@ use Rattle.sdl_driver.proofs.Finish.{ended, traced, limited}
 use Rattle.sdl_driver.proofs.Readings.{never_stopped}
 use Rattle.sdl_driver.proofs.Stops.{knows, some_undone, ends_by}
 
-unfoldable outcome : List (List Event) → List EnvOut → List Item → List Held → List (Station × List Item) → Outcome
+unfoldable outcome : List (List Event) → List EnvOut → List Item → List WorkerHand → List (Station × List Item) → Outcome
 outcome logs put received hands rests = record { logs = logs; env_put = put; env_received = received; hands = hands; rests = rests }
 
 -- what the workers leave is what the site shows
 module _ {S I : Type 0} {F : I → Type 0} {g : _} (d : Driver S I F g)
-    (logs : List (List Event)) (put : List EnvOut) (received : List Item) (hands : List Held) (rests : List (Station × Rest)) (logs_are : logs ≡ map (λ w. (worker_of w).core.log) d.blocks.items)
+    (logs : List (List Event)) (put : List EnvOut) (received : List Item) (hands : List WorkerHand) (rests : List (Station × Rest)) (logs_are : logs ≡ map (λ w. (worker_of w).core.log) d.blocks.items)
     (put_are : put ≡ d.environment.put) (received_are : received ≡ d.environment.received)
     (hands_are : hands ≡ (map (λ w. block_hand (worker_of w)) d.blocks.items ++ env_hand d.environment ∷ []) ++ map forwarder_hand d.forwarders.items) (rests_are : lists_of rests ≡ d.board) where
   same_logs : logs ≡ (outcome_of (site_of d)).logs
@@ -51,7 +51,7 @@ module _ {S I : Type 0} {F : I → Type 0} {g : _} (d : Driver S I F g)
   same_hands : hands ≡ (outcome_of (site_of d)).hands
   same_hands =
       hands_are ∙ (append_assoc (map (λ w. block_hand (worker_of w)) d.blocks.items) (env_hand d.environment ∷ []) (map forwarder_hand d.forwarders.items)
-      ∙ ap (λ (hs : List Held). hs ++ env_hand d.environment ∷ map forwarder_hand d.forwarders.items) (sym (map_map block_hand worker_of d.blocks.items)))
+      ∙ ap (λ (hs : List WorkerHand). hs ++ env_hand d.environment ∷ map forwarder_hand d.forwarders.items) (sym (map_map block_hand worker_of d.blocks.items)))
 
   pub same_outcome : ◌≡◌ {A = Outcome} (record { logs = logs; env_put = put; env_received = received; hands = hands; rests = lists_of rests }) (outcome_of (site_of d))
   unfolding outcome
@@ -60,13 +60,13 @@ module _ {S I : Type 0} {F : I → Type 0} {g : _} (d : Driver S I F g)
       ap (λ (x : List (List Event)). outcome x put received hands (lists_of rests)) same_logs
       ∙ (ap (λ (x : List EnvOut). outcome o.logs x received hands (lists_of rests)) put_are
       ∙ (ap (λ (x : List Item). outcome o.logs o.env_put x hands (lists_of rests)) received_are
-      ∙ (ap (λ (x : List Held). outcome o.logs o.env_put o.env_received x (lists_of rests)) same_hands
+      ∙ (ap (λ (x : List WorkerHand). outcome o.logs o.env_put o.env_received x (lists_of rests)) same_hands
       ∙ ap (λ (x : List (Station × List Item)). outcome o.logs o.env_put o.env_received o.hands x) rests_are)))
 
 -- where the driver stops
 module _ {S I : Type 0} {F : I → Type 0} {g : _} (may : ℕ → Frame → Step → Type 0) (d : Driver S I F g) (driving : IsDriving may d) where
   -- the counts are small
-  pub fits : Fits (outcome_of (site_of d))
+  pub fits : CountsFit (outcome_of (site_of d))
   fits =
       counts_fit may (plan_of d) (outcome_of (site_of d)) (finals_of (site_of d)) (traced may (plan_of d) driving.plan (site_of d) driving.work) (limited may (plan_of d) driving.plan (site_of d) driving.work)
 
@@ -138,11 +138,11 @@ same_shown logs seen put outs received came hands held rests left a b c d e =
 pub filled : {X : Type 0} (before after more : List X) → before ≡ [] → after ≡ before ++ more → after ≡ more
 filled before after more e h = h ∙ ap (λ xs. xs ++ more) e
 
-pub joined : (blocks with_env all fs : List Held) (env held : Held) → with_env ≡ blocks ++ env ∷ [] → env ≡ held → all ≡ with_env ++ fs → all ≡ (blocks ++ held ∷ []) ++ fs
-joined blocks with_env all fs env held e h f = f ∙ ap (λ (xs : List Held). xs ++ fs) (e ∙ ap (λ (x : Held). blocks ++ x ∷ []) h)
+pub joined : (blocks with_env all fs : List WorkerHand) (env held : WorkerHand) → with_env ≡ blocks ++ env ∷ [] → env ≡ held → all ≡ with_env ++ fs → all ≡ (blocks ++ held ∷ []) ++ fs
+joined blocks with_env all fs env held e h f = f ∙ ap (λ (xs : List WorkerHand). xs ++ fs) (e ∙ ap (λ (x : WorkerHand). blocks ++ x ∷ []) h)
 
 module _ {S I : Type 0} {F : I → Type 0} {g : _} where
-  pub system_kept : (may : ℕ → Frame → Step → Type 0) (s : Structure) (routes : List Row) (ps qs : List (BlockParts S I F g)) → qs ≡ ps → AreOneSystem may s routes ps → AreOneSystem may s routes qs
+  pub system_kept : (may : ℕ → Frame → Step → Type 0) (s : Structure) (routes : List TableRow) (ps qs : List (BlockParts S I F g)) → qs ≡ ps → AreOneSystem may s routes ps → AreOneSystem may s routes qs
   system_kept may s routes ps qs e h = subst (AreOneSystem may s routes) (sym e) h
 
   pub less_room : (r : Room S I F g) (a b c : ℕ) → c ≤ b → HasRoom a b r → HasRoom a c r

@@ -6,15 +6,15 @@ use Rattle.std.proofs.lemmas.List.{length-map, length-append}
 use Rattle.sdl_signal.specs.declared.ids.SignalId.{SignalId}
 use Rattle.sdl_parts.specs.declared.parts.Channel.{Channel}
 use Rattle.sdl_parts.specs.Structure.{Structure}
-use Rattle.sdl_routes.specs.declared.parts.Hop.{Hop}
-use Rattle.sdl_routes.specs.declared.parts.Row.{Row}
+use Rattle.sdl_routes.specs.declared.route.Hop.{Hop}
+use Rattle.sdl_routes.specs.declared.route.TableRow.{TableRow}
 use Rattle.sdl_behaviour.specs.declared.step.Frame.{Frame}
 use Rattle.sdl_behaviour.specs.declared.step.Step.{Step}
 use Rattle.sdl_transition.specs.Rules.{Rules, block_rules}
-use Rattle.sdl_instances.specs.Cores.{CanFire}
+use Rattle.sdl_instances.specs.CoreOf.{CanFire}
 use Rattle.sdl_forward.specs.Forwards.{Forwarding}
 use Rattle.sdl_forward.specs.Boards.{waiting, IsBoardOf}
-use Rattle.sdl_routes.specs.declared.parts.Station.TheVariants.{Line}
+use Rattle.sdl_routes.specs.declared.route.Station.TheVariants.{Line}
 use Rattle.sdl_forward.specs.declared.forwarder.Forwarded.{Forwarded}
 use Rattle.sdl_forward.specs.declared.forwarder.Forwarded.TheVariants as forwarded
 use Rattle.sdl_block.specs.declared.worker.BlockWorker.{BlockWorker}
@@ -163,7 +163,7 @@ writes_by plan s n old new x y e f h =
     (subst (λ (t : Structure). (start : Option (List ℕ)) → HasWrittenSoFar t plan.routes n start x old → HasWrittenSoFar t plan.routes n start y new) e h)
 
 -- of drivers
-unfoldable plan_by : Structure → List Row → List (List Rules) → ℕ → Plan
+unfoldable plan_by : Structure → List TableRow → List (List Rules) → ℕ → Plan
 plan_by s routes rules budget = record { structure = s; routes = routes; rules = rules; budget = budget }
 
 pub map_map : {X Y Z : Type 0} (f : Y → Z) (h : X → Y) (xs : List X) → map f (map h xs) ≡ map (λ x. f (h x)) xs
@@ -182,7 +182,7 @@ module _ {S I : Type 0} {F : I → Type 0} {g : _} where
       let rules : map (λ w. block_rules (behaviours_of w)) new.blocks.items ≡ map (λ w. block_rules (behaviours_of w)) old.blocks.items =
       sym (map_map block_rules behaviours_of new.blocks.items) ∙ (ap (map block_rules) same.behaviours ∙ map_map block_rules behaviours_of old.blocks.items) in
       ap (λ (x : Structure). plan_by x new.routes (plan_of new).rules new.budget) same.checked
-      ∙ (ap (λ (x : List Row). plan_by old.checked x (plan_of new).rules new.budget) same.routes
+      ∙ (ap (λ (x : List TableRow). plan_by old.checked x (plan_of new).rules new.budget) same.routes
       ∙ (ap (λ (x : List (List Rules)). plan_by old.checked old.routes x new.budget) rules ∙ ap (λ (x : ℕ). plan_by old.checked old.routes (plan_of old).rules x) same.budget))
 
   fire_same : (may : ℕ → Frame → Step → Type 0) (old new : List (BlockWorker S I F g)) → map behaviours_of new ≡ map behaviours_of old → All (λ w. CanFire may (behaviours_of w)) old → All (λ w. CanFire may (behaviours_of w)) new

@@ -6,15 +6,15 @@ use Rattle.std.proofs.lemmas.List.Elements.{All-from_recursion}
 use Rattle.std.specs.List.{AllByRecursion}
 use Rattle.sdl_signal.specs.declared.values.Sort.{Sort}
 use Rattle.sdl_signal.specs.declared.values.Item.{Item}
-use Rattle.sdl_routes.specs.declared.parts.Row.{Row}
-use Rattle.sdl_routes.specs.declared.parts.Station.{Station}
+use Rattle.sdl_routes.specs.declared.route.TableRow.{TableRow}
+use Rattle.sdl_routes.specs.declared.route.Station.{Station}
 use Rattle.sdl_behaviour.specs.declared.step.Frame.{Frame}
 use Rattle.sdl_behaviour.specs.declared.step.Step.{Step}
 use Rattle.sdl_transition.specs.Rules.{Rules, block_rules}
-use Rattle.sdl_instances.specs.declared.parts.ProcessSet.{ProcessSet}
+use Rattle.sdl_instances.specs.declared.process_set.ProcessSet.{ProcessSet}
 use Rattle.sdl_instances.specs.Machine.{System}
 use Rattle.sdl_instances.specs.Core.{IsSound, IsLegalIn}
-use Rattle.sdl_instances.specs.Cores.{CanFire}
+use Rattle.sdl_instances.specs.CoreOf.{CanFire}
 use Rattle.sdl_block.specs.declared.worker.BlockWorker.{BlockWorker}
 use Rattle.sdl_hand.specs.declared.hand.Stepped.{Stepped}
 use Rattle.sdl_hand.specs.Work.{Working, StepsAs}
@@ -28,7 +28,7 @@ use Rattle.sdl_outcome.proofs.Lists.{map_set}
 use Rattle.sdl_order.proofs.Starts.{block}
 use Rattle.sdl_order.proofs.BlockStep.{of_block_was}
 
-unfoldable system : List (List Sort) → List ProcessSet → List Row → List Rules → System
+unfoldable system : List (List Sort) → List ProcessSet → List TableRow → List Rules → System
 system signals sets routes rules = record { signals = signals; sets = sets; routes = routes; rules = rules }
 
 -- a system is known by its parts
@@ -37,7 +37,7 @@ unfolding system
 system_is x y a b c d =
     ap (λ (z : List (List Sort)). system z x.sets x.routes x.rules) a
     ∙ (ap (λ (z : List ProcessSet). system y.signals z x.routes x.rules) b
-    ∙ (ap (λ (z : List Row). system y.signals y.sets z x.rules) c ∙ ap (λ (z : List Rules). system y.signals y.sets y.routes z) d))
+    ∙ (ap (λ (z : List TableRow). system y.signals y.sets z x.rules) c ∙ ap (λ (z : List Rules). system y.signals y.sets y.routes z) d))
 
 module _ {S I : Type 0} {F : I → Type 0} {g : _} (may : ℕ → Frame → Step → Type 0) (d : Driver S I F g) (driving : IsDriving may d) (n : ℕ) (w : BlockWorker S I F g)
     (within : n < length d.blocks.items) (found : w ≡ get_or d.blocks.items n w) where

@@ -4,7 +4,7 @@ use Rattle.sdl_signal.specs.declared.values.Item.{Item}
 use Rattle.sdl_forward.specs.Forwards.{Forwarding}
 use Rattle.sdl_driver.specs.declared.closing.Room.{Room}
 use Rattle.sdl_driver.specs.Closings.{HasRoom}
-use Rattle.sdl_outcome.specs.Outcome.{Held}
+use Rattle.sdl_outcome.specs.Outcome.{WorkerHand}
 use Rattle.sdl_order.specs.Driver.{forwarder_hand}
 
 -- one more has come over
@@ -25,13 +25,13 @@ module _ {S I : Type 0} {F : I → Type 0} {g : _} where
   pub room_as : (r : Room S I F g) (a b c d : ℕ) → a ≡ c → b ≡ d → HasRoom a b r → HasRoom c d r
   room_as r a b c d e f h = subst (λ (n : ℕ). HasRoom c n r) f (subst (λ (n : ℕ). HasRoom n b r) e h)
 
-unfoldable pub hand : Option Item → List Item → Held
+unfoldable pub hand : Option Item → List Item → WorkerHand
 hand kept outgoing = record { kept = kept; outgoing = outgoing }
 
 pub hand_is : (kept held : Option Item) (outgoing items : List Item) → kept ≡ held → outgoing ≡ items → hand kept outgoing ≡ hand held items
 hand_is kept held outgoing items e f = ap (λ (o : Option Item). hand o outgoing) e ∙ ap (λ (xs : List Item). hand held xs) f
 
 -- a hand that holds what a forwarder held
-pub forwarder_left : (f : Forwarding) (kept : Option Item) (outgoing : List Item) → kept ≡ f.held → outgoing ≡ [] → ◌≡◌ {A = Held} (record { kept = kept; outgoing = outgoing }) (forwarder_hand f)
+pub forwarder_left : (f : Forwarding) (kept : Option Item) (outgoing : List Item) → kept ≡ f.held → outgoing ≡ [] → ◌≡◌ {A = WorkerHand} (record { kept = kept; outgoing = outgoing }) (forwarder_hand f)
 unfolding hand
 forwarder_left f kept outgoing e h = hand_is kept f.held outgoing [] e h

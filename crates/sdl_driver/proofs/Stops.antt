@@ -4,13 +4,13 @@ use Rattle.std.specs.List.{AllByRecursion}
 use Rattle.std.proofs.lemmas.Bool.{cond_both, cond-true}
 use Rattle.std.proofs.lemmas.Option.{none-some, same_Some, slice_get_within}
 use Rattle.sdl_signal.specs.declared.values.Item.{Item}
-use Rattle.sdl_routes.specs.declared.parts.Station.{Station}
-use Rattle.sdl_routes.specs.declared.parts.Station.TheVariants.{Line, Inlet, Outlet}
+use Rattle.sdl_routes.specs.declared.route.Station.{Station}
+use Rattle.sdl_routes.specs.declared.route.Station.TheVariants.{Line, Inlet, Outlet}
 use Rattle.sdl_behaviour.specs.declared.step.Frame.{Frame}
 use Rattle.sdl_behaviour.specs.declared.step.Step.{Step}
 use Rattle.sdl_queue.specs.declared.rest.Rest.{Rest}
 use Rattle.sdl_queue.specs.Rest.{left_in}
-use Rattle.sdl_forward.specs.Boards.{same_station, waiting, stations_of, lists_of, StandsBefore, AreInOrder}
+use Rattle.sdl_forward.specs.Boards.{same_station, waiting, stations_of, lists_of, IsStationBefore, AreStationsInOrder}
 use Rattle.sdl_outcome.specs.Plan.{Plan, IsPlan, workers_of}
 use Rattle.sdl_order.specs.Driver.{Site, IsAtWork, IsIdle, outcome_of, finals_of}
 use Rattle.sdl_driver.specs.Drivers.{NoneSpent, FirstSpent, AllDone, SomeUndone, AllLeft, SomeLeft}
@@ -20,18 +20,18 @@ use Rattle.sdl_outcome.proofs.Comparisons.{same_station_is, same_station_itself}
 use Rattle.sdl_order.proofs.Quiet.{number, get_map, quiet_end, none_spent_end, spent_end}
 
 -- no station stands before itself
-not_before : (s : Station) → StandsBefore s s → ⊥
+not_before : (s : Station) → IsStationBefore s s → ⊥
 not_before (Line h) b = omega arith
 not_before (Inlet n) b = omega arith
 not_before Outlet b = b
 
-apart_at : (s : Station) (es : List (Station × List Item)) (k : ℕ) (e : Station × List Item) → AllByRecursion (StandsBefore s) (stations_of es) → slice_get es k ≡ Some e → s ≢ e.0
+apart_at : (s : Station) (es : List (Station × List Item)) (k : ℕ) (e : Station × List Item) → AllByRecursion (IsStationBefore s) (stations_of es) → slice_get es k ≡ Some e → s ≢ e.0
 apart_at s [] k e before at = absurd (none-some e at)
-apart_at s (x ∷ es) zero e before at = λ same. not_before s (subst (StandsBefore s) (ap (λ (y : Station × List Item). y.0) (same_Some x e at) ∙ sym same) before.0)
+apart_at s (x ∷ es) zero e before at = λ same. not_before s (subst (IsStationBefore s) (ap (λ (y : Station × List Item). y.0) (same_Some x e at) ∙ sym same) before.0)
 apart_at s (x ∷ es) (suc k) e before at = apart_at s es k e before.1 at
 
 -- an entry of a board in order is what waits at its station
-entry_waits : (es : List (Station × List Item)) (k : ℕ) (e : Station × List Item) → AreInOrder (stations_of es) → slice_get es k ≡ Some e → waiting es e.0 ≡ e.1
+entry_waits : (es : List (Station × List Item)) (k : ℕ) (e : Station × List Item) → AreStationsInOrder (stations_of es) → slice_get es k ≡ Some e → waiting es e.0 ≡ e.1
 entry_waits [] k e order at = absurd (none-some e at)
 entry_waits (x ∷ es) zero e order at =
     let same : x ≡ e = same_Some x e at in
@@ -54,7 +54,7 @@ module _ (may : ℕ → Frame → Step → Type 0) (plan : Plan) (ok : IsPlan pl
   -- something is left, or an instance is ready: the run is not quiet
   some_left : (rests : List (Station × Rest)) → lists_of rests ≡ site.board → SomeLeft rests → IsQuiet plan (outcome_of site) (finals_of site) → ⊥
   some_left rests same (n, r, at, more) quiet =
-      let here : waiting (lists_of rests) r.0 ≡ left_in r.1 = entry_waits (lists_of rests) n (r.0, left_in r.1) (subst (λ (b : List (Station × List Item)). AreInOrder (stations_of b)) (sym same) work.board.order) (lists_get rests n r at) in
+      let here : waiting (lists_of rests) r.0 ≡ left_in r.1 = entry_waits (lists_of rests) n (r.0, left_in r.1) (subst (λ (b : List (Station × List Item)). AreStationsInOrder (stations_of b)) (sym same) work.board.order) (lists_get rests n r at) in
       more (sym here ∙ (ap (λ (b : List (Station × List Item)). waiting b r.0) same ∙ quiet.rests r.0))
 
   pub some_undone : SomeUndone site.blocks → IsQuiet plan (outcome_of site) (finals_of site) → ⊥

@@ -27,18 +27,7 @@ use Rattle.sdl_driver.specs.Runs.{Runs}
 abbrev pub plan_of_bound : {S I : Type 0} {F : I → Type 0} {g : _} → Bound S I F g → ℕ → Plan
 plan_of_bound b budget = record { structure = structure_of b; routes = routes_of b; rules = map block_rules (blocks_of b); budget = budget }
 
--- what a closing shows of its run
-abbrev pub outcome_in : {S I : Type 0} {F : I → Type 0} {g : _} → Closing S I F g → Outcome
-outcome_in c =
-    record {
-      logs = map items_in c.logs.items;
-      env_put = c.env_put.items;
-      env_received = c.env_received.items;
-      hands = map held_in c.hands.items;
-      rests = lists_of c.rests.items;
-    }
-
--- and what the workers leave that become one
+-- what the workers of a run leave
 abbrev pub outcome_left : {S I : Type 0} {F : I → Type 0} {g : _} → Left S I F g → Outcome
 outcome_left l =
     record {
@@ -48,6 +37,20 @@ outcome_left l =
       hands = map held_in l.hands.items;
       rests = lists_of l.rests.items;
     }
+
+-- what a closing shows of its run: what the workers left
+abbrev pub outcome_in : {S I : Type 0} {F : I → Type 0} {g : _} → Closing S I F g → Outcome
+outcome_in c =
+    outcome_left (record {
+      bound = c.bound;
+      logs = c.logs;
+      env_put = c.env_put;
+      env_received = c.env_received;
+      hands = c.hands;
+      rests = c.rests;
+      input = c.input;
+      output = c.output;
+    })
 
 -- in a closing, all that the environment read, and all that it wrote
 abbrev pub HasReadIn : {S I : Type 0} {F : I → Type 0} {g : _} → Plan → Option (List ℕ) → Option (List ℕ) → Closing S I F g → Type 0

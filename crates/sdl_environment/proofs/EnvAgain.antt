@@ -7,9 +7,9 @@ use Rattle.sdl_signal.specs.declared.ends.OutputEnd.{OutputEnd}
 use Rattle.sdl_signal.specs.declared.ends.OutputEnd.TheVariants as output
 use Rattle.sdl_signal.specs.Environment.{HasCarried, HasRead}
 use Rattle.sdl_parts.specs.Structure.{Structure, lexicon_of}
-use Rattle.sdl_routes.specs.declared.parts.Row.{Row}
-use Rattle.sdl_routes.specs.declared.parts.Station.{Station}
-use Rattle.sdl_routes.specs.declared.parts.Station.TheVariants.{Outlet}
+use Rattle.sdl_routes.specs.declared.route.TableRow.{TableRow}
+use Rattle.sdl_routes.specs.declared.route.Station.{Station}
+use Rattle.sdl_routes.specs.declared.route.Station.TheVariants.{Outlet}
 use Rattle.sdl_routes.specs.Routes.{AreRoutesOf}
 use Rattle.sdl_forward.specs.Boards.{waiting}
 use Rattle.sdl_hand.specs.declared.hand.Stepped.{Stepped}
@@ -21,18 +21,18 @@ use Rattle.sdl_environment.proofs.EnvLegal.{begins_out}
 use Rattle.sdl_environment.proofs.EnvWriting.{written_none}
 
 -- before anything was read
-pub fresh_read : (structure : Structure) (rows : List Row) (worker : ℕ) (start : Option (List ℕ)) (w : EnvWorking) → IsEnvFresh worker w → HasReadSoFar structure rows worker start start w
+pub fresh_read : (structure : Structure) (rows : List TableRow) (worker : ℕ) (start : Option (List ℕ)) (w : EnvWorking) → IsEnvFresh worker w → HasReadSoFar structure rows worker start start w
 fresh_read structure rows worker start w fresh =
     let P : Option InputEnd → Type 0 = λ o. elim o [ None ↦ HasCarried (lexicon_of structure) start start w.reading [] | Some end ↦ HasRead (lexicon_of structure) start start [] end ] in
     ([], subst (AreOutputsOf rows worker 0 []) (sym fresh.put) tt, subst P (sym fresh.ended) (fresh.begins (lexicon_of structure) start))
 
-pub fresh_written : (structure : Structure) (rows : List Row) (worker : ℕ) (start : Option (List ℕ)) (w : EnvWorking) → IsEnvFresh worker w → HasWrittenSoFar structure rows worker start start w
+pub fresh_written : (structure : Structure) (rows : List TableRow) (worker : ℕ) (start : Option (List ℕ)) (w : EnvWorking) → IsEnvFresh worker w → HasWrittenSoFar structure rows worker start start w
 fresh_written structure rows worker start w fresh =
     let P : OutputEnd → Type 0 = λ e. HasWritten start start (received_text (lexicon_of structure) rows w.received) e in
     let Q : List Item → Type 0 = λ items. HasWritten start start (received_text (lexicon_of structure) rows items) output.Whole in
     subst P (sym fresh.output) (subst Q (sym fresh.received) (written_none start))
 
-pub fresh_sound : (structure : Structure) (rows : List Row) (worker : ℕ) (w : EnvWorking) → IsEnvFresh worker w → IsEnvSound structure rows worker w
+pub fresh_sound : (structure : Structure) (rows : List TableRow) (worker : ℕ) (w : EnvWorking) → IsEnvFresh worker w → IsEnvSound structure rows worker w
 fresh_sound structure rows worker w fresh =
     record {
       number = fresh.number;
@@ -43,7 +43,7 @@ fresh_sound structure rows worker w fresh =
       counted = ap length fresh.put ∙ sym fresh.none;
     }
 
-module _ (structure : Structure) (rows : List Row) (worker : ℕ) (old : EnvWorking) (before : List (Station × List Item)) (new : EnvWorking) (after : List (Station × List Item)) where
+module _ (structure : Structure) (rows : List TableRow) (worker : ℕ) (old : EnvWorking) (before : List (Station × List Item)) (new : EnvWorking) (after : List (Station × List Item)) where
   -- after each step the next one can be made
   pub sound_after : (answer : Stepped) → EnvStepsAs structure rows worker old before answer new after → IsEnvSound structure rows worker old → IsEnvSound structure rows worker new
   sound_after Did h sound = h.0.sound

@@ -10,7 +10,7 @@ use Rattle.sdl_signal.specs.declared.values.Item.{Item}
 use Rattle.sdl_signal.specs.declared.values.Sort.{Sort}
 use Rattle.sdl_signal.specs.declared.values.Pid.TheVariants as pid
 use Rattle.sdl_signal.specs.declared.environment.EnvRead.TheVariants as env
-use Rattle.sdl_signal.specs.Names.{Declared}
+use Rattle.sdl_signal.specs.Names.{DeclaredSignal}
 use Rattle.sdl_signal.specs.Line.{line_text}
 use Rattle.sdl_signal.specs.Environment.{IsEnvLine}
 use Rattle.sdl_parts.specs.declared.parts.SignalDecl.{SignalDecl}
@@ -18,18 +18,18 @@ use Rattle.sdl_parts.specs.declared.parts.Set.{Set}
 use Rattle.sdl_parts.specs.declared.parts.Gate.{Gate}
 use Rattle.sdl_parts.specs.declared.parts.Owner.{Owner}
 use Rattle.sdl_parts.specs.declared.parts.Owner.TheVariants as owner
-use Rattle.sdl_parts.specs.Structure.{Structure, IsStructure, AreSystemFirst, lexicon_of, system_gate_name, declared, set_at, gate_at}
-use Rattle.sdl_routes.specs.declared.parts.Row.{Row}
-use Rattle.sdl_routes.specs.declared.parts.EndPoint.{EndPoint}
-use Rattle.sdl_routes.specs.declared.parts.EndPoint.TheVariants as ends
-use Rattle.sdl_routes.specs.declared.parts.Station.{Station}
-use Rattle.sdl_routes.specs.declared.parts.Station.TheVariants as station
-use Rattle.sdl_routes.specs.declared.parts.Hop.{Hop}
+use Rattle.sdl_parts.specs.Structure.{Structure, IsStructure, AreSystemFirst, lexicon_of, system_gate_name, declared_signal, set_at, gate_at}
+use Rattle.sdl_routes.specs.declared.route.TableRow.{TableRow}
+use Rattle.sdl_routes.specs.declared.route.EndPoint.{EndPoint}
+use Rattle.sdl_routes.specs.declared.route.EndPoint.TheVariants as ends
+use Rattle.sdl_routes.specs.declared.route.Station.{Station}
+use Rattle.sdl_routes.specs.declared.route.Station.TheVariants as station
+use Rattle.sdl_routes.specs.declared.route.Hop.{Hop}
 use Rattle.sdl_routes.specs.Routes.{AreRoutesOf, IsRoute, IsLastStation, IsEndPoint, is_delaying}
 use Rattle.sdl_transition.specs.Offers.{IsLegalPid, IsLegalValue}
 use Rattle.sdl_instances.specs.Core.{signals_of, sets_of, numbers_of}
 use Rattle.sdl_forward.proofs.Same.{same_station_is}
-use Rattle.sdl_hand.specs.Work.{beginning_at, first_station, is_at}
+use Rattle.sdl_hand.specs.Work.{beginning_at, first_station, is_station}
 use Rattle.sdl_outcome.specs.declared.environment_output.EnvOut.{EnvOut}
 use Rattle.sdl_outcome.specs.declared.environment_output.EnvOut.TheVariants as env_out
 use Rattle.sdl_outcome.specs.EnvironmentWork.{GoesOut, ComesIn, IsLegalItem, IsOutputOf, sent_of}
@@ -53,28 +53,28 @@ gate_named (x ∷ gates) first (suc k) g at own =
 
 -- the sorts of a signal, by the names and by the structure
 module _ (s : Structure) where
-  sorts_of_declared : (o : Option SignalDecl) → option_map (λ (x : SignalDecl). x.sorts.items) o ≡ option_map (λ (d : Declared). d.sorts) (option_map declared o)
+  sorts_of_declared : (o : Option SignalDecl) → option_map (λ (x : SignalDecl). x.sorts.items) o ≡ option_map (λ (d : DeclaredSignal). d.sorts) (option_map declared_signal o)
   sorts_of_declared None = refl
   sorts_of_declared (Some x) = refl
 
-  known_sorts : (k : ℕ) (d : Declared) → slice_get (lexicon_of s).signals k ≡ Some d → slice_get (signals_of s) k ≡ Some d.sorts
+  known_sorts : (k : ℕ) (d : DeclaredSignal) → slice_get (lexicon_of s).signals k ≡ Some d → slice_get (signals_of s) k ≡ Some d.sorts
   known_sorts k d e =
       slice_get-map (λ (x : SignalDecl). x.sorts.items) s.signals k ∙ sorts_of_declared (slice_get s.signals k)
-      ∙ ap (option_map (λ (d : Declared). d.sorts)) (sym (slice_get-map declared s.signals k) ∙ e)
+      ∙ ap (option_map (λ (d : DeclaredSignal). d.sorts)) (sym (slice_get-map declared_signal s.signals k) ∙ e)
 
-  declared_with : (o : Option SignalDecl) (sorts : List Sort) → option_map (λ (x : SignalDecl). x.sorts.items) o ≡ Some sorts → (d : Declared) × (option_map declared o ≡ Some d) × (sorts ≡ d.sorts)
+  declared_with : (o : Option SignalDecl) (sorts : List Sort) → option_map (λ (x : SignalDecl). x.sorts.items) o ≡ Some sorts → (d : DeclaredSignal) × (option_map declared_signal o ≡ Some d) × (sorts ≡ d.sorts)
   declared_with None sorts e = cc
-  declared_with (Some x) sorts e = (declared x, refl, cc)
+  declared_with (Some x) sorts e = (declared_signal x, refl, cc)
 
-  known_signal : (k : ℕ) (sorts : List Sort) → slice_get (signals_of s) k ≡ Some sorts → (d : Declared) × (slice_get (lexicon_of s).signals k ≡ Some d) × (sorts ≡ d.sorts)
+  known_signal : (k : ℕ) (sorts : List Sort) → slice_get (signals_of s) k ≡ Some sorts → (d : DeclaredSignal) × (slice_get (lexicon_of s).signals k ≡ Some d) × (sorts ≡ d.sorts)
   known_signal k sorts e =
       let (d, is, same) = declared_with (slice_get s.signals k) sorts (sym (slice_get-map (λ (x : SignalDecl). x.sorts.items) s.signals k) ∙ e) in
-      (d, slice_get-map declared s.signals k ∙ is, same)
+      (d, slice_get-map declared_signal s.signals k ∙ is, same)
 
   same_sets : length (lexicon_of s).sets ≡ length (sets_of s)
   same_sets = length-map s.sets (λ (t : Set). t.name.bytes) ∙ sym (length-map s.sets numbers_of)
 
-  module _ (rows : List Row) (worker : ℕ) where
+  module _ (rows : List TableRow) (worker : ℕ) where
     -- the item of a line may travel, and comes from the environment
     pub legal_output : (n : ℕ) (line : EnvLine) (out : EnvOut) → IsEnvLine (lexicon_of s) (env.Line line) → IsOutputOf rows worker n line out
         → All (IsLegalItem s rows worker) (sent_of out) × All (ComesIn rows) (sent_of out)
@@ -107,19 +107,19 @@ module _ (s : Structure) where
     only_last [] last e = cc
     only_last (h ∷ hops) last e = cc
 
-    first_outlet : (row : Row) → IsRoute s row → slice_get row.route.stations.items 0 ≡ Some station.Outlet → (gate : GateId) × (row.route.end ≡ ends.Environment gate)
+    first_outlet : (row : TableRow) → IsRoute s row → slice_get row.route.stations.items 0 ≡ Some station.Outlet → (gate : GateId) × (row.route.end ≡ ends.Environment gate)
     first_outlet row route e =
         let (last, is_last, all) = route.stations in
         last_outlet row.route.end last is_last (only_last (filter (is_delaying s) row.route.hops.items) last (sym (ap (λ (l : List Station). slice_get l 0) all) ∙ e))
 
-    outlet_of : (o : Option Station) → is_at station.Outlet o ≡ true → o ≡ Some station.Outlet
+    outlet_of : (o : Option Station) → is_station station.Outlet o ≡ true → o ≡ Some station.Outlet
     outlet_of None h = absurd (true≢false (sym h))
     outlet_of (Some x) h = ap Some (same_station_is x station.Outlet h)
 
-    goes_out : AreRoutesOf s rows → (i : Item) → IsLegalItem s rows worker i → is_at station.Outlet (first_station rows i) ≡ true → GoesOut rows i
+    goes_out : AreRoutesOf s rows → (i : Item) → IsLegalItem s rows worker i → is_station station.Outlet (first_station rows i) ≡ true → GoesOut rows i
     goes_out routes i legal h =
         let (row, there, same) = legal.carried in
-        let P : Option Row → Type 0 = λ o. is_at station.Outlet (option_and_then (λ row. slice_get row.route.stations.items 0) o) ≡ true in
+        let P : Option TableRow → Type 0 = λ o. is_station station.Outlet (option_and_then (λ row. slice_get row.route.stations.items 0) o) ≡ true in
         let first = outlet_of (slice_get row.route.stations.items 0) (subst P there h) in
         let (gate, ends_out) = first_outlet row (all_at (IsRoute s) rows i.route.0 row routes.sound there) first in
         (row, gate, there, ends_out)
@@ -127,9 +127,9 @@ module _ (s : Structure) where
     -- what is put at once into the outlet
     pub begins_out : AreRoutesOf s rows → (items : List Item) → AllByRecursion (IsLegalItem s rows worker) items → AllByRecursion (λ i. IsLegalItem s rows worker i × GoesOut rows i) (beginning_at rows station.Outlet items)
     begins_out routes [] h = tt
-    begins_out routes (i ∷ items) h = keeps (is_at station.Outlet (first_station rows i)) refl (begins_out routes items h.1)
+    begins_out routes (i ∷ items) h = keeps (is_station station.Outlet (first_station rows i)) refl (begins_out routes items h.1)
       where
-        keeps : (b : Bool) → is_at station.Outlet (first_station rows i) ≡ b → AllByRecursion (λ i. IsLegalItem s rows worker i × GoesOut rows i) (beginning_at rows station.Outlet items)
+        keeps : (b : Bool) → is_station station.Outlet (first_station rows i) ≡ b → AllByRecursion (λ i. IsLegalItem s rows worker i × GoesOut rows i) (beginning_at rows station.Outlet items)
             → AllByRecursion (λ i. IsLegalItem s rows worker i × GoesOut rows i) (beginning_at rows station.Outlet (i ∷ items))
         keeps true e rest = rw e ((h.0, goes_out routes i h.0 e), rest)
         keeps false e rest = rw e rest
@@ -145,7 +145,7 @@ module _ (s : Structure) where
         let values = subst (λ (m : ℕ). AllByRecursion (IsLegalValue m) i.signal.params.items) (sym same_sets) (recursion_from_All (IsLegalValue (length (sets_of s))) i.signal.params.items legal.values) in
         let at_gate : IsSome (line_text (lexicon_of s) (record { gate = row.route.end_gate; signal = i.signal; to = None })) =
         has_text (lexicon_of s) (record { gate = row.route.end_gate; signal = i.signal; to = None }) g.name.bytes d refl name is_signal sorts values in
-        let P : Option Row → Type 0 = λ o. IsSome (line_text (lexicon_of s) (record { gate = elim o [ None ↦ record { 0 = 0 } | Some row ↦ row.route.end_gate ]; signal = i.signal; to = None })) in
+        let P : Option TableRow → Type 0 = λ o. IsSome (line_text (lexicon_of s) (record { gate = elim o [ None ↦ record { 0 = 0 } | Some row ↦ row.route.end_gate ]; signal = i.signal; to = None })) in
         ((row, gate, there, ends_out), subst P (sym there) at_gate)
       where
         owned : (o : Option Gate) → IsSomeAnd o (λ g. g.owner ≡ owner.System) → (g : Gate) × (o ≡ Some g) × (g.owner ≡ owner.System)

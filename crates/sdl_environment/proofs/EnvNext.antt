@@ -3,9 +3,9 @@ use Rattle.std.proofs.Common.{◌≡◌, ◌≢◌, ℕ, ◌+◌, inl, inr, Bool
 use Rattle.std.specs.Result.{IsErr}
 use Rattle.sdl_signal.specs.declared.values.Item.{Item}
 use Rattle.sdl_signal.specs.Names.{Lexicon}
-use Rattle.sdl_routes.specs.declared.parts.Row.{Row}
-use Rattle.sdl_routes.specs.declared.parts.Station.{Station}
-use Rattle.sdl_routes.specs.declared.parts.Station.TheVariants.{Outlet}
+use Rattle.sdl_routes.specs.declared.route.TableRow.{TableRow}
+use Rattle.sdl_routes.specs.declared.route.Station.{Station}
+use Rattle.sdl_routes.specs.declared.route.Station.TheVariants.{Outlet}
 use Rattle.sdl_forward.specs.Boards.{waiting}
 use Rattle.sdl_hand.specs.declared.hand.Refused.{Refused}
 use Rattle.sdl_hand.specs.declared.hand.Stepped.TheVariants.{Memory}
@@ -15,11 +15,11 @@ use Rattle.sdl_environment.specs.EnvPhases.{Reads, Receives}
 use Rattle.sdl_environment.specs.EnvSteps.{ReadsNext, TakesNext, StepsOn}
 use Rattle.sdl_environment.proofs.EnvPieces.{holding}
 
-put_whole : (rows : List Row) (did : Bool) (old : List Item) (before : List (Station × List Item)) (new : List Item) (after : List (Station × List Item)) → PutsOut rows old before (Ok did) new after → new ≡ []
+put_whole : (rows : List TableRow) (did : Bool) (old : List Item) (before : List (Station × List Item)) (new : List Item) (after : List (Station × List Item)) → PutsOut rows old before (Ok did) new after → new ≡ []
 put_whole rows true old before new after (puts, some, none) = none
 put_whole rows false old before new after (was, none, board) = none
 
-module _ (names : Lexicon) (rows : List Row) where
+module _ (names : Lexicon) (rows : List TableRow) where
   line_next : (did : Bool) (old new : EnvWorking) → Reads names rows old (Ok did) new → ReadsNext old new
   line_next true old new (unended, inl r) = λ none. inl (ap (λ (w : EnvWorking). length w.put) r.same ∙ length-append old.put (r.out ∷ []))
   line_next true old new (unended, inr r) = λ none. inr (λ e. let ended = ap (λ (w : EnvWorking). w.ended) r.same in cc)
@@ -49,7 +49,7 @@ take_around : (old w3 new : EnvWorking) (after : List (Station × List Item)) �
 take_around old w3 new after same h = subst (λ (l : List Item). (length new.received ≡ length l + 1) ⊎ (waiting after Outlet ≡ [])) same h
 
 -- a put, a reading, a put and a receiving, none of them refused
-pub steps_on : (names : Lexicon) (rows : List Row) (old w1 w2 w3 new : EnvWorking) (b1 b2 b3 : List (Station × List Item)) (r q t : Bool)
+pub steps_on : (names : Lexicon) (rows : List TableRow) (old w1 w2 w3 new : EnvWorking) (b1 b2 b3 : List (Station × List Item)) (r q t : Bool)
     → w1 ≡ holding old w1.outgoing → Reads names rows w1 (Ok r) w2
     → PutsOut rows w2.outgoing b1 (Ok q) w3.outgoing b2 → w3 ≡ holding w2 w3.outgoing → Receives w3 b2 (Ok t) new b3 → StepsOn old new b3
 steps_on names rows old w1 w2 w3 new b1 b2 b3 r q t first read put last received =

@@ -5,9 +5,9 @@ use Rattle.std.specs.List.{AllByRecursion}
 use Rattle.std.proofs.lemmas.List.Elements.{All-append, All-nil, All-tail, All-from_recursion, recursion_from_All}
 use Rattle.sdl_signal.specs.declared.values.Item.{Item}
 use Rattle.sdl_parts.specs.Structure.{Structure, lexicon_of}
-use Rattle.sdl_routes.specs.declared.parts.Row.{Row}
-use Rattle.sdl_routes.specs.declared.parts.Station.{Station}
-use Rattle.sdl_routes.specs.declared.parts.Station.TheVariants.{Outlet}
+use Rattle.sdl_routes.specs.declared.route.TableRow.{TableRow}
+use Rattle.sdl_routes.specs.declared.route.Station.{Station}
+use Rattle.sdl_routes.specs.declared.route.Station.TheVariants.{Outlet}
 use Rattle.sdl_routes.specs.Routes.{AreRoutesOf}
 use Rattle.sdl_forward.specs.Boards.{stations_of, waiting}
 use Rattle.sdl_hand.specs.declared.hand.Refused.{Refused}
@@ -45,11 +45,11 @@ few_sent (env_out.Sent i) = omega arith
 few_sent (env_out.NoRoute o l) = omega arith
 
 -- the origin of an output that is one of a line
-origin_is : (rows : List Row) (worker n : ℕ) (line : _) (out : EnvOut) → IsOutputOf rows worker n line out → ((origin_of out).worker ≡ worker) × ((origin_of out).number ≡ n)
+origin_is : (rows : List TableRow) (worker n : ℕ) (line : _) (out : EnvOut) → IsOutputOf rows worker n line out → ((origin_of out).worker ≡ worker) × ((origin_of out).number ≡ n)
 origin_is rows worker n line (env_out.Sent i) (is, fits) = (ap (λ (x : Item). x.origin.worker) is, ap (λ (x : Item). x.origin.number) is)
 origin_is rows worker n line (env_out.NoRoute o l) (is, same, none) = (ap (λ o. o.worker) is, ap (λ o. o.number) is)
 
-module _ (s : Structure) (rows : List Row) (worker : ℕ) where
+module _ (s : Structure) (rows : List TableRow) (worker : ℕ) where
   -- a part of a step, with its outputs, what it put, and what it took
   pub record Piece (old : EnvWorking) (before : List (Station × List Item)) (outs : List EnvOut) (put taken : List Item) (new : EnvWorking) (after : List (Station × List Item)) : Type 0 where
     pub outlet : waiting before Outlet ++ beginning_at rows Outlet put ≡ taken ++ waiting after Outlet

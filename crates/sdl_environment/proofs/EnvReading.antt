@@ -11,20 +11,20 @@ use Rattle.sdl_signal.specs.Source.{Source}
 use Rattle.sdl_signal.specs.Bytes.{HasNoNewline, BeginsWithLines, ended_line}
 use Rattle.sdl_signal.specs.Environment.{Reading, AreRead, HasCarried, HasCome, HasRead, GoesOn, most_lines}
 use Rattle.sdl_parts.specs.Structure.{Structure, lexicon_of}
-use Rattle.sdl_routes.specs.declared.parts.Row.{Row}
+use Rattle.sdl_routes.specs.declared.route.TableRow.{TableRow}
 use Rattle.sdl_outcome.specs.declared.environment_output.EnvOut.{EnvOut}
 use Rattle.sdl_outcome.specs.EnvironmentWork.{EnvWorking, IsOutputOf, AreOutputsOf, HasReadSoFar, HasReadAll, input_end}
 use Rattle.sdl_environment.specs.EnvPhases.{HasReadBy}
 
 -- one output for each line
-pub outputs_count : (rows : List Row) (worker n : ℕ) (lines : List EnvLine) (outs : List EnvOut) → AreOutputsOf rows worker n lines outs → length outs ≡ length lines
+pub outputs_count : (rows : List TableRow) (worker n : ℕ) (lines : List EnvLine) (outs : List EnvOut) → AreOutputsOf rows worker n lines outs → length outs ≡ length lines
 outputs_count rows worker n [] [] h = refl
 outputs_count rows worker n (l ∷ lines) (o ∷ outs) h = ap suc (outputs_count rows worker (n + 1) lines outs h.1)
 outputs_count rows worker n [] (o ∷ outs) h = absurd h
 outputs_count rows worker n (l ∷ lines) [] h = absurd h
 
 -- one output more
-pub outputs_more : (rows : List Row) (worker n : ℕ) (lines : List EnvLine) (outs : List EnvOut) (line : EnvLine) (out : EnvOut) → AreOutputsOf rows worker n lines outs → IsOutputOf rows worker (n + length outs) line out
+pub outputs_more : (rows : List TableRow) (worker n : ℕ) (lines : List EnvLine) (outs : List EnvOut) (line : EnvLine) (out : EnvOut) → AreOutputsOf rows worker n lines outs → IsOutputOf rows worker (n + length outs) line out
     → AreOutputsOf rows worker n (lines ++ line ∷ []) (outs ++ out ∷ [])
 outputs_more rows worker n [] [] line out h one =
     let e : n + 0 ≡ n = omega arith in (subst (λ (k : ℕ). IsOutputOf rows worker k line out) e one, tt)
@@ -35,7 +35,7 @@ outputs_more rows worker n [] (o ∷ outs) line out h one = absurd h
 outputs_more rows worker n (l ∷ lines) [] line out h one = absurd h
 
 -- a line more was read and output
-pub read_line_more : (names : Lexicon) (rows : List Row) (worker : ℕ) (start before after : Option (List ℕ)) (old new : EnvWorking) (line : EnvLine) (out : EnvOut)
+pub read_line_more : (names : Lexicon) (rows : List TableRow) (worker : ℕ) (start before after : Option (List ℕ)) (old new : EnvWorking) (line : EnvLine) (out : EnvOut)
     → old.ended ≡ None → new.ended ≡ None → new.put ≡ old.put ++ out ∷ [] → IsOutputOf rows worker (length old.put) line out
     → ((carried : List EnvLine) → HasCarried names start before old.reading carried → GoesOn names start after new.reading carried (env.Line line))
     → HasReadBy names rows worker start before old → HasReadBy names rows worker start after new
@@ -48,7 +48,7 @@ read_line_more names rows worker start before after old new line out unended sti
     (lines ++ line ∷ [], more, subst P (sym still) (goes lines so_far))
 
 -- nothing of the reading changes
-pub read_same : (names : Lexicon) (rows : List Row) (worker : ℕ) (start now : Option (List ℕ)) (old new : EnvWorking)
+pub read_same : (names : Lexicon) (rows : List TableRow) (worker : ℕ) (start now : Option (List ℕ)) (old new : EnvWorking)
     → new.ended ≡ old.ended → new.put ≡ old.put → new.reading ≡ old.reading → HasReadBy names rows worker start now old → HasReadBy names rows worker start now new
 read_same names rows worker start now old new ended put reading (lines, outs, read) =
     let P : Option InputEnd → Type 0 = λ o. elim o [ None ↦ HasCarried names start now old.reading lines | Some end ↦ HasRead names start now lines end ] in
@@ -93,7 +93,7 @@ carried_stopped names (Some given) now reading carried few (left, lines, is, rea
     (front, subst P (sym is) split, (lines, rest, begins, read, (let c = count in omega (arith, c, few)), sym (read_count names lines carried read)))
 
 -- What was read so far is, where the run stops, the whole reading: each line gave one output.
-pub read_so_far_is_all : (structure : Structure) (rows : List Row) (worker : ℕ) (start now : Option (List ℕ)) (w : EnvWorking) → w.reading.carried ≤ most_lines
+pub read_so_far_is_all : (structure : Structure) (rows : List TableRow) (worker : ℕ) (start now : Option (List ℕ)) (w : EnvWorking) → w.reading.carried ≤ most_lines
     → HasReadSoFar structure rows worker start now w → HasReadAll structure rows worker start now w.put (input_end w)
 read_so_far_is_all structure rows worker start now w few (lines, outs, read) = (lines, outs, ends w.ended refl)
   where

@@ -6,9 +6,9 @@ use Rattle.sdl_signal.specs.declared.ends.OutputEnd.{OutputEnd}
 use Rattle.sdl_signal.specs.Names.{Lexicon}
 use Rattle.sdl_signal.specs.Environment.{Reading}
 use Rattle.sdl_parts.specs.Structure.{Structure}
-use Rattle.sdl_routes.specs.declared.parts.Row.{Row}
-use Rattle.sdl_routes.specs.declared.parts.Station.{Station}
-use Rattle.sdl_routes.specs.declared.parts.Station.TheVariants.{Outlet}
+use Rattle.sdl_routes.specs.declared.route.TableRow.{TableRow}
+use Rattle.sdl_routes.specs.declared.route.Station.{Station}
+use Rattle.sdl_routes.specs.declared.route.Station.TheVariants.{Outlet}
 use Rattle.sdl_forward.specs.Boards.{waiting}
 use Rattle.sdl_hand.specs.declared.hand.Refused.{Refused}
 use Rattle.sdl_hand.proofs.Fronts.{put_none}
@@ -22,7 +22,7 @@ nil_left : {X : Type 0} (xs ys : List X) → xs ++ ys ≡ [] → xs ≡ []
 nil_left [] ys e = refl
 nil_left (x ∷ xs) ys e = cc
 
-module _ (s : Structure) (rows : List Row) (worker : ℕ) where
+module _ (s : Structure) (rows : List TableRow) (worker : ℕ) where
   around : (old w1 : EnvWorking) (outs : List EnvOut) (w2 new : EnvWorking) → w1.ended ≡ old.ended → w1.reading ≡ old.reading → w1.put ≡ old.put → new.ended ≡ w2.ended → new.reading ≡ w2.reading
       → Readings s rows worker w1 outs w2 → Readings s rows worker old outs new
   around old w1 outs w2 new ended reading put last_ended last_reading r =
@@ -143,7 +143,7 @@ module _ (s : Structure) (rows : List Row) (worker : ℕ) where
   works_at_last r old b0 r1 w1 b1 p1 r2 w2 p2 r3 w3 b2 p3 =
       works old b0 r1 w1 b1 p1 r2 w2 p2 r3 w3 b2 p3 (Err r) w3 b2 (no_receive r w3 b2 p3.piece.sound)
 
-module _ (names : Lexicon) (rows : List Row) where
+module _ (names : Lexicon) (rows : List TableRow) where
   -- what was read so far is not changed by a put and a receiving
   pub read_after_put : (worker : ℕ) (start now : Option (List ℕ)) (old new : EnvWorking) → new ≡ holding old new.outgoing → HasReadBy names rows worker start now old → HasReadBy names rows worker start now new
   read_after_put worker start now old new same =
@@ -172,13 +172,13 @@ module _ (names : Lexicon) (rows : List Row) where
   written_after_read start now (Err r) old new same = subst (HasWrittenBy names rows start now) (sym same)
 
 -- the same, by the names of the structure
-pub read_then : (names known : Lexicon) (rows : List Row) (own worker : ℕ) (start before after : Option (List ℕ)) (old new : EnvWorking) → names ≡ known → own ≡ worker
+pub read_then : (names known : Lexicon) (rows : List TableRow) (own worker : ℕ) (start before after : Option (List ℕ)) (old new : EnvWorking) → names ≡ known → own ≡ worker
     → (HasReadBy names rows own start before old → HasReadBy names rows own start after new) → HasReadBy known rows worker start before old → HasReadBy known rows worker start after new
 read_then names known rows own worker start before after old new is same goes =
     subst (λ (x : Lexicon). HasReadBy x rows worker start before old → HasReadBy x rows worker start after new) is
     (subst (λ (k : ℕ). HasReadBy names rows k start before old → HasReadBy names rows k start after new) same goes)
 
-pub written_then : (names known : Lexicon) (rows : List Row) (start before after : Option (List ℕ)) (old new : EnvWorking) → names ≡ known
+pub written_then : (names known : Lexicon) (rows : List TableRow) (start before after : Option (List ℕ)) (old new : EnvWorking) → names ≡ known
     → (HasWrittenBy names rows start before old → HasWrittenBy names rows start after new) → HasWrittenBy known rows start before old → HasWrittenBy known rows start after new
 written_then names known rows start before after old new is goes =
     subst (λ (x : Lexicon). HasWrittenBy x rows start before old → HasWrittenBy x rows start after new) is goes

@@ -9,9 +9,10 @@ use Rattle.sdl_signal.specs.declared.values.Value.{Value}
 use Rattle.sdl_signal.specs.declared.values.Value.TheVariants as value
 use Rattle.sdl_signal.specs.declared.values.Pid.{Pid}
 use Rattle.sdl_signal.specs.declared.values.Pid.TheVariants as pid
-use Rattle.sdl_signal.specs.Names.{Lexicon, Declared}
+use Rattle.sdl_signal.specs.Names.{Lexicon, DeclaredSignal}
 use Rattle.sdl_signal.specs.Line.{pid_text, value_text, value_texts, to_texts, line_fields, line_text}
-use Rattle.sdl_transition.specs.Offers.{sort_of, IsLegalPid, IsLegalValue}
+use Rattle.sdl_transition.specs.Offers.{IsLegalPid, IsLegalValue}
+use Rattle.sdl_signal.specs.Sorts.{sort_of}
 
 -- nothing is not something
 pub none_some : false ≡ true → ⊥
@@ -118,7 +119,7 @@ legal_to names (Some p) h = legal_pid names p (map_some _ (pid_text names p) h)
 
 -- what the text of a line shows
 pub record IsLegalLine (names : Lexicon) (line : EnvLine) : Type 0 where
-  pub declared : Declared
+  pub declared : DeclaredSignal
   pub signal : slice_get names.signals line.signal.id.0 ≡ Some declared
   pub sorts : map sort_of line.signal.params.items ≡ declared.sorts
   pub values : AllByRecursion (IsLegalValue (length names.sets)) line.signal.params.items
@@ -134,7 +135,7 @@ legal_line names line h =
     record { declared = declared; signal = signal_is; sorts = values.0; values = values.1; to = legal_to names line.to (map_some _ (to_texts names line.to) d) }
 
 -- a line at a gate of the system, with legal values of its signal's sorts and without a TO part, has a text
-pub has_text : (names : Lexicon) (line : EnvLine) (gate : List ℕ) (declared : Declared) → line.to ≡ None → slice_get names.gates line.gate.0 ≡ Some gate → slice_get names.signals line.signal.id.0 ≡ Some declared
+pub has_text : (names : Lexicon) (line : EnvLine) (gate : List ℕ) (declared : DeclaredSignal) → line.to ≡ None → slice_get names.gates line.gate.0 ≡ Some gate → slice_get names.signals line.signal.id.0 ≡ Some declared
     → map sort_of line.signal.params.items ≡ declared.sorts → AllByRecursion (IsLegalValue (length names.sets)) line.signal.params.items → IsSome (line_text names line)
 has_text names line gate declared no_to gate_is signal_is sorts values =
     let P : List Sort → Type 0 = λ sorts. IsSome (value_texts names sorts line.signal.params.items) in

@@ -11,7 +11,7 @@ use Rattle.sdl_signal.specs.declared.sinks.Written.TheVariants as written
 use Rattle.sdl_signal.specs.Names.{Lexicon}
 use Rattle.sdl_signal.specs.Line.{line_text}
 use Rattle.sdl_signal.specs.Bytes.{ended_line, IsWritten}
-use Rattle.sdl_routes.specs.declared.parts.Row.{Row}
+use Rattle.sdl_routes.specs.declared.route.TableRow.{TableRow}
 use Rattle.sdl_outcome.specs.EnvironmentWork.{HasWritten, received_text, received_line}
 
 -- a front of the next line, behind a text that went out
@@ -42,10 +42,10 @@ written_fault start before after text line n wrote (less, more) =
     written_front start before after text (ended_line line) n wrote more few
 
 -- the text of one item
-pub received_one : (names : Lexicon) (rows : List Row) (i : Item) (line : List ℕ) → line_text names (received_line rows i) ≡ Some line → ended_line line ≡ received_text names rows (i ∷ [])
+pub received_one : (names : Lexicon) (rows : List TableRow) (i : Item) (line : List ℕ) → line_text names (received_line rows i) ≡ Some line → ended_line line ≡ received_text names rows (i ∷ [])
 received_one names rows i line e = ap (λ (o : Option (List ℕ)). ended_line (unwrap_or o [])) (sym e) ∙ sym (append-nil (ended_line (unwrap_or (line_text names (received_line rows i)) [])))
 
-pub received_more : (names : Lexicon) (rows : List Row) (items more : List Item) → received_text names rows (items ++ more) ≡ received_text names rows items ++ received_text names rows more
+pub received_more : (names : Lexicon) (rows : List TableRow) (items more : List Item) → received_text names rows (items ++ more) ≡ received_text names rows items ++ received_text names rows more
 received_more names rows items more = flat_map-append (λ i. ended_line (unwrap_or (line_text names (received_line rows i)) [])) items more
 
 pub written_none : (start : Option (List ℕ)) → HasWritten start start [] output.Whole

@@ -8,9 +8,9 @@ use Rattle.sdl_signal.specs.Names.{Lexicon}
 use Rattle.sdl_signal.specs.Line.{line_text}
 use Rattle.sdl_signal.specs.Environment.{HasCarried, HasRead, IsEnvLine, most_lines}
 use Rattle.sdl_parts.specs.Structure.{Structure}
-use Rattle.sdl_routes.specs.declared.parts.Row.{Row}
-use Rattle.sdl_routes.specs.declared.parts.Station.{Station}
-use Rattle.sdl_routes.specs.declared.parts.Station.TheVariants.{Outlet}
+use Rattle.sdl_routes.specs.declared.route.TableRow.{TableRow}
+use Rattle.sdl_routes.specs.declared.route.Station.{Station}
+use Rattle.sdl_routes.specs.declared.route.Station.TheVariants.{Outlet}
 use Rattle.sdl_forward.specs.Boards.{waiting, ChangesOnly}
 use Rattle.sdl_hand.specs.declared.hand.Refused.{Refused}
 use Rattle.sdl_hand.specs.Puts.{answer_of}
@@ -18,22 +18,22 @@ use Rattle.sdl_outcome.specs.declared.environment_output.EnvOut.{EnvOut}
 use Rattle.sdl_outcome.specs.EnvironmentWork.{EnvWorking, GoesOut, received_line, received_text, sent_of, IsOutputOf, AreOutputsOf, HasWritten, EnvStepsAs}
 
 -- the item's route ends in the environment, and its line has a text
-abbrev pub IsWritable : Lexicon → List Row → Item → Type 0
+abbrev pub IsWritable : Lexicon → List TableRow → Item → Type 0
 IsWritable names routes i = GoesOut routes i × IsSome (line_text names (received_line routes i))
 
 -- what was read so far of an input that told its bytes at the start, by the names of its lines
 abbrev pub ReadBy : Lexicon → Option (List ℕ) → Option (List ℕ) → EnvWorking → List EnvLine → Type 0
 ReadBy names start now w lines = elim w.ended [ None ↦ HasCarried names start now w.reading lines | Some end ↦ HasRead names start now lines end ]
 
-abbrev pub HasReadBy : Lexicon → List Row → ℕ → Option (List ℕ) → Option (List ℕ) → EnvWorking → Type 0
+abbrev pub HasReadBy : Lexicon → List TableRow → ℕ → Option (List ℕ) → Option (List ℕ) → EnvWorking → Type 0
 HasReadBy names routes worker start now w = (lines : List EnvLine) × AreOutputsOf routes worker 0 lines w.put × ReadBy names start now w lines
 
 -- what was written so far
-abbrev pub HasWrittenBy : Lexicon → List Row → Option (List ℕ) → Option (List ℕ) → EnvWorking → Type 0
+abbrev pub HasWrittenBy : Lexicon → List TableRow → Option (List ℕ) → Option (List ℕ) → EnvWorking → Type 0
 HasWrittenBy names routes start now w = HasWritten start now (received_text names routes w.received) w.output
 
 -- a line was read and output, and what is sent is in hand
-pub record ReadsLine (names : Lexicon) (routes : List Row) (old new : EnvWorking) : Type 0 where
+pub record ReadsLine (names : Lexicon) (routes : List TableRow) (old new : EnvWorking) : Type 0 where
   pub line : EnvLine
   pub out : EnvOut
   pub named : IsEnvLine names (env.Line line)
@@ -49,7 +49,7 @@ pub record ReadsEnd (old new : EnvWorking) : Type 0 where
   pub count : new.reading.carried ≡ old.reading.carried
 
 -- A line is read, or the end; nothing is where the reading has ended, or memory is refused.
-abbrev pub Reads : Lexicon → List Row → EnvWorking → Result Bool Refused → EnvWorking → Type 0
+abbrev pub Reads : Lexicon → List TableRow → EnvWorking → Result Bool Refused → EnvWorking → Type 0
 Reads names routes old (Ok true) new = (old.ended ≡ None) × (ReadsLine names routes old new ⊎ ReadsEnd old new)
 Reads names routes old (Ok false) new = (new ≡ old) × (old.ended ≢ None)
 Reads names routes old (Err _) new = new ≡ old
@@ -62,5 +62,5 @@ Receives old before (Ok true) new after =
 Receives old before (Ok false) new after = (new ≡ old) × (after ≡ before) × (waiting before Outlet ≡ [])
 Receives old before (Err _) new after = (new ≡ old) × (after ≡ before)
 
-abbrev pub EnvStepsTo : Structure → List Row → ℕ → EnvWorking → List (Station × List Item) → Result Bool Refused → EnvWorking → List (Station × List Item) → Type 0
+abbrev pub EnvStepsTo : Structure → List TableRow → ℕ → EnvWorking → List (Station × List Item) → Result Bool Refused → EnvWorking → List (Station × List Item) → Type 0
 EnvStepsTo structure routes worker old before result new after = EnvStepsAs structure routes worker old before (answer_of result) new after

@@ -2,9 +2,9 @@
 ghost use Rattle.std.specs.Prelude.{◌≡◌, ◌≢◌, ℕ, List, [], Option, All, IfOk};
 ghost use Rattle.sdl_signal.specs.declared.values.Item.{Item};
 ghost use Rattle.sdl_parts.specs.Structure.{IsStructure};
-ghost use Rattle.sdl_routes.specs.declared.parts.Station.{Station};
+ghost use Rattle.sdl_routes.specs.declared.route.Station.{Station};
 ghost use Rattle.sdl_routes.specs.Routes.{AreRoutesOf};
-ghost use Rattle.sdl_routes.specs.declared.parts.Station.TheVariants.{Outlet};
+ghost use Rattle.sdl_routes.specs.declared.route.Station.TheVariants.{Outlet};
 ghost use Rattle.sdl_forward.specs.Boards.{waiting, IsBoardOf};
 ghost use Rattle.sdl_hand.specs.declared.hand.Stepped.TheVariants.{Memory};
 ghost use Rattle.sdl_hand.specs.Puts.{AreRouted, PutsOut};

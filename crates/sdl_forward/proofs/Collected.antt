@@ -11,21 +11,21 @@ use Rattle.std.proofs.lemmas.List.Elements.{Contains-append_left, Contains-appen
 use Rattle.std.proofs.lemmas.List.Kept.{Contains-dedup, Contains-from_dedup, IsStrictlySortedBy-dedup}
 use Rattle.std.proofs.lemmas.List.Sorted.{Contains-permutation, IsPermutation-sym}
 use Rattle.std.proofs.lemmas.Option.{same_Some}
-use Rattle.sdl_routes.specs.contracts.parts.StationOrd.TheImpl.{cmp-value}
-use Rattle.sdl_routes.specs.contracts.parts.StationPartialEq.TheImpl.{eq-value}
-use Rattle.sdl_routes.specs.contracts.parts.StationOrd.TheImpl.Laws.{total-law, matches_eq-law}
-use Rattle.sdl_routes.specs.contracts.parts.StationEq.TheImpl.Laws.{laws-law}
-use Rattle.sdl_routes.specs.declared.parts.Route.{Route}
-use Rattle.sdl_routes.specs.declared.parts.Row.{Row}
-use Rattle.sdl_routes.specs.declared.parts.Station.{Station}
-use Rattle.sdl_routes.specs.declared.parts.Station.TheVariants.{Line, Inlet, Outlet}
-use Rattle.sdl_forward.specs.Boards.{same_station, IsStationOf, StandsBefore, AreInOrder, AreAllStations}
+use Rattle.sdl_routes.specs.contracts.route.StationOrd.TheImpl.{cmp-value}
+use Rattle.sdl_routes.specs.contracts.route.StationPartialEq.TheImpl.{eq-value}
+use Rattle.sdl_routes.specs.contracts.route.StationOrd.TheImpl.Laws.{total-law, matches_eq-law}
+use Rattle.sdl_routes.specs.contracts.route.StationEq.TheImpl.Laws.{laws-law}
+use Rattle.sdl_routes.specs.declared.route.Route.{Route}
+use Rattle.sdl_routes.specs.declared.route.TableRow.{TableRow}
+use Rattle.sdl_routes.specs.declared.route.Station.{Station}
+use Rattle.sdl_routes.specs.declared.route.Station.TheVariants.{Line, Inlet, Outlet}
+use Rattle.sdl_forward.specs.Boards.{same_station, IsStationOf, IsStationBefore, AreStationsInOrder, AreAllStations}
 use Rattle.sdl_forward.proofs.Same.{same_station_is}
 
-abbrev pub route_stations : Row → List Station
+abbrev pub route_stations : TableRow → List Station
 route_stations row = row.route.stations.items
 
-stations_suc : (rows : List Row) (n : ℕ) (route : Route) → Some route ≡ option_map (λ (row : Row). row.route) (slice_get rows n)
+stations_suc : (rows : List TableRow) (n : ℕ) (route : Route) → Some route ≡ option_map (λ (row : TableRow). row.route) (slice_get rows n)
     → flat_map route_stations (take (suc n) rows) ≡ flat_map route_stations (take n rows) ++ route.stations.items
 stations_suc [] n route at = let e : Some route ≡ None = at in cc
 stations_suc (x ∷ rows) zero route at =
@@ -34,24 +34,24 @@ stations_suc (x ∷ rows) (suc n) route at =
     ap (λ ss. x.route.stations.items ++ ss) (stations_suc rows n route at)
     ∙ sym (append_assoc x.route.stations.items (flat_map route_stations (take n rows)) route.stations.items)
 
-pub stations_more : (rows : List Row) (n : ℕ) (route : Route) → Some route ≡ option_map (λ (row : Row). row.route) (slice_get rows n)
+pub stations_more : (rows : List TableRow) (n : ℕ) (route : Route) → Some route ≡ option_map (λ (row : TableRow). row.route) (slice_get rows n)
     → flat_map route_stations (take (n + 1) rows) ≡ flat_map route_stations (take n rows) ++ route.stations.items
 stations_more rows n route at = rw add-one (stations_suc rows n route at)
 
-pub route_there : (rows : List Row) (n : ℕ) → n < length rows → option_map (λ (row : Row). row.route) (slice_get rows n) ≡ None → ⊥
+pub route_there : (rows : List TableRow) (n : ℕ) → n < length rows → option_map (λ (row : TableRow). row.route) (slice_get rows n) ≡ None → ⊥
 route_there [] n lt e = omega arith
 route_there (x ∷ rows) zero lt e = let f : Some x.route ≡ None = e in cc
 route_there (x ∷ rows) (suc n) lt e = route_there rows n (omega arith) e
 
 -- what is collected is of some route, and nothing else
-has_station : (rows : List Row) (s : Station) (k : ℕ) (row : Row) → k < length rows → slice_index_or rows k row ≡ row → Contains row.route.stations.items s → Contains (flat_map route_stations rows) s
+has_station : (rows : List TableRow) (s : Station) (k : ℕ) (row : TableRow) → k < length rows → slice_index_or rows k row ≡ row → Contains row.route.stations.items s → Contains (flat_map route_stations rows) s
 has_station [] s k row lt at h = absurd (omega arith)
 has_station (x ∷ rows) s zero row lt at h =
-    Contains-append_left x.route.stations.items (flat_map route_stations rows) s (subst (λ (r : Row). Contains r.route.stations.items s) (sym at) h)
+    Contains-append_left x.route.stations.items (flat_map route_stations rows) s (subst (λ (r : TableRow). Contains r.route.stations.items s) (sym at) h)
 has_station (x ∷ rows) s (suc k) row lt at h =
     Contains-append_right x.route.stations.items (flat_map route_stations rows) s (has_station rows s k row (omega arith) at h)
 
-of_some_route : (rows : List Row) (s : Station) → Contains (flat_map route_stations rows) s → IsStationOf rows s
+of_some_route : (rows : List TableRow) (s : Station) → Contains (flat_map route_stations rows) s → IsStationOf rows s
 of_some_route [] s h = let lt : h.0 < 0 = h.1 in absurd (omega arith)
 of_some_route (x ∷ rows) s h = elim (Contains-append_cases x.route.stations.items (flat_map route_stations rows) s h) [
   | inl here ↦ (0, x, omega arith, refl, here)
@@ -101,7 +101,7 @@ hop_less a b x y e = by_ranked (a < b) (a ≡ b) (b < a) (nat_cmp a b) (ranked a
     (λ f same. let p : cond x 1 0 < cond y 1 0 = bool_less x y (subst (λ (o : Ordering). ordering_then o (bool_cmp x y) ≡ Less) f e) in omega arith)
     (λ f gt. absurd (let g : Greater ≡ Less = subst (λ (o : Ordering). ordering_then o (bool_cmp x y) ≡ Less) f e in cc))
 
-ordered : (a b : Station) → station_cmp a b ≡ Less → StandsBefore a b
+ordered : (a b : Station) → station_cmp a b ≡ Less → IsStationBefore a b
 ordered (Line h) (Line k) e = hop_less h.channel.0 k.channel.0 h.back k.back e
 ordered (Line h) (Inlet c) e = tt
 ordered (Line h) Outlet e = tt
@@ -112,16 +112,16 @@ ordered Outlet (Line k) e = let g : Greater ≡ Less = e in absurd (cc)
 ordered Outlet (Inlet c) e = let g : Greater ≡ Less = e in absurd (cc)
 ordered Outlet Outlet e = let g : Equal ≡ Less = e in absurd (cc)
 
-each_ordered : (s : Station) (ss : List Station) → AllByRecursion (λ t. station_cmp s t ≡ Less) ss → AllByRecursion (StandsBefore s) ss
+each_ordered : (s : Station) (ss : List Station) → AllByRecursion (λ t. station_cmp s t ≡ Less) ss → AllByRecursion (IsStationBefore s) ss
 each_ordered s [] all = tt
 each_ordered s (t ∷ ss) all = (ordered s t all.0, each_ordered s ss all.1)
 
-in_order : (ss : List Station) → IsStrictlySortedBy station_cmp ss → AreInOrder ss
+in_order : (ss : List Station) → IsStrictlySortedBy station_cmp ss → AreStationsInOrder ss
 unfolding IsStrictlySortedBy
 in_order [] sorted = tt
 in_order (s ∷ ss) sorted = (each_ordered s ss sorted.0, in_order ss sorted.1)
 
-pub all_stations_are : (rows : List Row) (collected sorted kept : List Station) → collected ≡ flat_map route_stations rows → IsPermutation collected sorted → IsSorted station_cmp sorted
+pub all_stations_are : (rows : List TableRow) (collected sorted kept : List Station) → collected ≡ flat_map route_stations rows → IsPermutation collected sorted → IsSorted station_cmp sorted
     → kept ≡ dedup station_eq sorted → AreAllStations rows kept
 all_stations_are rows collected sorted kept from moved in_turn once = record {
   every = λ s h.

@@ -4,11 +4,11 @@ use Rattle.std.specs.List.{AllByRecursion}
 use Rattle.std.proofs.lemmas.Bool.{cond-true, cond-false}
 use Rattle.std.proofs.lemmas.Option.{same_Some, slice_get_within, get_or_from_slice_get, option_and_then_some}
 use Rattle.sdl_signal.specs.declared.values.Item.{Item}
-use Rattle.sdl_routes.specs.declared.parts.Row.{Row}
-use Rattle.sdl_routes.specs.declared.parts.Station.{Station}
-use Rattle.sdl_routes.specs.declared.parts.Station.TheVariants.{Line}
+use Rattle.sdl_routes.specs.declared.route.TableRow.{TableRow}
+use Rattle.sdl_routes.specs.declared.route.Station.{Station}
+use Rattle.sdl_routes.specs.declared.route.Station.TheVariants.{Line}
 use Rattle.sdl_routes.specs.Routes.{EachOnce, FollowsIn}
-use Rattle.sdl_routes.specs.Table.{IsPlain, IsTable}
+use Rattle.sdl_routes.specs.Table.{IsTableRoute, IsTable}
 use Rattle.sdl_forward.specs.Boards.{same_station, waiting, ChangesOnly, IsStationOf}
 use Rattle.sdl_forward.specs.Forwards.{Forwarding, station_behind, next_station, standing, Moves}
 use Rattle.sdl_forward.proofs.Same.{same_station_itself, other_station, cases_station}
@@ -54,13 +54,13 @@ none_past [] k at = omega arith
 none_past (x ∷ xs) zero at = absurd (let e : Some x ≡ None = at in cc)
 none_past (x ∷ xs) (suc k) at = let h : length xs ≤ k = none_past xs k at in omega arith
 
-next_in : (o : Option Row) (s : Station) (next : Option Station) → IfSome o (λ row. FollowsIn row.route.stations.items (Some s) next) → (o ≡ None → next ≡ None)
+next_in : (o : Option TableRow) (s : Station) (next : Option Station) → IfSome o (λ row. FollowsIn row.route.stations.items (Some s) next) → (o ≡ None → next ≡ None)
     → next ≡ option_and_then (λ row. station_behind s row.route.stations.items) o
 next_in None s next known unknown = unknown refl
 next_in (Some row) s next known unknown = follows_is row.route.stations.items s next known
 
 -- what the table answers is the next station
-pub next_is : (rows : List Row) (s : Station) (item : Item) (next : Option Station)
+pub next_is : (rows : List TableRow) (s : Station) (item : Item) (next : Option Station)
     → IfSome (slice_get rows item.route.0) (λ row. FollowsIn row.route.stations.items (Some s) next) → (length rows ≤ item.route.0 → next ≡ None)
     → next_station rows s item ≡ next
 next_is rows s item next known unknown = sym (next_in (slice_get rows item.route.0) s next known (λ e. unknown (none_past rows item.route.0 e)))
@@ -71,9 +71,9 @@ each_at P (y ∷ xs) zero x all at = subst P (same_Some y x at) all.0
 each_at P (y ∷ xs) (suc k) x all at = each_at P xs k x all.1 at
 
 -- the next station is one of a route, and another
-pub next_passed : (rows : List Row) (s : Station) (item : Item) (t : Station) → next_station rows s item ≡ Some t → IsStationOf rows t
+pub next_passed : (rows : List TableRow) (s : Station) (item : Item) (t : Station) → next_station rows s item ≡ Some t → IsStationOf rows t
 next_passed rows s item t next =
-    option_and_then_some (λ (row : Row). station_behind s row.route.stations.items) (slice_get rows item.route.0) t next
+    option_and_then_some (λ (row : TableRow). station_behind s row.route.stations.items) (slice_get rows item.route.0) t next
     (λ row there behind.
     let at = behind_in row.route.stations.items s t behind in (
       item.route.0,
@@ -84,7 +84,7 @@ next_passed rows s item t next =
     ))
 
 -- and so is what the table answers, for any station or for none
-answered_in : (rows : List Row) (r : ℕ) (after : Option Station) (t : Station) (o : Option Row) → slice_get rows r ≡ o
+answered_in : (rows : List TableRow) (r : ℕ) (after : Option Station) (t : Station) (o : Option TableRow) → slice_get rows r ≡ o
     → (length rows ≤ r → Some t ≡ None) → IfSome o (λ row. FollowsIn row.route.stations.items after (Some t)) → IsStationOf rows t
 answered_in rows r after t None there unknown h = absurd (let e : Some t ≡ None = unknown (none_past rows r there) in cc)
 answered_in rows r None t (Some row) there unknown h = (
@@ -103,17 +103,17 @@ answered_in rows r (Some s) t (Some row) there unknown h =
       (at.0, slice_get_within row.route.stations.items at.0 t at.1, get_or_from_slice_get row.route.stations.items at.0 t t at.1),
     )
 
-pub answered_passed : (rows : List Row) (r : ℕ) (after : Option Station) (t : Station)
+pub answered_passed : (rows : List TableRow) (r : ℕ) (after : Option Station) (t : Station)
     → IfSome (slice_get rows r) (λ row. FollowsIn row.route.stations.items after (Some t)) → (length rows ≤ r → Some t ≡ None) → IsStationOf rows t
 answered_passed rows r after t known unknown = answered_in rows r after t (slice_get rows r) refl unknown known
 
-next_other : (rows : List Row) (s : Station) (item : Item) (t : Station) → IsTable rows → next_station rows s item ≡ Some t → t ≢ s
+next_other : (rows : List TableRow) (s : Station) (item : Item) (t : Station) → IsTable rows → next_station rows s item ≡ Some t → t ≢ s
 next_other rows s item t table next =
-    option_and_then_some (λ (row : Row). station_behind s row.route.stations.items) (slice_get rows item.route.0) t next
-    (λ row there behind. behind_other row.route.stations.items s t (each_at IsPlain rows item.route.0 row table.plain there).stations_once behind)
+    option_and_then_some (λ (row : TableRow). station_behind s row.route.stations.items) (slice_get rows item.route.0) t next
+    (λ row there behind. behind_other row.route.stations.items s t (each_at IsTableRoute rows item.route.0 row table.shown there).stations_once behind)
 
 -- an item that was taken, put at its next station
-pub moves : (rows : List Row) (was is : Forwarding) (old mid new : List (Station × List Item)) (item : Item) (to : Station)
+pub moves : (rows : List TableRow) (was is : Forwarding) (old mid new : List (Station × List Item)) (item : Item) (to : Station)
     → IsTable rows → standing was old ≡ item ∷ waiting mid (Line was.hop) → ChangesOnly old mid (Line was.hop) → is ≡ record { hop = was.hop; held = None }
     → next_station rows (Line was.hop) item ≡ Some to → waiting new to ≡ waiting mid to ++ item ∷ [] → ChangesOnly mid new to
     → Moves rows was old is new

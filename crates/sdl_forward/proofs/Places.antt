@@ -2,10 +2,10 @@
 use Rattle.std.proofs.Common.{◌≡◌, ◌≢◌, ℕ, zero, suc, ◌<◌, ◌+◌, List, [], ◌∷◌, take, Some, None, slice_get, inl, inr, refl, ap, sym, ◌∙◌, subst, arith}
 use Rattle.std.specs.List.{AllByRecursion}
 use Rattle.std.proofs.lemmas.Option.{same_Some}
-use Rattle.sdl_routes.specs.declared.parts.Station.{Station}
-use Rattle.sdl_routes.specs.declared.parts.Station.TheVariants.{Line, Inlet, Outlet}
+use Rattle.sdl_routes.specs.declared.route.Station.{Station}
+use Rattle.sdl_routes.specs.declared.route.Station.TheVariants.{Line, Inlet, Outlet}
 use Rattle.sdl_forward.specs.declared.index.Index.{Index}
-use Rattle.sdl_forward.specs.Boards.{StandsBefore, AreInOrder}
+use Rattle.sdl_forward.specs.Boards.{IsStationBefore, AreStationsInOrder}
 use Rattle.sdl_forward.specs.Index.{place_of, IsIndexOf}
 use Rattle.sdl_forward.proofs.Same.{cases_station}
 
@@ -22,26 +22,26 @@ in_take (y ∷ xs) zero k x lt at = absurd (omega arith)
 in_take (y ∷ xs) (suc n) zero x lt at = at
 in_take (y ∷ xs) (suc n) (suc k) x lt at = in_take xs n k x (omega arith) at
 
-not_before_itself : (s : Station) → StandsBefore s s → ⊥
+not_before_itself : (s : Station) → IsStationBefore s s → ⊥
 not_before_itself (Line h) b = omega arith
 not_before_itself (Inlet n) b = omega arith
 not_before_itself Outlet b = b
 
-later : (s t : Station) (ss : List Station) (k : ℕ) → AllByRecursion (StandsBefore s) ss → slice_get ss k ≡ Some t → StandsBefore s t
+later : (s t : Station) (ss : List Station) (k : ℕ) → AllByRecursion (IsStationBefore s) ss → slice_get ss k ≡ Some t → IsStationBefore s t
 later s t [] k all at = let e : None ≡ Some t = at in cc
-later s t (u ∷ ss) zero all at = subst (StandsBefore s) (same_Some u t at) all.0
+later s t (u ∷ ss) zero all at = subst (IsStationBefore s) (same_Some u t at) all.0
 later s t (u ∷ ss) (suc k) all at = later s t ss k all.1 at
 
-pub one_at : (ss : List Station) (i j : ℕ) (s : Station) → AreInOrder ss → slice_get ss i ≡ Some s → slice_get ss j ≡ Some s → i ≡ j
+pub one_at : (ss : List Station) (i j : ℕ) (s : Station) → AreStationsInOrder ss → slice_get ss i ≡ Some s → slice_get ss j ≡ Some s → i ≡ j
 one_at [] i j s order p q = let e : None ≡ Some s = p in cc
 one_at (u ∷ ss) zero zero s order p q = refl
 one_at (u ∷ ss) zero (suc j) s order p q =
-    absurd (not_before_itself s (later s s ss j (subst (λ (v : Station). AllByRecursion (StandsBefore v) ss) (same_Some u s p) order.0) q))
+    absurd (not_before_itself s (later s s ss j (subst (λ (v : Station). AllByRecursion (IsStationBefore v) ss) (same_Some u s p) order.0) q))
 one_at (u ∷ ss) (suc i) zero s order p q =
-    absurd (not_before_itself s (later s s ss i (subst (λ (v : Station). AllByRecursion (StandsBefore v) ss) (same_Some u s q) order.0) p))
+    absurd (not_before_itself s (later s s ss i (subst (λ (v : Station). AllByRecursion (IsStationBefore v) ss) (same_Some u s q) order.0) p))
 one_at (u ∷ ss) (suc i) (suc j) s order p q = ap suc (one_at ss i j s order.1 p q)
 
-pub index_more : (old new : Index) (ss : List Station) (n : ℕ) (s : Station) → AreInOrder ss → slice_get ss n ≡ Some s → IsIndexOf old (take n ss)
+pub index_more : (old new : Index) (ss : List Station) (n : ℕ) (s : Station) → AreStationsInOrder ss → slice_get ss n ≡ Some s → IsIndexOf old (take n ss)
     → place_of new s ≡ Some n → ((t : Station) → t ≢ s → place_of new t ≡ place_of old t) → IsIndexOf new (take (n + 1) ss)
 index_more old new ss n s order here ok found others = record {
   every = λ t k at.

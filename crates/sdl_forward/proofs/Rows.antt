@@ -2,11 +2,11 @@
 use Rattle.std.proofs.Common.{◌≡◌, ◌≢◌, ℕ, ◌<◌, true, false, List, [], ◌∷◌, ◌++◌, length, Some, None, refl, ap, sym, ◌∙◌, subst, arith}
 use Rattle.std.proofs.lemmas.Option.{same_Some}
 use Rattle.sdl_signal.specs.declared.values.Item.{Item}
-use Rattle.sdl_routes.specs.declared.parts.Hop.{Hop}
-use Rattle.sdl_routes.specs.declared.parts.Row.{Row}
-use Rattle.sdl_routes.specs.declared.parts.Station.{Station}
-use Rattle.sdl_routes.specs.declared.parts.Station.TheVariants.{Line, Inlet, Outlet}
-use Rattle.sdl_forward.specs.Boards.{waiting, AreInOrder}
+use Rattle.sdl_routes.specs.declared.route.Hop.{Hop}
+use Rattle.sdl_routes.specs.declared.route.TableRow.{TableRow}
+use Rattle.sdl_routes.specs.declared.route.Station.{Station}
+use Rattle.sdl_routes.specs.declared.route.Station.TheVariants.{Line, Inlet, Outlet}
+use Rattle.sdl_forward.specs.Boards.{waiting, AreStationsInOrder}
 use Rattle.sdl_forward.specs.Forwards.{Forwarding, station_behind, next_station, Moves, Holds, Rests}
 use Rattle.sdl_forward.proofs.Same.{other_station}
 use Rattle.std.proofs.lemmas.Bool.{cond-false}
@@ -31,10 +31,10 @@ behind_another : station_behind Outlet way ≡ None
 behind_another = refl
 
 -- forth stands before back, and a path before an inlet
-order : AreInOrder (Line (forth 0) ∷ Line record { channel = record { 0 = 0 }; back = true } ∷ Line (forth 1) ∷ inlet ∷ Outlet ∷ [])
+order : AreStationsInOrder (Line (forth 0) ∷ Line record { channel = record { 0 = 0 }; back = true } ∷ Line (forth 1) ∷ inlet ∷ Outlet ∷ [])
 order = ((omega arith, (omega arith, (tt, (tt, tt)))), ((omega arith, (tt, (tt, tt))), ((tt, (tt, tt)), ((tt, tt), (tt, tt)))))
 
-none_twice : AreInOrder (inlet ∷ inlet ∷ []) → ⊥
+none_twice : AreStationsInOrder (inlet ∷ inlet ∷ []) → ⊥
 none_twice o = let lt : 0 < 0 = o.0.0 in omega arith
 
 abbrev board : List Item → List Item → List Item → List (Station × List Item)
@@ -63,7 +63,7 @@ not_second : Line (forth 1) ≢ Line (forth 0)
 not_second e = let n : 1 ≡ 0 = ap number e in omega (arith, n)
 
 -- the front goes to the next path
-row : (rows : List Row) (a b : Item) → next_station rows (Line (forth 0)) a ≡ Some (Line (forth 1)) → Moves rows free (board (a ∷ b ∷ []) [] []) free (board (b ∷ []) (a ∷ []) [])
+row : (rows : List TableRow) (a b : Item) → next_station rows (Line (forth 0)) a ≡ Some (Line (forth 1)) → Moves rows free (board (a ∷ b ∷ []) [] []) free (board (b ∷ []) (a ∷ []) [])
 row rows a b next = record {
   item = a;
   to = Line (forth 1);
@@ -76,7 +76,7 @@ row rows a b next = record {
 }
 
 -- what is held goes before what waits
-held_first : (rows : List Row) (a b : Item) → next_station rows (Line (forth 0)) a ≡ Some (Line (forth 1)) → Moves rows (with a) (board (b ∷ []) [] []) free (board (b ∷ []) (a ∷ []) [])
+held_first : (rows : List TableRow) (a b : Item) → next_station rows (Line (forth 0)) a ≡ Some (Line (forth 1)) → Moves rows (with a) (board (b ∷ []) [] []) free (board (b ∷ []) (a ∷ []) [])
 held_first rows a b next = record {
   item = a;
   to = Line (forth 1);
@@ -97,11 +97,11 @@ second_or d [] = d
 second_or d (x ∷ xs) = first_or d xs
 
 -- none overtakes another
-no_overtaking : (rows : List Row) (a b : Item) → a ≢ b → Moves rows free (board (a ∷ b ∷ []) [] []) free (board (a ∷ []) (b ∷ []) []) → ⊥
+no_overtaking : (rows : List TableRow) (a b : Item) → a ≢ b → Moves rows free (board (a ∷ b ∷ []) [] []) free (board (a ∷ []) (b ∷ []) []) → ⊥
 no_overtaking rows a b apart m = apart (sym (ap (second_or a) m.first))
 
 -- none is lost
-none_lost : (rows : List Row) (a : Item) → next_station rows (Line (forth 0)) a ≡ Some (Line (forth 1)) → Moves rows free (board (a ∷ []) [] []) free (board [] [] []) → ⊥
+none_lost : (rows : List TableRow) (a : Item) → next_station rows (Line (forth 0)) a ≡ Some (Line (forth 1)) → Moves rows free (board (a ∷ []) [] []) free (board [] [] []) → ⊥
 none_lost rows a next m =
     let same : a ≡ m.item = ap (first_or a) m.first in
     let to : Line (forth 1) ≡ m.to = same_Some (Line (forth 1)) m.to (sym next ∙ ap (next_station rows (Line (forth 0))) same ∙ m.next) in

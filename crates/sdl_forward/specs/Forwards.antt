@@ -2,10 +2,10 @@
 use Rattle.std.specs.Prelude.{◌≡◌, ◌≢◌, List, [], ◌∷◌, ◌++◌, Option, Some, None, if◌then◌else◌, slice_get, option_and_then}
 use Rattle.std.specs.Option.{option_to_list}
 use Rattle.sdl_signal.specs.declared.values.Item.{Item}
-use Rattle.sdl_routes.specs.declared.parts.Hop.{Hop}
-use Rattle.sdl_routes.specs.declared.parts.Row.{Row}
-use Rattle.sdl_routes.specs.declared.parts.Station.{Station}
-use Rattle.sdl_routes.specs.declared.parts.Station.TheVariants.{Line}
+use Rattle.sdl_routes.specs.declared.route.Hop.{Hop}
+use Rattle.sdl_routes.specs.declared.route.TableRow.{TableRow}
+use Rattle.sdl_routes.specs.declared.route.Station.{Station}
+use Rattle.sdl_routes.specs.declared.route.Station.TheVariants.{Line}
 use Rattle.sdl_forward.specs.declared.forwarder.Forwarded.{Forwarded}
 use Rattle.sdl_forward.specs.declared.forwarder.Forwarded.TheVariants.{Moved, Idle, Held}
 use Rattle.sdl_forward.specs.Boards.{same_station, waiting, ChangesOnly}
@@ -21,7 +21,7 @@ station_behind s [] = None
 station_behind s (t ∷ stations) = if same_station t s then slice_get stations 0 else station_behind s stations
 
 -- where the item goes from this station, on its route; nowhere where the table has no such route
-abbrev pub next_station : List Row → Station → Item → Option Station
+abbrev pub next_station : List TableRow → Station → Item → Option Station
 next_station rows s item = option_and_then (λ row. station_behind s row.route.stations.items) (slice_get rows item.route.0)
 
 -- at a forwarder's path: the item that it holds, then those that wait
@@ -30,7 +30,7 @@ standing forwarder board = option_to_list forwarder.held ++ waiting board (Line 
 
 -- The item that stood first at the forwarder's path is put at the back of its next station. Nothing is held after, and nothing
 -- else changes.
-pub record Moves (rows : List Row) (was : Forwarding) (old : List (Station × List Item)) (is : Forwarding) (new : List (Station × List Item)) : Type 0 where
+pub record Moves (rows : List TableRow) (was : Forwarding) (old : List (Station × List Item)) (is : Forwarding) (new : List (Station × List Item)) : Type 0 where
   pub item : Item
   pub to : Station
   pub first : standing was old ≡ item ∷ waiting new (Line was.hop)
@@ -55,7 +55,7 @@ pub record Rests (was : Forwarding) (old : List (Station × List Item)) (is : Fo
   pub board : new ≡ old
 
 -- what a step did, by its answer
-abbrev pub Forwards : List Row → Forwarding → List (Station × List Item) → Forwarded → Forwarding → List (Station × List Item) → Type 0
+abbrev pub Forwards : List TableRow → Forwarding → List (Station × List Item) → Forwarded → Forwarding → List (Station × List Item) → Type 0
 Forwards rows was old Moved is new = Moves rows was old is new
 Forwards rows was old Held is new = Holds was old is new
 Forwards rows was old Idle is new = Rests was old is new

@@ -1,8 +1,8 @@
 -- Where the queue of each station stands in the list.
 use Rattle.std.specs.Prelude.{◌≡◌, ℕ, List, Option, Some, None, slice_get, unwrap_or}
 use Rattle.sdl_signal.specs.declared.values.Item.{Item}
-use Rattle.sdl_routes.specs.declared.parts.Station.{Station}
-use Rattle.sdl_routes.specs.declared.parts.Station.TheVariants.{Line, Inlet, Outlet}
+use Rattle.sdl_routes.specs.declared.route.Station.{Station}
+use Rattle.sdl_routes.specs.declared.route.Station.TheVariants.{Line, Inlet, Outlet}
 use Rattle.sdl_routes.specs.Routes.{hop_number}
 use Rattle.sdl_queue.specs.declared.rest.Rest.{Rest}
 use Rattle.sdl_queue.specs.declared.rest.Rest.TheVariants.{Serial}

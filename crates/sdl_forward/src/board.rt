@@ -1,7 +1,7 @@
 //! A board: the queues of all stations, on one thread.
 ghost use Rattle.std.specs.Prelude.{◌≡◌, List, [], ◌∷◌, ◌++◌, Contains, map, IfOk, MatchResult, MatchOption};
 ghost use Rattle.sdl_queue.specs.declared.rest.Rest.TheVariants.{Serial};
-ghost use Rattle.sdl_routes.specs.declared.parts.Station.{Station};
+ghost use Rattle.sdl_routes.specs.declared.route.Station.{Station};
 ghost use Rattle.sdl_forward.specs.Boards.{stations_of, waiting, ChangesOnly, lists_of, IsBoardOf};
 
 use crate::index::Index;
@@ -23,7 +23,7 @@ pub struct Board {
 impl Model for Board {
     ghost use Rattle.std.specs.Prelude.{List};
     ghost use Rattle.sdl_signal.specs.declared.values.Item.{Item};
-    ghost use Rattle.sdl_routes.specs.declared.parts.Station.{Station};
+    ghost use Rattle.sdl_routes.specs.declared.route.Station.{Station};
     ghost use Rattle.sdl_forward.specs.Boards.{stations_of, lists_of};
     ghost use Rattle.sdl_forward.specs.Index.{IsIndexOf, AreSerial};
 

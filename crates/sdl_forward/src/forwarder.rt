@@ -1,6 +1,6 @@
 //! Forwarders: each takes the items of one delaying path and puts each at the next station of its route.
 ghost use Rattle.std.specs.Prelude.{◌≡◌, ◌∷◌, None, MatchOption, option_copied};
-ghost use Rattle.sdl_routes.specs.declared.parts.Station.TheVariants.{Line};
+ghost use Rattle.sdl_routes.specs.declared.route.Station.TheVariants.{Line};
 ghost use Rattle.sdl_forward.specs.Boards.{waiting, ChangesOnly, IsBoardOf};
 ghost use Rattle.sdl_forward.specs.Forwards.{Rests, Forwards, standing};
 

@@ -1,8 +1,8 @@
 //! Where the queue of each station stands.
 ghost use Rattle.std.specs.Prelude.{◌≡◌, ◌≢◌, ℕ, ◌^◌, ◌<◌, OnOk, IfOk};
-ghost use Rattle.sdl_routes.specs.declared.parts.Station.{Station};
+ghost use Rattle.sdl_routes.specs.declared.route.Station.{Station};
 ghost use Rattle.sdl_routes.specs.Routes.{hop_number};
-ghost use Rattle.sdl_forward.specs.Boards.{AreInOrder};
+ghost use Rattle.sdl_forward.specs.Boards.{AreStationsInOrder};
 ghost use Rattle.sdl_forward.specs.Index.{place_at, place_of, IsIndexOf};
 
 use sdl_routes::{Hop, Station};
@@ -31,7 +31,7 @@ impl Index {
 
     /// The place of each of these stations in this list.
     pub(crate) fn of(alloc: Global, stations: &[Station]) -> Result<Index, AllocError>
-        requires { AreInOrder stations.now }
+        requires { AreStationsInOrder stations.now }
         ensures { IfOk result (λ index. IsIndexOf index stations.now) }
     {
         let mut index = Index::new(alloc);

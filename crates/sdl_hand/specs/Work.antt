@@ -3,9 +3,9 @@ use Rattle.std.specs.Prelude.{◌≡◌, ◌≢◌, ℕ, ◌*◌, ◌≤◌, ◌
 use Rattle.std.specs.Option.{option_to_list}
 use Rattle.sdl_signal.specs.declared.values.Pid.{Pid}
 use Rattle.sdl_signal.specs.declared.values.Item.{Item}
-use Rattle.sdl_routes.specs.declared.parts.Row.{Row}
-use Rattle.sdl_routes.specs.declared.parts.Station.{Station}
-use Rattle.sdl_routes.specs.declared.parts.Station.TheVariants as station
+use Rattle.sdl_routes.specs.declared.route.TableRow.{TableRow}
+use Rattle.sdl_routes.specs.declared.route.Station.{Station}
+use Rattle.sdl_routes.specs.declared.route.Station.TheVariants as station
 use Rattle.sdl_behaviour.specs.declared.step.Frame.{Frame}
 use Rattle.sdl_behaviour.specs.declared.step.Step.{Step}
 use Rattle.sdl_instances.specs.declared.event.Event.{Event}
@@ -29,16 +29,16 @@ abbrev pub with_core : Core → Working
 with_core c = record { core = c; kept = None; outgoing = [] }
 
 -- the first station of the item's route; none where the table has no such route
-abbrev pub first_station : List Row → Item → Option Station
+abbrev pub first_station : List TableRow → Item → Option Station
 first_station rows i = option_and_then (λ row. slice_get row.route.stations.items 0) (slice_get rows i.route.0)
 
-abbrev pub is_at : Station → Option Station → Bool
-is_at s None = false
-is_at s (Some x) = same_station x s
+abbrev pub is_station : Station → Option Station → Bool
+is_station s None = false
+is_station s (Some x) = same_station x s
 
 -- those of the items whose routes begin at the station, in order
-abbrev pub beginning_at : List Row → Station → List Item → List Item
-beginning_at rows s items = filter (λ i. is_at s (first_station rows i)) items
+abbrev pub beginning_at : List TableRow → Station → List Item → List Item
+beginning_at rows s items = filter (λ i. is_station s (first_station rows i)) items
 
 -- there is nothing to do: nothing is in hand, and the budget is used, or the inlet is empty and no instance is ready
 pub record IsAtRest (w : Working) (board : List (Station × List Item)) : Type 0 where

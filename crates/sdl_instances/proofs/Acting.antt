@@ -13,23 +13,23 @@ use Rattle.sdl_signal.specs.declared.values.Sort.{Sort}
 use Rattle.sdl_signal.specs.declared.values.Signal.{Signal}
 use Rattle.sdl_signal.specs.declared.values.Item.{Item}
 use Rattle.sdl_signal.specs.declared.values.Origin.{Origin}
-use Rattle.sdl_routes.specs.declared.parts.Row.{Row}
-use Rattle.sdl_routes.specs.declared.parts.Via.{Via}
+use Rattle.sdl_routes.specs.declared.route.TableRow.{TableRow}
+use Rattle.sdl_routes.specs.declared.route.Via.{Via}
 use Rattle.sdl_behaviour.specs.declared.step.Frame.{Frame}
 use Rattle.sdl_behaviour.specs.declared.step.Step.{Step}
 use Rattle.sdl_behaviour.specs.declared.step.Dest.{Dest}
 use Rattle.sdl_behaviour.specs.declared.step.Action.{Action}
 use Rattle.sdl_behaviour.specs.declared.step.Action.TheVariants as action
-use Rattle.sdl_instances.specs.declared.parts.ProcessSet.{ProcessSet}
+use Rattle.sdl_instances.specs.declared.process_set.ProcessSet.{ProcessSet}
 use Rattle.sdl_instances.specs.declared.event.Done.{Done}
 use Rattle.sdl_instances.specs.declared.event.Done.TheVariants as done
 use Rattle.sdl_instances.specs.declared.outputs.Mark.{Mark}
-use Rattle.sdl_processes.specs.Record.{Record, newborn}
+use Rattle.sdl_processes.specs.Record.{Record, created_record}
 use Rattle.sdl_transition.specs.Rules.{Rules, rules_for}
 use Rattle.sdl_instances.specs.Machine.{State, Does, DoesAll, set_of}
 use Rattle.sdl_instances.specs.Run.{IsNumbered, sent_by, waiting}
 use Rattle.sdl_instances.specs.Core.{HasSerial}
-use Rattle.sdl_instances.specs.Living.{StandsAt, HaveSerials, written, born, next_of, CreatesAt, OutputsAs, CanCarryOut, CarriesOut, TakesAt, system_with, mark_after}
+use Rattle.sdl_instances.specs.Living.{StandsAt, HaveSerials, written, with_created, next_of, CreatesAt, OutputsAs, CanCarryOut, CarriesOut, TakesAt, system_with, mark_after}
 use Rattle.sdl_instances.proofs.Creating.{get_append_left}
 
 -- what stands at a place within the list
@@ -92,13 +92,13 @@ waiting_written s place p r t at same =
     let was = ap f (get_or_from_slice_get s.living place (p, r) (p, r) at) in
     omega (arith, moved, was, same)
 
-waiting_born : (s : State) (set : SetId) (vars : List Value) (p : Pid) → waiting (born s set vars p).living ≡ waiting s.living
-waiting_born s set vars p =
+waiting_created : (s : State) (set : SetId) (vars : List Value) (p : Pid) → waiting (with_created s set vars p).living ≡ waiting s.living
+waiting_created s set vars p =
     let f : Pid × Record → ℕ = λ e. length e.1.port in
-    let parts = sum_by-append f s.living ((next_of s set, newborn vars p) ∷ []) in
+    let parts = sum_by-append f s.living ((next_of s set, created_record vars p) ∷ []) in
     omega (arith, parts)
 
-module _ (may : ℕ → Frame → Step → Type 0) (sets : List ProcessSet) (routes : List Row) (rules : List Rules) (place : ℕ) (m : Mark) where
+module _ (may : ℕ → Frame → Step → Type 0) (sets : List ProcessSet) (routes : List TableRow) (rules : List Rules) (place : ℕ) (m : Mark) where
   -- an output changes nothing
   does_output : (signal : Signal) (d : Dest) (v : Via) (x : Done) (s : State) (p : Pid) (r : Record) (signals : List (List Sort)) → StandsAt s place p r
       → OutputsAs routes p r signal d v m x → Does may (TakesAt routes m.pick) (system_with signals sets routes rules) p s (action.Output signal d v) x s
@@ -143,10 +143,10 @@ module _ (may : ℕ → Frame → Step → Type 0) (sets : List ProcessSet) (rou
   )
   does_create set own (pid.Inst other serial) old new p r signals is at (room, next, after) =
       let q = pid.Inst other serial in
-      let mid = born old set own.vars p in (
+      let mid = with_created old set own.vars p in (
         r,
         mid,
-        record { room = room; serial = next; rules = own; rules_are = is; living = ap (λ (x : Pid). old.living ++ (x, newborn own.vars p) ∷ []) (sym next); last = refl },
+        record { room = room; serial = next; rules = own; rules_are = is; living = ap (λ (x : Pid). old.living ++ (x, created_record own.vars p) ∷ []) (sym next); last = refl },
         record { place = place; was = get_append_left old.living _ place (p, r) at; living = ap (λ (s : State). s.living) after; last = ap (λ (s : State). s.last) after },
       )
   does_create set own pid.Env old new p r signals is at h = absurd h
@@ -161,11 +161,11 @@ module _ (may : ℕ → Frame → Step → Type 0) (sets : List ProcessSet) (rou
       )
   stands_after set vars (pid.Inst other serial) old new p r at (room, next, after) =
       let t : Record = record r { offspring = pid.Inst other serial } in
-      let mid = born old set vars p in
-      let here = get_append_left old.living ((next_of old set, newborn vars p) ∷ []) place (p, r) at in (
+      let mid = with_created old set vars p in
+      let here = get_append_left old.living ((next_of old set, created_record vars p) ∷ []) place (p, r) at in (
         t,
         ap (λ (s : State). slice_get s.living place) after ∙ get_written mid.living place (p, t) (slice_get_within mid.living place (p, r) here),
-        ap (λ (s : State). waiting s.living) after ∙ waiting_written mid place p r t here refl ∙ waiting_born old set vars p,
+        ap (λ (s : State). waiting s.living) after ∙ waiting_written mid place p r t here refl ∙ waiting_created old set vars p,
       )
   stands_after set vars pid.Env old new p r at h = absurd h
 
@@ -190,20 +190,20 @@ module _ (may : ℕ → Frame → Step → Type 0) (sets : List ProcessSet) (rou
 pub written_serials : (s : State) (place : ℕ) (p : Pid) (r t : Record) → StandsAt s place p r → HaveSerials s → HaveSerials (written s place p t)
 written_serials s place p r t at h = All-set (λ (e : Pid × Record). HasSerial s.last e.0) s.living place (p, t) (serial_at s place p r h at) h
 
-born_serials : (s : State) (set : SetId) (vars : List Value) (p : Pid) → set.0 < length s.last → HaveSerials s → HaveSerials (born s set vars p)
-born_serials s set vars p within h =
+created_serials : (s : State) (set : SetId) (vars : List Value) (p : Pid) → set.0 < length s.last → HaveSerials s → HaveSerials (with_created s set vars p)
+created_serials s set vars p within h =
     let last = slice_set s.last set.0 (slice_index s.last set.0 + 1) in
     let P : Pid × Record → Type 0 = λ e. HasSerial last e.0 in
     let same : length last ≡ length s.last = length-set s.last set.0 (slice_index s.last set.0 + 1) in
     let now : slice_index last set.0 ≡ slice_index s.last set.0 + 1 = at_grown s.last set.0 within in
-    All-push P s.living (next_of s set, newborn vars p)
+    All-push P s.living (next_of s set, created_record vars p)
     (All-weaker (λ (e : Pid × Record). HasSerial s.last e.0) P (λ e k. grown s.last set.0 e.0 k) s.living h)
     (omega (arith, within, same), omega arith, omega (arith, now))
 
 module _ (sets : List ProcessSet) (place : ℕ) (set : SetId) (vars : List Value) (within : set.0 < length sets) where
-  ready_by : (q : Pid) (old new : State) (n births left : ℕ) → CanCarryOut sets place (n + 1) births old → births < left + 2
+  ready_by : (q : Pid) (old new : State) (n creatable left : ℕ) → CanCarryOut sets place (n + 1) creatable old → creatable < left + 2
       → (p : Pid) (r : Record) → StandsAt old place p r → CreatesAt sets place p r set vars q old new → CanCarryOut sets place n left new
-  ready_by pid.Null old new n births left h kept p r at (full, after) =
+  ready_by pid.Null old new n creatable left h kept p r at (full, after) =
       let t : Record = record r { offspring = pid.Null } in
       let same : length (slice_set old.living place (p, t)) ≡ length old.living = length-set old.living place (p, t) in
       let room = h.room in
@@ -214,28 +214,28 @@ module _ (sets : List ProcessSet) (place : ℕ) (set : SetId) (vars : List Value
         few = All-weaker (λ k. k + (n + 1) < 2 ^ 32) (λ k. k + n < 2 ^ 32) (λ k lt. omega (arith, lt)) old.last h.few;
         room = omega (arith, room, kept);
       })
-  ready_by (pid.Inst other serial) old new n births left h kept p r at (free, next, after) =
+  ready_by (pid.Inst other serial) old new n creatable left h kept p r at (free, next, after) =
       let t : Record = record r { offspring = pid.Inst other serial } in
-      let mid = born old set vars p in
-      let here = get_append_left old.living ((next_of old set, newborn vars p) ∷ []) place (p, r) at in
+      let mid = with_created old set vars p in
+      let here = get_append_left old.living ((next_of old set, created_record vars p) ∷ []) place (p, r) at in
       let last_within : set.0 < length old.last = (let e = h.last in omega (arith, within, e)) in
       let same : length (slice_set mid.living place (p, t)) ≡ length mid.living = length-set mid.living place (p, t) in
       let room = h.room in
       subst (CanCarryOut sets place n left) (sym after) (record {
         within = (let w = slice_get_within mid.living place (p, r) here in omega (arith, w, same));
-        serials = written_serials mid place p r t here (born_serials old set vars p last_within h.serials);
+        serials = written_serials mid place p r t here (created_serials old set vars p last_within h.serials);
         last = length-set old.last set.0 (slice_index old.last set.0 + 1) ∙ h.last;
         few = few_grown old.last set.0 n (2 ^ 32) last_within h.few;
         room = omega (arith, room, kept);
       })
-  ready_by pid.Env old new n births left h kept p r at c = absurd c
+  ready_by pid.Env old new n creatable left h kept p r at c = absurd c
 
-  pub create_ready : (q : Pid) (old new : State) (n births left : ℕ) → CanCarryOut sets place (n + 1) births old → births < left + 2
+  pub create_ready : (q : Pid) (old new : State) (n creatable left : ℕ) → CanCarryOut sets place (n + 1) creatable old → creatable < left + 2
       → ((p : Pid) (r : Record) → StandsAt old place p r → CreatesAt sets place p r set vars q old new)
       → CanCarryOut sets place n left new
-  create_ready q old new n births left h kept creates =
+  create_ready q old new n creatable left h kept creates =
       let here = standing old place h.within in
-      ready_by q old new n births left h kept here.0 here.1 here.2 (creates here.0 here.1 here.2)
+      ready_by q old new n creatable left h kept here.0 here.1 here.2 (creates here.0 here.1 here.2)
 
 -- the next mark, and what is numbered from it on
 pub numbered_on : (m : Mark) (x : Done) (ds : List Done) → IsNumbered m.origin.worker m.origin.number (x ∷ [])
@@ -273,7 +273,7 @@ number_after m (done.Sent i) = omega arith
 number_after m (done.NoRoute o id) = omega arith
 number_after m (done.Made q) = omega arith
 
-module _ (may : ℕ → Frame → Step → Type 0) (sets : List ProcessSet) (routes : List Row) (rules : List Rules) (place : ℕ) where
+module _ (may : ℕ → Frame → Step → Type 0) (sets : List ProcessSet) (routes : List TableRow) (rules : List Rules) (place : ℕ) where
   pub carries_none : (m : Mark) (before : List Done) (s : State) → CarriesOut may sets routes rules place m [] before before s s
   carries_none m before s =
       record {

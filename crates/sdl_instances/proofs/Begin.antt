@@ -6,13 +6,13 @@ use Rattle.sdl_signal.specs.declared.ids.SetId.{SetId}
 use Rattle.sdl_signal.specs.declared.ids.BlockId.{BlockId}
 use Rattle.sdl_signal.specs.declared.values.Pid.TheVariants as pid
 use Rattle.sdl_signal.specs.declared.values.Sort.{Sort}
-use Rattle.sdl_routes.specs.declared.parts.Row.{Row}
+use Rattle.sdl_routes.specs.declared.route.TableRow.{TableRow}
 use Rattle.sdl_behaviour.specs.declared.step.Frame.{Frame}
 use Rattle.sdl_behaviour.specs.declared.step.Step.{Step}
 use Rattle.sdl_transition.specs.Offers.{IsLegalValue}
-use Rattle.sdl_instances.specs.declared.parts.ProcessSet.{ProcessSet}
+use Rattle.sdl_instances.specs.declared.process_set.ProcessSet.{ProcessSet}
 use Rattle.sdl_transition.specs.Rules.{Rules, rules_for}
-use Rattle.sdl_processes.specs.Record.{newborn}
+use Rattle.sdl_processes.specs.Record.{created_record}
 use Rattle.sdl_instances.specs.Machine.{System}
 use Rattle.sdl_instances.specs.Run.{first_instances, initial_of, initial_in, initial_instances, initial}
 use Rattle.sdl_instances.specs.Core.{Core, IsSound, IsBoundIn, AreRulesIn, IsLegalInstance, IsLegalIn, system_of}
@@ -35,7 +35,7 @@ first_legal : (sys : System) (last : List ℕ) (n : ℕ) (r : Rules) → rules_f
     → (k : ℕ) → k ≤ slice_index last n → AllByRecursion (IsLegalInstance sys last) (first_instances (record { 0 = n }) r.vars k)
 first_legal sys last n r own values within zero few = tt
 first_legal sys last n r own values within (suc k) few =
-    all_append (IsLegalInstance sys last) (first_instances (record { 0 = n }) r.vars k) ((pid.Inst (record { 0 = n }) (suc k), newborn r.vars pid.Null) ∷ [])
+    all_append (IsLegalInstance sys last) (first_instances (record { 0 = n }) r.vars k) ((pid.Inst (record { 0 = n }) (suc k), created_record r.vars pid.Null) ∷ [])
     (first_legal sys last n r own values within k (omega (arith, few))) (
       record {
         rules = (r, own, refl);
@@ -87,7 +87,7 @@ length_map : (f : ProcessSet → ℕ) (xs : List ProcessSet) → length (map f x
 length_map f [] = refl
 length_map f (x ∷ xs) = omega (arith, length_map f xs)
 
-pub initial_sound : (may : ℕ → Frame → Step → Type 0) (routes : List Row) (rules : List Rules) (signals : List (List Sort)) (sets : List ProcessSet) (block : BlockId) (budget : ℕ)
+pub initial_sound : (may : ℕ → Frame → Step → Type 0) (routes : List TableRow) (rules : List Rules) (signals : List (List Sort)) (sets : List ProcessSet) (block : BlockId) (budget : ℕ)
     → IsBoundIn signals sets rules block → budget ≤ 1000000
     → IsSound may (record { signals = signals; sets = sets; routes = routes; rules = rules }) (record { block = block; signals = signals; sets = sets; state = initial rules sets block; log = []; budget = budget })
 initial_sound may routes rules signals sets block budget bound few =
@@ -106,7 +106,7 @@ initial_sound may routes rules signals sets block budget bound few =
     }
 
 -- the same of a core that is known by its parts
-pub sound_at_first : (may : ℕ → Frame → Step → Type 0) (routes : List Row) (rules : List Rules) (signals : List (List Sort)) (sets : List ProcessSet) (block : BlockId) (budget : ℕ) (c : Core)
+pub sound_at_first : (may : ℕ → Frame → Step → Type 0) (routes : List TableRow) (rules : List Rules) (signals : List (List Sort)) (sets : List ProcessSet) (block : BlockId) (budget : ℕ) (c : Core)
     → IsBoundIn signals sets rules block → budget ≤ 1000000
     → c ≡ record { block = block; signals = signals; sets = sets; state = initial rules sets block; log = []; budget = budget }
     → IsSound may (system_of c routes rules) c

@@ -4,7 +4,7 @@ use Rattle.std.specs.List.{flat_map, AllByRecursion}
 use Rattle.sdl_signal.specs.declared.values.Pid.{Pid}
 use Rattle.sdl_signal.specs.declared.values.Value.{Value}
 use Rattle.sdl_signal.specs.declared.values.Item.{Item}
-use Rattle.sdl_routes.specs.declared.parts.Row.{Row}
+use Rattle.sdl_routes.specs.declared.route.TableRow.{TableRow}
 use Rattle.sdl_behaviour.specs.declared.step.Frame.{Frame}
 use Rattle.sdl_behaviour.specs.declared.step.Step.{Step}
 use Rattle.sdl_behaviour.specs.declared.step.Next.{Next}
@@ -31,7 +31,7 @@ finishes_is place p r vars next_is.Stop stopped old new at (some, is) =
     subst (λ (o : Option ℕ). Finishes p old vars next_is.Stop o new) (sym some)
     (r, record { place = place; was = at; living = ap (λ (s : State). s.living) is; last = ap (λ (s : State). s.last) is }, refl)
 
-pub completes : (may : ℕ → Frame → Step → Type 0) (old : Core) (routes : List Row) (rules : List Rules) (pick place : ℕ) (p : Pid) (t : Trigger) (frame : Frame) (step : Step) (m : Mark) (did : List Done) (mid : State) (stopped : Option ℕ) (hand : List Item) (new : Core) (r : Record)
+pub completes : (may : ℕ → Frame → Step → Type 0) (old : Core) (routes : List TableRow) (rules : List Rules) (pick place : ℕ) (p : Pid) (t : Trigger) (frame : Frame) (step : Step) (m : Mark) (did : List Done) (mid : State) (stopped : Option ℕ) (hand : List Item) (new : Core) (r : Record)
     → StandsAt old.state place p r
     → m.origin.worker ≡ old.block.0 → m.origin.number ≡ length (origins old.log) → m.stamp ≡ next_stamp (arrived old.log) → m.pick ≡ pick
     → CarriesOut may old.sets routes rules place m step.actions.items [] did old.state mid

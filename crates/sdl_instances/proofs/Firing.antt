@@ -18,7 +18,7 @@ use Rattle.sdl_behaviour.specs.declared.step.Action.{Action}
 use Rattle.sdl_behaviour.specs.declared.step.Action.TheVariants as action
 use Rattle.sdl_transition.specs.Offers.{Conforms, IsActionOf}
 use Rattle.sdl_transition.specs.Rules.{Rule, Rules, rules_for, row_for}
-use Rattle.sdl_instances.specs.declared.parts.ProcessSet.{ProcessSet}
+use Rattle.sdl_instances.specs.declared.process_set.ProcessSet.{ProcessSet}
 use Rattle.sdl_instances.specs.declared.event.Event.TheVariants as event
 use Rattle.sdl_instances.specs.declared.event.Trigger.{Trigger}
 use Rattle.sdl_instances.specs.declared.event.Trigger.TheVariants as trigger
@@ -83,8 +83,8 @@ module _ (may : ℕ → Frame → Step → Type 0) (sys : System) (c : Core) (so
   rules_of_place place p r set at own = (let rules = rules_at_place place p r at in (rules.0, sym (rules_of_set sys p set own) ∙ rules.1))
 
   -- serial numbers are few enough for another turn
-  pub ready_at_place : (place births : ℕ) → place < length c.state.living → 8 ≤ births → CanCarryOut sys.sets place 8 births c.state
-  ready_at_place place births within room =
+  pub ready_at_place : (place creatable : ℕ) → place < length c.state.living → 8 ≤ creatable → CanCarryOut sys.sets place 8 creatable c.state
+  ready_at_place place creatable within room =
       record {
         within = within;
         serials = have_serials;
@@ -113,8 +113,8 @@ module _ (may : ℕ → Frame → Step → Type 0) (sys : System) (c : Core) (so
       (All-weaker (IsActionOf offer) (CanAct sys.sets sys.rules) (can_act values offer offered) step.actions.items (conforms offer step h).actions)
 
 -- what is left of it after a signal was consumed
-pub ready_consumed : (sets : List ProcessSet) (place count births left : ℕ) (old : State) (p : Pid) (r t : Record) (new : State) → StandsAt old place p r → CanCarryOut sets place count births old → new ≡ written old place p t → left ≡ births → CanCarryOut sets place count left new
-ready_consumed sets place count births left old p r t new at h is room =
+pub ready_consumed : (sets : List ProcessSet) (place count creatable left : ℕ) (old : State) (p : Pid) (r t : Record) (new : State) → StandsAt old place p r → CanCarryOut sets place count creatable old → new ≡ written old place p t → left ≡ creatable → CanCarryOut sets place count left new
+ready_consumed sets place count creatable left old p r t new at h is room =
     let same : length (slice_set old.living place (p, t)) ≡ length old.living = length-set old.living place (p, t) in
     subst (CanCarryOut sets place count left) (sym is) (record {
       within = (let w = h.within in omega (arith, w, same));

@@ -12,7 +12,8 @@ use Rattle.sdl_signal.specs.declared.values.Signal.{Signal}
 use Rattle.sdl_signal.specs.declared.values.Item.{Item}
 use Rattle.sdl_behaviour.specs.declared.offer.Offer.{Offer}
 use Rattle.sdl_behaviour.specs.declared.offer.SignalSorts.{SignalSorts}
-use Rattle.sdl_transition.specs.Offers.{sort_of, IsLegalPid, IsTriggerOf, IsFrameOf}
+use Rattle.sdl_transition.specs.Offers.{IsLegalPid, IsTriggerOf, IsFrameOf}
+use Rattle.sdl_signal.specs.Sorts.{sort_of}
 use Rattle.sdl_processes.specs.Record.{Record, consumed}
 use Rattle.sdl_transition.specs.Rules.{Rule, RowRule, Rules, row_for}
 use Rattle.sdl_instances.specs.Machine.{System, rules_at, frame_of}

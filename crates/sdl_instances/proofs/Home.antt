@@ -11,8 +11,8 @@ use Rattle.sdl_signal.specs.declared.values.Pid.{Pid}
 use Rattle.sdl_signal.specs.declared.values.Pid.TheVariants as pid
 use Rattle.sdl_signal.specs.declared.values.Value.{Value}
 use Rattle.sdl_signal.specs.declared.values.Item.{Item}
-use Rattle.sdl_routes.specs.declared.parts.Row.{Row}
-use Rattle.sdl_routes.specs.declared.parts.Source.TheVariants as source
+use Rattle.sdl_routes.specs.declared.route.TableRow.{TableRow}
+use Rattle.sdl_routes.specs.declared.route.Source.TheVariants as source
 use Rattle.sdl_behaviour.specs.declared.step.Frame.{Frame}
 use Rattle.sdl_behaviour.specs.declared.step.Step.{Step}
 use Rattle.sdl_behaviour.specs.declared.step.Action.{Action}
@@ -21,7 +21,7 @@ use Rattle.sdl_behaviour.specs.declared.step.Next.{Next}
 use Rattle.sdl_behaviour.specs.declared.step.Next.TheVariants as next_is
 use Rattle.sdl_behaviour.specs.declared.offer.Offer.{Offer}
 use Rattle.sdl_transition.specs.Offers.{IsActionOf}
-use Rattle.sdl_instances.specs.declared.parts.ProcessSet.{ProcessSet}
+use Rattle.sdl_instances.specs.declared.process_set.ProcessSet.{ProcessSet}
 use Rattle.sdl_instances.specs.declared.event.Cause.TheVariants as cause
 use Rattle.sdl_instances.specs.declared.event.Done.{Done}
 use Rattle.sdl_instances.specs.declared.event.Done.TheVariants as done
@@ -31,7 +31,7 @@ use Rattle.sdl_instances.specs.declared.event.Trigger.{Trigger}
 use Rattle.sdl_instances.specs.declared.event.Trigger.TheVariants as trigger
 use Rattle.sdl_processes.specs.Record.{Record, consumed}
 use Rattle.sdl_transition.specs.Rules.{Rule, Rules, rules_for}
-use Rattle.sdl_instances.specs.Machine.{State, System, FitsAt, Becomes, Leaves, Does, DoesAll, Finishes, Transits, Turns, IsBorn, set_of, next_any, next_at}
+use Rattle.sdl_instances.specs.Machine.{State, System, FitsAt, Becomes, Leaves, Does, DoesAll, Finishes, Transits, Turns, IsCreated, set_of, next_any, next_at}
 use Rattle.sdl_instances.specs.Run.{IsRun, Leads, first_instances, initial_of, initial_in, initial_instances, initial, done_in, sent, sent_by}
 use Rattle.sdl_instances.specs.Core.{Core, IsSound, IsBoundIn, IsOfferIn}
 use Rattle.sdl_instances.proofs.Initial.{all_append}
@@ -47,9 +47,9 @@ IsHome sets block p =
     (set : SetId) × (serial : ℕ) × (d : ProcessSet) × (p ≡ pid.Inst set serial) × (slice_get sets set.0 ≡ Some d) × (d.block ≡ block)
 
 -- the item's sender is an instance of a set of the block, and its route starts at that set
-abbrev pub IsFromBlock : List ProcessSet → List Row → BlockId → Item → Type 0
+abbrev pub IsFromBlock : List ProcessSet → List TableRow → BlockId → Item → Type 0
 IsFromBlock sets routes block i =
-    (set : SetId) × (serial : ℕ) × (d : ProcessSet) × (row : Row) × (i.sender ≡ pid.Inst set serial) × (slice_get sets set.0 ≡ Some d) × (d.block ≡ block)
+    (set : SetId) × (serial : ℕ) × (d : ProcessSet) × (row : TableRow) × (i.sender ≡ pid.Inst set serial) × (slice_get sets set.0 ≡ Some d) × (d.block ≡ block)
     × (slice_get routes i.route.0 ≡ Some row) × (row.source ≡ source.Set set)
 
 same_set : (set own : SetId) (serial : ℕ) (p : Pid) → set_of p ≡ Some set → p ≡ pid.Inst own serial → set ≡ own
@@ -88,11 +88,11 @@ module _ (may : ℕ → Frame → Step → Type 0) (sys : System) (block : Block
         (λ c. ∥∥₁_elim (All-contains (λ (s : SetId). ∥ ((x : ProcessSet) × (slice_get sys.sets s.0 ≡ Some x) × (x.block ≡ block)) ∥₁) offer.creates.items set offered.creates c) (hlevel props)
         (λ (x, same, is). ap (λ (y : ProcessSet). y.block) (some_same d x (sym at ∙ same)) ∙ is))
 
-    born_home : (set : SetId) (q : Pid) (old mid : State) → AreHome old → ∥ Contains offer.creates.items set ∥₁ → IsBorn sys set p q old mid → AreHome mid
-    born_home set q old mid h of born =
-        let (d, at, room) = born.room in
-        let child : IsHome sys.sets block q = (set, _, d, born.serial, at, created set d at of) in
-        rw born.living (All-append IsEntryHome old.living _ h (All-cons IsEntryHome _ [] child (All-nil IsEntryHome)))
+    created_home : (set : SetId) (q : Pid) (old mid : State) → AreHome old → ∥ Contains offer.creates.items set ∥₁ → IsCreated sys set p q old mid → AreHome mid
+    created_home set q old mid h of creation =
+        let (d, at, room) = creation.room in
+        let child : IsHome sys.sets block q = (set, _, d, creation.serial, at, created set d at of) in
+        rw creation.living (All-append IsEntryHome old.living _ h (All-cons IsEntryHome _ [] child (All-nil IsEntryHome)))
 
     does_home : (old : State) (a : Action) (d : Done) (new : State) → AreHome old → IsActionOf offer a → Does may (FitsAt sys.routes) sys p old a d new → AreHome new × All (IsFromBlock sys.sets sys.routes block) (sent_by d)
     does_home old (action.Output signal to via) (done.Sent i) new h of (set, own, r, lives, sent, same) =
@@ -105,8 +105,8 @@ module _ (may : ℕ → Frame → Step → Type 0) (sys : System) (block : Block
         (subst AreHome (sym same) h, All-nil (IsFromBlock sys.sets sys.routes block))
     does_home old (action.Create set) (done.Made pid.Null) new h of (full, (r, became)) =
         (becomes_home old new p r (record r { offspring = pid.Null }) h became, All-nil (IsFromBlock sys.sets sys.routes block))
-    does_home old (action.Create set) (done.Made (pid.Inst own serial)) new h of (r, mid, born, became) =
-        (becomes_home mid new p r (record r { offspring = pid.Inst own serial }) (born_home set (pid.Inst own serial) old mid h of born) became, All-nil (IsFromBlock sys.sets sys.routes block))
+    does_home old (action.Create set) (done.Made (pid.Inst own serial)) new h of (r, mid, creation, became) =
+        (becomes_home mid new p r (record r { offspring = pid.Inst own serial }) (created_home set (pid.Inst own serial) old mid h of creation) became, All-nil (IsFromBlock sys.sets sys.routes block))
     does_home old (action.Create set) (done.Made pid.Env) new h of did = absurd did
     does_home old (action.Output signal to via) (done.Made q) new h of did = absurd did
     does_home old (action.Create set) (done.Sent i) new h of did = absurd did

@@ -12,8 +12,8 @@ use Rattle.sdl_signal.specs.declared.ids.BlockId.{BlockId}
 use Rattle.sdl_signal.specs.declared.values.Pid.{Pid}
 use Rattle.sdl_signal.specs.declared.values.Pid.TheVariants as pid
 use Rattle.sdl_signal.specs.declared.values.Value.{Value}
-use Rattle.sdl_instances.specs.declared.parts.ProcessSet.{ProcessSet}
-use Rattle.sdl_processes.specs.Record.{Record, newborn}
+use Rattle.sdl_instances.specs.declared.process_set.ProcessSet.{ProcessSet}
+use Rattle.sdl_processes.specs.Record.{Record, created_record}
 use Rattle.sdl_transition.specs.Rules.{Rules, rules_for}
 use Rattle.sdl_processes.specs.Places.{is_of}
 use Rattle.sdl_instances.specs.Run.{first_instances, initial_of, initial_in, initial_instances, waiting}
@@ -55,25 +55,25 @@ lower set n m lt =
 first_lower : (set : SetId) (vars : List Value) (n m : ℕ) → n < m → AllByRecursion (λ e. same (pid.Inst set m) e.0 ≡ false) (first_instances set vars n)
 first_lower set vars zero m lt = tt
 first_lower set vars (suc n) m lt =
-    all_append (λ (e : Pid × Record). same (pid.Inst set m) e.0 ≡ false) (first_instances set vars n) ((pid.Inst set (suc n), newborn vars pid.Null) ∷ [])
+    all_append (λ (e : Pid × Record). same (pid.Inst set m) e.0 ≡ false) (first_instances set vars n) ((pid.Inst set (suc n), created_record vars pid.Null) ∷ [])
     (first_lower set vars n m (omega (arith, lt))) (lower set m (suc n) lt, tt)
 
 -- one more of the first instances goes last
 insert_first-suc : (old es : List (Pid × Record)) (set : SetId) (vars : List Value) (n : ℕ) → AllByRecursion (λ e. is_of set e.0 ≡ false) old → es ≡ old ++ first_instances set vars n
-    → insert_entry same es (pid.Inst set (suc n)) (newborn vars pid.Null) ≡ old ++ first_instances set vars (suc n)
+    → insert_entry same es (pid.Inst set (suc n)) (created_record vars pid.Null) ≡ old ++ first_instances set vars (suc n)
 insert_first-suc old es set vars n h is =
     let k = pid.Inst set (suc n) in
     let others = all_map (λ (e : Pid × Record). is_of set e.0 ≡ false) (λ e. same k e.0 ≡ false) (λ e. other_set set (suc n) e.0) old h in
     let absent = all_append (λ (e : Pid × Record). same k e.0 ≡ false) old (first_instances set vars n) others (first_lower set vars n (suc n) (omega arith)) in
-    ap (λ l. insert_entry same l k (newborn vars pid.Null)) is
-    ∙ insert_new (old ++ first_instances set vars n) k (newborn vars pid.Null) absent
-    ∙ append_assoc old (first_instances set vars n) ((k, newborn vars pid.Null) ∷ [])
+    ap (λ l. insert_entry same l k (created_record vars pid.Null)) is
+    ∙ insert_new (old ++ first_instances set vars n) k (created_record vars pid.Null) absent
+    ∙ append_assoc old (first_instances set vars n) ((k, created_record vars pid.Null) ∷ [])
 
 pub insert_first : (old es : List (Pid × Record)) (set : SetId) (vars : List Value) (n : ℕ) → AllByRecursion (λ e. is_of set e.0 ≡ false) old → es ≡ old ++ first_instances set vars n
-    → insert_entry same es (pid.Inst set (n + 1)) (newborn vars pid.Null) ≡ old ++ first_instances set vars (n + 1)
+    → insert_entry same es (pid.Inst set (n + 1)) (created_record vars pid.Null) ≡ old ++ first_instances set vars (n + 1)
 insert_first old es set vars n h is =
     let one : suc n ≡ n + 1 = omega arith in
-    subst (λ k. insert_entry same es (pid.Inst set k) (newborn vars pid.Null) ≡ old ++ first_instances set vars k) one (insert_first-suc old es set vars n h is)
+    subst (λ k. insert_entry same es (pid.Inst set k) (created_record vars pid.Null) ≡ old ++ first_instances set vars k) one (insert_first-suc old es set vars n h is)
 
 -- the sets so far are below the next
 abbrev pub IsBelow : ℕ → Pid × Record → Type 0
@@ -91,7 +91,7 @@ below_others n es h = all_map (IsBelow n) (λ e. is_of (record { 0 = n }) e.0 �
 first_below : (n : ℕ) (vars : List Value) (k : ℕ) → AllByRecursion (IsBelow (suc n)) (first_instances (record { 0 = n }) vars k)
 first_below n vars zero = tt
 first_below n vars (suc k) =
-    all_append (IsBelow (suc n)) (first_instances (record { 0 = n }) vars k) ((pid.Inst (record { 0 = n }) (suc k), newborn vars pid.Null) ∷ []) (first_below n vars k) (omega arith, tt)
+    all_append (IsBelow (suc n)) (first_instances (record { 0 = n }) vars k) ((pid.Inst (record { 0 = n }) (suc k), created_record vars pid.Null) ∷ []) (first_below n vars k) (omega arith, tt)
 
 less_below : (n : ℕ) (p : Pid) (r : Record) → IsBelow n (p, r) → IsBelow (suc n) (p, r)
 less_below n pid.Null r h = h
@@ -140,7 +140,7 @@ waiting-append xs ys a b = let e = sum_by-append (λ (e : Pid × Record). length
 
 first_waiting : (set : SetId) (vars : List Value) (n : ℕ) → waiting (first_instances set vars n) ≡ 0
 first_waiting set vars zero = refl
-first_waiting set vars (suc n) = waiting-append (first_instances set vars n) ((pid.Inst set (suc n), newborn vars pid.Null) ∷ []) (first_waiting set vars n) refl
+first_waiting set vars (suc n) = waiting-append (first_instances set vars n) ((pid.Inst set (suc n), created_record vars pid.Null) ∷ []) (first_waiting set vars n) refl
 
 pub initial_waiting : (block : BlockId) (rules : List Rules) (m : ℕ) (ds : List ProcessSet) → waiting (initial_instances block rules m ds) ≡ 0
 initial_waiting block rules m [] = refl

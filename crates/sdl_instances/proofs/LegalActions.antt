@@ -12,7 +12,7 @@ use Rattle.sdl_signal.specs.declared.values.Sort.{Sort}
 use Rattle.sdl_signal.specs.declared.values.Value.{Value}
 use Rattle.sdl_signal.specs.declared.values.Signal.{Signal}
 use Rattle.sdl_signal.specs.declared.values.Item.{Item}
-use Rattle.sdl_routes.specs.declared.parts.Via.{Via}
+use Rattle.sdl_routes.specs.declared.route.Via.{Via}
 use Rattle.sdl_behaviour.specs.declared.step.Frame.{Frame}
 use Rattle.sdl_behaviour.specs.declared.step.Step.{Step}
 use Rattle.sdl_behaviour.specs.declared.step.Dest.{Dest}
@@ -21,7 +21,8 @@ use Rattle.sdl_behaviour.specs.declared.step.Action.{Action}
 use Rattle.sdl_behaviour.specs.declared.step.Action.TheVariants as action
 use Rattle.sdl_behaviour.specs.declared.offer.Offer.{Offer}
 use Rattle.sdl_behaviour.specs.declared.offer.OfferedOutput.{OfferedOutput}
-use Rattle.sdl_transition.specs.Offers.{sort_of, IsLegalPid, IsLegalValue, IsLegalDest, IsOfferedAs, IsActionOf}
+use Rattle.sdl_transition.specs.Offers.{IsLegalPid, IsLegalValue, IsLegalDest, IsOfferedAs, IsActionOf}
+use Rattle.sdl_signal.specs.Sorts.{sort_of}
 use Rattle.sdl_processes.specs.Record.{Record}
 use Rattle.sdl_instances.specs.declared.event.Done.{Done}
 use Rattle.sdl_instances.specs.declared.event.Done.TheVariants as done
@@ -29,7 +30,7 @@ use Rattle.sdl_instances.specs.Machine.{State, System, FitsAt, Does, DoesAll, ad
 use Rattle.sdl_instances.specs.Run.{sent_by}
 use Rattle.sdl_instances.specs.Core.{IsBoundIn, IsOfferIn, IsLegalInstance, IsLegalIn, HasSortsIn}
 use Rattle.sdl_instances.proofs.Conforming.{sorts_set}
-use Rattle.sdl_instances.proofs.LegalStates.{IsLegalAt, legal_as, becomes_legal, offspring_legal, born_legal}
+use Rattle.sdl_instances.proofs.LegalStates.{IsLegalAt, legal_as, becomes_legal, offspring_legal, created_legal}
 
 -- an offered signal's parameters have the sorts that the structure gives it
 offered_at : (signals : List (List Sort)) (signal : Signal) (via : Via) (o : OfferedOutput) → HasSortsIn signals o.signal → IsOfferedAs signal via o → slice_get signals signal.id.0 ≡ Some (map sort_of signal.params.items)
@@ -87,9 +88,9 @@ module _ (may : ℕ → Frame → Step → Type 0) (sys : System) (block : Block
       (subst (IsLegalAt sys (most + 1)) (sym same) (more_room most old h), All-nil (IsLegalIn sys))
   does_legal most old (action.Create set) (done.Made pid.Null) new h of (full, (r, became)) =
       (more_room most new (becomes_legal sys most old new p r (record r { offspring = pid.Null }) h became (offspring_legal sys old.last p r pid.Null tt)), All-nil (IsLegalIn sys))
-  does_legal most old (action.Create set) (done.Made (pid.Inst own serial)) new h of (r, mid, born, became) =
+  does_legal most old (action.Create set) (done.Made (pid.Inst own serial)) new h of (r, mid, creation, became) =
       let q = pid.Inst own serial in
-      let (after, legal) = born_legal sys block bound most set p q old mid self h born in
+      let (after, legal) = created_legal sys block bound most set p q old mid self h creation in
       (becomes_legal sys (most + 1) mid new p r (record r { offspring = q }) after became (offspring_legal sys mid.last p r q legal), All-nil (IsLegalIn sys))
   does_legal most old (action.Create set) (done.Made pid.Env) new h of did = absurd did
   does_legal most old (action.Output signal d via) (done.Made q) new h of did = absurd did

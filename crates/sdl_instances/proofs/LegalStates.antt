@@ -11,10 +11,11 @@ use Rattle.sdl_signal.specs.declared.values.Value.{Value}
 use Rattle.sdl_signal.specs.declared.values.Item.{Item}
 use Rattle.sdl_behaviour.specs.declared.step.Next.{Next}
 use Rattle.sdl_behaviour.specs.declared.step.Next.TheVariants as next_is
-use Rattle.sdl_transition.specs.Offers.{sort_of, IsLegalPid, IsLegalValue}
-use Rattle.sdl_processes.specs.Record.{Record, consumed, newborn}
+use Rattle.sdl_transition.specs.Offers.{IsLegalPid, IsLegalValue}
+use Rattle.sdl_signal.specs.Sorts.{sort_of}
+use Rattle.sdl_processes.specs.Record.{Record, consumed, created_record}
 use Rattle.sdl_transition.specs.Rules.{Rules}
-use Rattle.sdl_instances.specs.Machine.{State, System, LivesAs, Becomes, Leaves, Finishes, HasRoom, IsBorn, rules_at}
+use Rattle.sdl_instances.specs.Machine.{State, System, LivesAs, Becomes, Leaves, Finishes, IsBelowMaximum, IsCreated, rules_at}
 use Rattle.sdl_instances.specs.Core.{IsBoundIn, AreRulesIn, IsLegalInstance, IsLegalIn, HasSerial}
 use Rattle.sdl_instances.proofs.Begin.{rules_in}
 use Rattle.sdl_instances.proofs.Frames.{pid_legal}
@@ -122,27 +123,27 @@ module _ (sys : System) where
   finishes_legal most p rules old vars next_is.Stop None new own sorts values h f = absurd f
 
   module _ (block : BlockId) (bound : IsBoundIn sys.signals sys.sets sys.rules block) where
-    room_within : (s : State) (set : SetId) → HasRoom sys set s → set.0 < length sys.sets
+    room_within : (s : State) (set : SetId) → IsBelowMaximum sys set s → set.0 < length sys.sets
     room_within s set room = slice_get_within sys.sets set.0 room.0 room.1
 
-    -- the instance that is born, and its parent's other instances
-    pub born_legal : (most : ℕ) (set : SetId) (p q : Pid) (old mid : State) → IsLegalPid (length sys.sets) p → IsLegalAt sys most old → IsBorn sys set p q old mid
+    -- the instance that is creation, and its parent's other instances
+    pub created_legal : (most : ℕ) (set : SetId) (p q : Pid) (old mid : State) → IsLegalPid (length sys.sets) p → IsLegalAt sys most old → IsCreated sys set p q old mid
         → IsLegalAt sys (most + 1) mid × IsLegalPid (length sys.sets) q
-    born_legal most set p q old mid parent h born =
+    created_legal most set p q old mid parent h creation =
         let n = set.0 in
         let last = one_more old.last n in
-        let within : n < length old.last = (let w = room_within old set born.room in let e = h.each in omega (arith, w, e)) in
+        let within : n < length old.last = (let w = room_within old set creation.room in let e = h.each in omega (arith, w, e)) in
         let next : slice_index last n ≡ slice_index old.last n + 1 = get_or-set_same old.last n (slice_index old.last n + 1) 0 within in
         let long : length last ≡ length old.last = length-set old.last n (slice_index old.last n + 1) in
         let few = All-get_or (λ m. m ≤ most) old.last n 0 within h.few in
         let serial : HasSerial last (pid.Inst set (slice_index old.last n + 1)) = (omega (arith, long, within), omega arith, omega (arith, next)) in
         let each : length last ≡ length sys.sets = long ∙ h.each in
-        let own : rules_at sys q ≡ Some born.rules = rw born.serial born.rules_are in
-        let are = rules_in (AreRulesIn sys.signals sys.sets block) sys.rules set born.rules bound.each born.rules_are in
-        let child : IsLegalInstance sys last (q, newborn born.rules.vars p) =
+        let own : rules_at sys q ≡ Some creation.rules = rw creation.serial creation.rules_are in
+        let are = rules_in (AreRulesIn sys.signals sys.sets block) sys.rules set creation.rules bound.each creation.rules_are in
+        let child : IsLegalInstance sys last (q, created_record creation.rules.vars p) =
         record {
-          rules = (born.rules, own, refl);
-          serial = rw born.serial serial;
+          rules = (creation.rules, own, refl);
+          serial = rw creation.serial serial;
           values = are.values;
           port = All-nil (IsLegalIn sys);
           parent = parent;
@@ -150,8 +151,8 @@ module _ (sys : System) where
           sender = tt;
         } in
         let others = All-weaker (IsLegalInstance sys old.last) (IsLegalInstance sys last) (instance_grows old.last n) old.living h.instances in
-        let all = All-append (IsLegalInstance sys last) old.living ((q, newborn born.rules.vars p) ∷ []) others (All-cons (IsLegalInstance sys last) (q, newborn born.rules.vars p) [] child (All-nil (IsLegalInstance sys last))) in
+        let all = All-append (IsLegalInstance sys last) old.living ((q, created_record creation.rules.vars p) ∷ []) others (All-cons (IsLegalInstance sys last) (q, created_record creation.rules.vars p) [] child (All-nil (IsLegalInstance sys last))) in
         let numbers = All-set (λ m. m ≤ most + 1) old.last n (slice_index old.last n + 1) (omega (arith, few)) (All-weaker (λ m. m ≤ most) (λ m. m ≤ most + 1) (λ m l. omega (arith, l)) old.last h.few) in (
-          record { instances = rw (born.living, born.last) all; each = rw born.last each; few = rw born.last numbers },
-          rw born.serial (pid_legal (length sys.sets) last (pid.Inst set (slice_index old.last n + 1)) each serial),
+          record { instances = rw (creation.living, creation.last) all; each = rw creation.last each; few = rw creation.last numbers },
+          rw creation.serial (pid_legal (length sys.sets) last (pid.Inst set (slice_index old.last n + 1)) each serial),
         )

@@ -25,6 +25,6 @@ pub mod Naming
 mod Completing
 pub mod Decisions
 pub mod Fitting
-pub mod Dealt
+pub mod Distributed
 mod Firing
 pub mod Systems

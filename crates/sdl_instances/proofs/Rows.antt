@@ -9,10 +9,10 @@ use Rattle.sdl_processes.specs.Record.{Record}
 use Rattle.sdl_instances.specs.Machine.{State, next_any}
 use Rattle.sdl_instances.specs.Run.{IsRun}
 use Rattle.sdl_instances.specs.Core.{IsReady, IsBoundIn}
-use Rattle.sdl_instances.specs.declared.parts.ProcessSet.{ProcessSet}
+use Rattle.sdl_instances.specs.declared.process_set.ProcessSet.{ProcessSet}
 use Rattle.sdl_transition.specs.Rules.{Rules, rules_for}
 use Rattle.sdl_signal.specs.declared.ids.SetId.{SetId}
-use Rattle.sdl_routes.specs.declared.parts.Via.TheVariants as via
+use Rattle.sdl_routes.specs.declared.route.Via.TheVariants as via
 use Rattle.sdl_behaviour.specs.declared.step.Action.TheVariants as action
 use Rattle.sdl_behaviour.specs.declared.step.Dest.TheVariants as dest
 use Rattle.sdl_behaviour.specs.declared.offer.OfferedOutput.{OfferedOutput}

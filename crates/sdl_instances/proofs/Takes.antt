@@ -1,11 +1,11 @@
 -- A step of the machine that takes some routes is one that may take more.
 use Rattle.std.proofs.Common.{◌≡◌, ℕ, zero, suc, ◌+◌, ◌%◌, List, [], ◌∷◌, Option, None, Some, inl, inr, length, slice_get, unwrap_or, is_some, true≢false, refl, ap, sym, ◌∙◌, subst, arith}
-use Rattle.sdl_routes.specs.declared.parts.Row.{Row}
+use Rattle.sdl_routes.specs.declared.route.TableRow.{TableRow}
 use Rattle.sdl_routes.specs.Routes.{Fits, AreFitting, IsChoice}
 use Rattle.sdl_signal.specs.declared.ids.RouteId.{RouteId}
 use Rattle.sdl_signal.specs.declared.values.Pid.{Pid}
 use Rattle.sdl_signal.specs.declared.values.Pid.TheVariants as pid
-use Rattle.sdl_routes.specs.declared.parts.Wish.{Wish}
+use Rattle.sdl_routes.specs.declared.route.Wish.{Wish}
 use Rattle.sdl_behaviour.specs.declared.step.Frame.{Frame}
 use Rattle.sdl_behaviour.specs.declared.step.Step.{Step}
 use Rattle.sdl_behaviour.specs.declared.step.Action.{Action}
@@ -64,8 +64,8 @@ one_more : (m k : ℕ) → suc m + k ≡ m + suc k
 one_more m k = omega arith
 
 -- a number among those that fit is a route's that fits
-fitting_at : (w : Wish) (m : ℕ) (rows : List Row) (fs : List ℕ) (k x : ℕ) → AreFitting w m rows fs → slice_get fs k ≡ Some x
-    → (j : ℕ) × (row : Row) × (x ≡ m + j) × (slice_get rows j ≡ Some row) × Fits row w
+fitting_at : (w : Wish) (m : ℕ) (rows : List TableRow) (fs : List ℕ) (k x : ℕ) → AreFitting w m rows fs → slice_get fs k ≡ Some x
+    → (j : ℕ) × (row : TableRow) × (x ≡ m + j) × (slice_get rows j ≡ Some row) × Fits row w
 fitting_at w m [] fs k x h at = absurd (none_in fs k x h at)
   where
     none_in : (fs : List ℕ) (k x : ℕ) → fs ≡ [] → slice_get fs k ≡ Some x → ⊥
@@ -82,7 +82,7 @@ fitting_at w m (r ∷ rows) fs (suc k) x h at =
     ]
 
 -- the route at the pick fits
-pub at_pick_fits : (routes : List Row) (pick : ℕ) (w : Wish) (n : RouteId) → IsChoice routes w pick (Some n) → FitsAt routes w n
+pub at_pick_fits : (routes : List TableRow) (pick : ℕ) (w : Wish) (n : RouteId) → IsChoice routes w pick (Some n) → FitsAt routes w n
 at_pick_fits routes pick w n (fitting, are, at) =
     let f = fitting_at w 0 routes fitting (pick % length fitting) n.0 are (sym at) in
     let is : f.0 ≡ n.0 = let e = f.2 in omega (arith, e) in

@@ -10,14 +10,15 @@ use Rattle.sdl_signal.specs.declared.values.Value.{Value}
 use Rattle.sdl_signal.specs.declared.values.Item.{Item}
 use Rattle.sdl_parts.specs.declared.parts.Set.{Set}
 use Rattle.sdl_parts.specs.Structure.{Structure}
-use Rattle.sdl_routes.specs.declared.parts.Row.{Row}
+use Rattle.sdl_routes.specs.declared.route.TableRow.{TableRow}
 use Rattle.sdl_behaviour.specs.declared.step.Frame.{Frame}
 use Rattle.sdl_behaviour.specs.declared.step.Step.{Step}
 use Rattle.sdl_behaviour.specs.declared.offer.Offer.{Offer}
 use Rattle.sdl_behaviour.specs.declared.offer.OfferedOutput.{OfferedOutput}
 use Rattle.sdl_behaviour.specs.declared.offer.SignalSorts.{SignalSorts}
-use Rattle.sdl_transition.specs.Offers.{sort_of, IsLegalPid, IsLegalValue, AreOfSorts}
-use Rattle.sdl_instances.specs.declared.parts.ProcessSet.{ProcessSet}
+use Rattle.sdl_transition.specs.Offers.{IsLegalPid, IsLegalValue}
+use Rattle.sdl_signal.specs.Sorts.{sort_of, AreOfSorts}
+use Rattle.sdl_instances.specs.declared.process_set.ProcessSet.{ProcessSet}
 use Rattle.sdl_instances.specs.declared.event.Event.{Event}
 use Rattle.sdl_instances.specs.declared.event.Event.TheVariants as event
 use Rattle.sdl_instances.specs.declared.event.Arrival.{Arrival}
@@ -40,10 +41,10 @@ pub record Core : Type 0 where
 
 -- a core with the room that it has: how many events its log can hold, and how many instances can be created, without
 -- taking memory
-pub record Held : Type 0 where
+pub record CoreWithRoom : Type 0 where
   pub core : Core
   pub capacity : ℕ
-  pub births : ℕ
+  pub creatable : ℕ
 
 -- the event of an arrival
 abbrev pub arrival_event : Item → Arrival → Event
@@ -60,7 +61,7 @@ IsLivingAt set s k p =
     (place : ℕ) × (slice_get (pids s) place ≡ Some p) × (is_of set p ≡ true) × (count_by (is_of set) (take place (pids s)) ≡ k)
 
 -- the system that a core works in, with the routes of its structure and the rules of its behaviours
-abbrev pub system_of : Core → List Row → List Rules → System
+abbrev pub system_of : Core → List TableRow → List Rules → System
 system_of c routes rules = record { signals = c.signals; sets = c.sets; routes = routes; rules = rules }
 
 -- the item is one that may travel in the system

@@ -4,7 +4,7 @@ pub mod Legal
 pub mod Machine
 pub mod Run
 pub mod Core
-pub mod Cores
+pub mod CoreOf
 pub mod Ready
 pub mod Calls
 pub mod Spawn

@@ -9,9 +9,9 @@ use Rattle.sdl_signal.specs.declared.values.Value.{Value}
 use Rattle.sdl_signal.specs.declared.values.Sort.{Sort}
 use Rattle.sdl_signal.specs.declared.values.Signal.{Signal}
 use Rattle.sdl_signal.specs.declared.values.Item.{Item}
-use Rattle.sdl_routes.specs.declared.parts.Row.{Row}
-use Rattle.sdl_routes.specs.declared.parts.Via.{Via}
-use Rattle.sdl_routes.specs.declared.parts.Wish.{Wish}
+use Rattle.sdl_routes.specs.declared.route.TableRow.{TableRow}
+use Rattle.sdl_routes.specs.declared.route.Via.{Via}
+use Rattle.sdl_routes.specs.declared.route.Wish.{Wish}
 use Rattle.sdl_routes.specs.Routes.{IsChoice}
 use Rattle.sdl_behaviour.specs.declared.step.Frame.{Frame}
 use Rattle.sdl_behaviour.specs.declared.step.Step.{Step}
@@ -20,12 +20,12 @@ use Rattle.sdl_behaviour.specs.declared.step.Action.{Action}
 use Rattle.sdl_behaviour.specs.declared.step.Action.TheVariants as action
 use Rattle.sdl_behaviour.specs.declared.step.Next.{Next}
 use Rattle.sdl_behaviour.specs.declared.step.Next.TheVariants as next_is
-use Rattle.sdl_instances.specs.declared.parts.ProcessSet.{ProcessSet}
+use Rattle.sdl_instances.specs.declared.process_set.ProcessSet.{ProcessSet}
 use Rattle.sdl_instances.specs.declared.event.Done.{Done}
 use Rattle.sdl_instances.specs.declared.event.Done.TheVariants as done
 use Rattle.sdl_instances.specs.declared.living.Living.{Living}
 use Rattle.sdl_instances.specs.declared.outputs.Mark.{Mark}
-use Rattle.sdl_processes.specs.Record.{Record, newborn, front_of}
+use Rattle.sdl_processes.specs.Record.{Record, created_record, front_of}
 use Rattle.sdl_transition.specs.Rules.{Rules, rules_for}
 use Rattle.sdl_instances.specs.Machine.{State, System, NoneFits, DoesAll, frame_of, number_living, set_of, addressee, wish_of}
 use Rattle.sdl_instances.specs.Run.{IsNumbered, sent_by, waiting}
@@ -35,8 +35,8 @@ abbrev pub state_of : Living → State
 state_of l = record { living = l.instances.entries; last = l.last.items }
 
 -- how many instances of the sets can be created without taking memory
-abbrev pub births_of : Living → ℕ
-births_of l = if nat_le (length l.last.items) l.instances.sets then l.instances.births else 0
+abbrev pub creatable_of : Living → ℕ
+creatable_of l = if nat_le (length l.last.items) l.instances.sets then l.instances.creatable else 0
 
 -- p stands at this place with the record r
 abbrev pub StandsAt : State → ℕ → Pid → Record → Type 0
@@ -54,10 +54,10 @@ written s place p t = record s { living = slice_set s.living place (p, t) }
 abbrev pub next_of : State → SetId → Pid
 next_of s set = pid.Inst set (slice_index s.last set.0 + 1)
 
-abbrev pub born : State → SetId → List Value → Pid → State
-born s set vars p =
+abbrev pub with_created : State → SetId → List Value → Pid → State
+with_created s set vars p =
     record {
-      living = s.living ++ (next_of s set, newborn vars p) ∷ [];
+      living = s.living ++ (next_of s set, created_record vars p) ∷ [];
       last = slice_set s.last set.0 (slice_index s.last set.0 + 1);
     }
 
@@ -74,7 +74,7 @@ CreatesAt sets place p r set vars pid.Null old new =
 CreatesAt sets place p r set vars (pid.Inst own serial) old new =
     ((d : ProcessSet) × (slice_get sets set.0 ≡ Some d) × (number_living set old < d.maximum))
     × (pid.Inst own serial ≡ next_of old set)
-    × (new ≡ written (born old set vars p) place p (record r { offspring = pid.Inst own serial }))
+    × (new ≡ written (with_created old set vars p) place p (record r { offspring = pid.Inst own serial }))
 CreatesAt sets place p r set vars pid.Env old new = ⊥
 
 -- p went on to the state with these variables, or stopped with so many signals in its port
@@ -93,15 +93,15 @@ CanAct sets rules (action.Create set) = IsCreatable sets rules set
 CanAct sets rules (action.Output signal d v) = ⊤
 
 -- the instance at the place can carry out so many actions: there is room for what they create, and serial numbers
-pub record CanCarryOut (sets : List ProcessSet) (place count births : ℕ) (s : State) : Type 0 where
+pub record CanCarryOut (sets : List ProcessSet) (place count creatable : ℕ) (s : State) : Type 0 where
   pub within : place < length s.living
   pub serials : HaveSerials s
   pub last : length s.last ≡ length sets
   pub few : All (λ n. n + count < 2 ^ 32) s.last
-  pub room : count ≤ births
+  pub room : count ≤ creatable
 
 -- what an output did: the item is the output's, on its way along the fitting route at the pick, or no route fits
-abbrev pub OutputsAs : List Row → Pid → Record → Signal → Dest → Via → Mark → Done → Type 0
+abbrev pub OutputsAs : List TableRow → Pid → Record → Signal → Dest → Via → Mark → Done → Type 0
 OutputsAs routes p r signal d v m (done.Sent i) =
     (set : SetId) × (set_of p ≡ Some set) × (i.origin ≡ m.origin) × (i.stamp ≡ m.stamp) × (i.signal ≡ signal) × (i.sender ≡ p) × (i.to ≡ addressee p r d)
     × IsChoice routes (wish_of set p r signal d v) m.pick (Some i.route)
@@ -116,15 +116,15 @@ mark_after m (done.NoRoute o id) = record m { origin = record m.origin { number 
 mark_after m (done.Made p) = m
 
 -- the system of these parts
-abbrev pub system_with : List (List Sort) → List ProcessSet → List Row → List Rules → System
+abbrev pub system_with : List (List Sort) → List ProcessSet → List TableRow → List Rules → System
 system_with signals sets routes rules = record { signals = signals; sets = sets; routes = routes; rules = rules }
 
 -- an output takes the fitting route at the pick
-abbrev pub TakesAt : List Row → ℕ → Wish → RouteId → Type 0
+abbrev pub TakesAt : List TableRow → ℕ → Wish → RouteId → Type 0
 TakesAt routes pick w n = IsChoice routes w pick (Some n)
 
 -- The instance at the place carried out the actions: this is what they did, with the origins and stamps of the mark.
-pub record CarriesOut (may : ℕ → Frame → Step → Type 0) (sets : List ProcessSet) (routes : List Row) (rules : List Rules) (place : ℕ) (m : Mark) (actions : List Action) (before after : List Done) (old new : State) : Type 0 where
+pub record CarriesOut (may : ℕ → Frame → Step → Type 0) (sets : List ProcessSet) (routes : List TableRow) (rules : List Rules) (place : ℕ) (m : Mark) (actions : List Action) (before after : List Done) (old new : State) : Type 0 where
   pub did : List Done
   pub added : after ≡ before ++ did
   pub does : (p : Pid) (r : Record) (signals : List (List Sort)) → StandsAt old place p r → DoesAll may (TakesAt routes m.pick) (system_with signals sets routes rules) p old actions did new

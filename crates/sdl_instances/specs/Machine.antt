@@ -9,13 +9,13 @@ use Rattle.sdl_signal.specs.declared.values.Value.{Value}
 use Rattle.sdl_signal.specs.declared.values.Signal.{Signal}
 use Rattle.sdl_signal.specs.declared.values.Item.{Item}
 use Rattle.sdl_signal.specs.declared.values.Sort.{Sort}
-use Rattle.sdl_instances.specs.declared.parts.ProcessSet.{ProcessSet}
-use Rattle.sdl_routes.specs.declared.parts.Row.{Row}
-use Rattle.sdl_routes.specs.declared.parts.Via.{Via}
-use Rattle.sdl_routes.specs.declared.parts.Goal.{Goal}
-use Rattle.sdl_routes.specs.declared.parts.Goal.TheVariants as goal
-use Rattle.sdl_routes.specs.declared.parts.Source.TheVariants as source
-use Rattle.sdl_routes.specs.declared.parts.Wish.{Wish}
+use Rattle.sdl_instances.specs.declared.process_set.ProcessSet.{ProcessSet}
+use Rattle.sdl_routes.specs.declared.route.TableRow.{TableRow}
+use Rattle.sdl_routes.specs.declared.route.Via.{Via}
+use Rattle.sdl_routes.specs.declared.route.Goal.{Goal}
+use Rattle.sdl_routes.specs.declared.route.Goal.TheVariants as goal
+use Rattle.sdl_routes.specs.declared.route.Source.TheVariants as source
+use Rattle.sdl_routes.specs.declared.route.Wish.{Wish}
 use Rattle.sdl_signal.specs.declared.ids.RouteId.{RouteId}
 use Rattle.sdl_instances.specs.Legal.{Admits, GoesTo}
 use Rattle.sdl_routes.specs.Routes.{Fits, IsChoice}
@@ -39,7 +39,7 @@ use Rattle.sdl_instances.specs.declared.event.Done.TheVariants as done
 use Rattle.sdl_instances.specs.declared.event.Event.{Event}
 use Rattle.sdl_instances.specs.declared.event.Event.TheVariants as event
 use Rattle.sdl_processes.specs.Record.{Record}
-pub use Rattle.sdl_processes.specs.Record.{newborn, consumed}
+pub use Rattle.sdl_processes.specs.Record.{created_record, consumed}
 pub use Rattle.sdl_processes.specs.Places.{is_of}
 
 -- the state of a block: its living instances in the order of their creation, and the last serial given out in each set
@@ -51,15 +51,15 @@ pub record State : Type 0 where
 pub record System : Type 0 where
   pub signals : List (List Sort)
   pub sets : List ProcessSet
-  pub routes : List Row
+  pub routes : List TableRow
   pub rules : List Rules
 
 -- the route with this number fits the wish
-abbrev pub FitsAt : List Row → Wish → RouteId → Type 0
-FitsAt routes w n = (row : Row) × (slice_get routes n.0 ≡ Some row) × Fits row w
+abbrev pub FitsAt : List TableRow → Wish → RouteId → Type 0
+FitsAt routes w n = (row : TableRow) × (slice_get routes n.0 ≡ Some row) × Fits row w
 
 -- no route fits
-abbrev pub NoneFits : List Row → Wish → Type 0
+abbrev pub NoneFits : List TableRow → Wish → Type 0
 NoneFits routes w = (n : RouteId) → ¬ FitsAt routes w n
 
 -- p lives, with the record r
@@ -92,7 +92,7 @@ abbrev pub number_living : SetId → State → ℕ
 number_living set s = count_by (is_of set) (pids s)
 
 -- an item that arrives enters the port of a living instance that it admits, or is discarded where there is none
-abbrev pub Arrives : List Row → State → Item → Arrival → State → Type 0
+abbrev pub Arrives : List TableRow → State → Item → Arrival → State → Type 0
 Arrives routes old i (arrival.Entered p) new =
     Admits routes i p × ((r : Record) × Becomes p r (record r { port = r.port ++ i ∷ [] }) old new)
 Arrives routes old i (arrival.Discarded cause.Gone) new =
@@ -161,16 +161,16 @@ Finishes p old vars next_is.Stop None new = ⊥
 
 module _ (sys : System) where
   -- fewer instances of the set live than its maximum
-  abbrev pub HasRoom : SetId → State → Type 0
-  HasRoom set s = (d : ProcessSet) × (slice_get sys.sets set.0 ≡ Some d) × (number_living set s < d.maximum)
+  abbrev pub IsBelowMaximum : SetId → State → Type 0
+  IsBelowMaximum set s = (d : ProcessSet) × (slice_get sys.sets set.0 ≡ Some d) × (number_living set s < d.maximum)
 
-  -- q is born of its set's next serial, and p is its parent
-  pub record IsBorn (set : SetId) (p q : Pid) (old new : State) : Type 0 where
-    pub room : HasRoom set old
+  -- q is created with its set's next serial number, and p is its parent
+  pub record IsCreated (set : SetId) (p q : Pid) (old new : State) : Type 0 where
+    pub room : IsBelowMaximum set old
     pub serial : q ≡ pid.Inst set (slice_index old.last set.0 + 1)
     pub rules : Rules
     pub rules_are : rules_for sys.rules set ≡ Some rules
-    pub living : new.living ≡ old.living ++ (q, newborn rules.vars p) ∷ []
+    pub living : new.living ≡ old.living ++ (q, created_record rules.vars p) ∷ []
     pub last : new.last ≡ slice_set old.last set.0 (slice_index old.last set.0 + 1)
 
   -- the rules of an instance's set
@@ -196,10 +196,10 @@ module _ (may : ℕ → Frame → Step → Type 0) (takes : Wish → RouteId →
       (set : SetId) × (set_of p ≡ Some set) × (r : Record) × LivesAs old p r
       × NoneFits sys.routes (wish_of set p r signal d v) × (id ≡ signal.id) × (new ≡ old)
   Does p old (action.Create set) (done.Made pid.Null) new =
-      (HasRoom sys set old → ⊥) × ((r : Record) × Becomes p r (record r { offspring = pid.Null }) old new)
+      (IsBelowMaximum sys set old → ⊥) × ((r : Record) × Becomes p r (record r { offspring = pid.Null }) old new)
   Does p old (action.Create set) (done.Made (pid.Inst own serial)) new =
       let q = pid.Inst own serial in
-      (r : Record) × (mid : State) × IsBorn sys set p q old mid × Becomes p r (record r { offspring = q }) mid new
+      (r : Record) × (mid : State) × IsCreated sys set p q old mid × Becomes p r (record r { offspring = q }) mid new
   Does p old (action.Create set) (done.Made pid.Env) new = ⊥
   Does p old (action.Output signal d v) (done.Made q) new = ⊥
   Does p old (action.Create set) (done.Sent i) new = ⊥

@@ -8,7 +8,7 @@ use Rattle.sdl_signal.specs.declared.values.Pid.TheVariants as pid
 use Rattle.sdl_signal.specs.declared.values.Value.{Value}
 use Rattle.sdl_signal.specs.declared.values.Item.{Item}
 use Rattle.sdl_signal.specs.declared.values.Origin.{Origin}
-use Rattle.sdl_instances.specs.declared.parts.ProcessSet.{ProcessSet}
+use Rattle.sdl_instances.specs.declared.process_set.ProcessSet.{ProcessSet}
 use Rattle.sdl_behaviour.specs.declared.step.Frame.{Frame}
 use Rattle.sdl_behaviour.specs.declared.step.Step.{Step}
 use Rattle.sdl_transition.specs.Rules.{Rules, rules_for}
@@ -16,7 +16,7 @@ use Rattle.sdl_instances.specs.declared.event.Done.{Done}
 use Rattle.sdl_instances.specs.declared.event.Done.TheVariants as done
 use Rattle.sdl_instances.specs.declared.event.Event.{Event}
 use Rattle.sdl_instances.specs.declared.event.Event.TheVariants as event
-use Rattle.sdl_processes.specs.Record.{Record, newborn}
+use Rattle.sdl_processes.specs.Record.{Record, created_record}
 use Rattle.sdl_instances.specs.Machine.{State, System, next_any}
 
 -- what an event did: the things done in its turn
@@ -92,7 +92,7 @@ IsStamped n (e ∷ more) =
 -- the first n instances of a set, the earliest first
 abbrev pub first_instances : SetId → List Value → ℕ → List (Pid × Record)
 first_instances set vars zero = []
-first_instances set vars (suc n) = first_instances set vars n ++ (pid.Inst set (suc n), newborn vars pid.Null) ∷ []
+first_instances set vars (suc n) = first_instances set vars n ++ (pid.Inst set (suc n), created_record vars pid.Null) ∷ []
 
 -- the initial number of a set of the block, 0 for another block's
 abbrev pub initial_in : BlockId → ProcessSet → ℕ

@@ -7,11 +7,11 @@ use Rattle.sdl_signal.specs.declared.values.Pid.{Pid}
 use Rattle.sdl_signal.specs.declared.values.Pid.TheVariants as pid
 use Rattle.sdl_signal.specs.declared.values.Item.{Item}
 use Rattle.sdl_signal.specs.declared.values.Signal.{Signal}
-use Rattle.sdl_routes.specs.declared.parts.EndPoint.TheVariants as end
-use Rattle.sdl_routes.specs.declared.parts.Station.TheVariants as station
-use Rattle.sdl_routes.specs.declared.parts.Row.{Row}
-use Rattle.sdl_routes.specs.declared.parts.Source.{Source}
-use Rattle.sdl_routes.specs.declared.parts.Source.TheVariants as source
+use Rattle.sdl_routes.specs.declared.route.EndPoint.TheVariants as end
+use Rattle.sdl_routes.specs.declared.route.Station.TheVariants as station
+use Rattle.sdl_routes.specs.declared.route.TableRow.{TableRow}
+use Rattle.sdl_routes.specs.declared.route.Source.{Source}
+use Rattle.sdl_routes.specs.declared.route.Source.TheVariants as source
 use Rattle.sdl_signal.specs.declared.values.Sort.TheVariants as sort
 use Rattle.sdl_behaviour.specs.declared.step.Frame.{Frame}
 use Rattle.sdl_behaviour.specs.declared.step.Step.{Step}
@@ -20,11 +20,11 @@ use Rattle.sdl_behaviour.specs.declared.offer.SignalSorts.{SignalSorts}
 use Rattle.sdl_behaviour.specs.declared.step.Next.TheVariants as next_is
 use Rattle.sdl_behaviour.specs.declared.step.Action.TheVariants as action
 use Rattle.sdl_behaviour.specs.declared.step.Dest.TheVariants as dest
-use Rattle.sdl_routes.specs.declared.parts.Via.TheVariants as via
+use Rattle.sdl_routes.specs.declared.route.Via.TheVariants as via
 use Rattle.sdl_instances.specs.declared.event.Done.TheVariants as done
-use Rattle.sdl_routes.specs.declared.parts.Hop.{Hop}
-use Rattle.sdl_routes.specs.declared.parts.EndPoint.{EndPoint}
-use Rattle.sdl_routes.specs.declared.parts.Station.{Station}
+use Rattle.sdl_routes.specs.declared.route.Hop.{Hop}
+use Rattle.sdl_routes.specs.declared.route.EndPoint.{EndPoint}
+use Rattle.sdl_routes.specs.declared.route.Station.{Station}
 use Rattle.sdl_transition.specs.Rules.{Rules}
 use Rattle.sdl_instances.specs.declared.event.Event.{Event}
 use Rattle.sdl_instances.specs.declared.event.Event.TheVariants as event
@@ -111,7 +111,7 @@ spawn_rules =
 abbrev pub hop : ℕ → Bool → Hop
 hop n back = record { channel = record { 0 = n }; back = back }
 
-abbrev pub route : ℕ → Source → ℕ → List Hop → EndPoint → ℕ → List Station → Row
+abbrev pub route : ℕ → Source → ℕ → List Hop → EndPoint → ℕ → List Station → TableRow
 route signal from start hops finish gate stations =
     record {
       route = record {
@@ -129,21 +129,21 @@ abbrev pub inlet : Station
 inlet = station.Inlet block
 
 -- from the environment to Boss, and to Kid
-abbrev pub to_boss : ℕ → Row
+abbrev pub to_boss : ℕ → TableRow
 to_boss n = route n (source.Gate (record { 0 = 0 })) 0 (hop 0 false ∷ hop 1 false ∷ []) (end.Set (set 0)) 2 (station.Line (hop 0 false) ∷ station.Line (hop 1 false) ∷ inlet ∷ [])
 
-abbrev pub to_kid : ℕ → Row
+abbrev pub to_kid : ℕ → TableRow
 to_kid n = route n (source.Gate (record { 0 = 0 })) 0 (hop 0 false ∷ hop 2 false ∷ []) (end.Set (set 1)) 5 (station.Line (hop 0 false) ∷ station.Line (hop 2 false) ∷ inlet ∷ [])
 
 -- from Boss down to Kid, and from Kid to Boss
-abbrev pub down : ℕ → Row
+abbrev pub down : ℕ → TableRow
 down n = route n (source.Set (set 0)) 3 (hop 3 false ∷ []) (end.Set (set 1)) 4 (inlet ∷ [])
 
-abbrev pub up : ℕ → Row
+abbrev pub up : ℕ → TableRow
 up n = route n (source.Set (set 1)) 4 (hop 3 true ∷ []) (end.Set (set 0)) 3 (inlet ∷ [])
 
 -- from Kid to the environment
-abbrev pub out : ℕ → Row
+abbrev pub out : ℕ → TableRow
 out n =
     route n (source.Set (set 1)) 5 (hop 2 true ∷ hop 0 true ∷ []) (end.Environment (record { 0 = 0 })) 0
     (station.Line (hop 2 true) ∷ station.Line (hop 0 true) ∷ station.Outlet ∷ [])

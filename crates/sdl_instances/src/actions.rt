@@ -6,14 +6,14 @@ ghost use Rattle.sdl_processes.specs.Record.{Record};
 ghost use Rattle.sdl_transition.specs.Rules.{block_rules};
 ghost use Rattle.sdl_transition.specs.Index.{IsIndexed};
 ghost use Rattle.sdl_instances.specs.Machine.{Does, set_of};
-ghost use Rattle.sdl_instances.specs.Living.{state_of, births_of, StandsAt, CanAct, CanCarryOut, CarriesOut, TakesAt, system_with};
+ghost use Rattle.sdl_instances.specs.Living.{state_of, creatable_of, StandsAt, CanAct, CanCarryOut, CarriesOut, TakesAt, system_with};
 ghost use Rattle.std.specs.List.{AllByRecursion, flat_map};
 ghost use Rattle.sdl_instances.specs.Run.{origin_by, sent_by};
 
 use crate::event::Done;
 use crate::living::Living;
 use crate::outputs::{Mark, output};
-use crate::parts::ProcessSet;
+use crate::process_set::ProcessSet;
 use arrayvec::ArrayVec;
 use sdl_processes::copies::copied_item;
 use sdl_routes::Routes;
@@ -31,10 +31,10 @@ fn act<S: Agents>(
     mark: Mark,
 ) -> Done
     requires indexed { IsIndexed parts.now }
-    requires ready { CanCarryOut sets.now place 1 (births_of living.old) (state_of living.old) }
+    requires ready { CanCarryOut sets.now place 1 (creatable_of living.old) (state_of living.old) }
     requires creatable { CanAct sets.now (block_rules parts.now) action.now }
     ensures does { (d : _) → CarriesOut S.may sets.now routes.now (block_rules parts.now) place mark (action.now ∷ []) d (d ++ result ∷ []) (state_of living.old) (state_of living.new) }
-    ensures ready { (n : ℕ) → CanCarryOut sets.now place (n + 1) (births_of living.old) (state_of living.old) → CanCarryOut sets.now place n (births_of living.new) (state_of living.new) }
+    ensures ready { (n : ℕ) → CanCarryOut sets.now place (n + 1) (creatable_of living.old) (state_of living.old) → CanCarryOut sets.now place n (creatable_of living.new) (state_of living.new) }
 {
     match action {
         Action::Output { signal, dest, via } => living.output(
@@ -56,7 +56,7 @@ pub fn act_all<S: Agents>(
     done: &mut ArrayVec<Done, 8>,
 )
     requires indexed { IsIndexed parts.now }
-    requires ready { CanCarryOut sets.now place (length actions.now) (births_of living.old) (state_of living.old) }
+    requires ready { CanCarryOut sets.now place (length actions.now) (creatable_of living.old) (state_of living.old) }
     requires creatable { AllByRecursion (CanAct sets.now (block_rules parts.now)) actions.now }
     requires room { length done.old.items + length actions.now ≤ 8 }
     requires numbers { mark.origin.number + length actions.now < 2 ^ 64 }

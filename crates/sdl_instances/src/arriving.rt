@@ -1,7 +1,8 @@
 //! Whether a block may take an item in.
 ghost use Rattle.std.specs.Prelude.{◌≡◌, ◌↔◌, IsTrue, All, IfSome, Some, length, map, slice_get};
-ghost use Rattle.sdl_transition.specs.Offers.{IsLegalPid, IsLegalValue, AreOfSorts};
-ghost use Rattle.sdl_transition.specs.Offers as sorting;
+ghost use Rattle.sdl_transition.specs.Offers.{IsLegalPid, IsLegalValue};
+ghost use Rattle.sdl_signal.specs.Sorts.{AreOfSorts};
+ghost use Rattle.sdl_signal.specs.Sorts.{sort_of};
 ghost use Rattle.sdl_instances.specs.Legal.{IsLegal};
 ghost use Rattle.sdl_processes.specs.Places as sets;
 ghost use Rattle.sdl_instances.specs.Arriving.{CanArrive, EndsAt, IsCarried, IsSetOf, NamesOf};
@@ -9,7 +10,7 @@ ghost use Rattle.sdl_instances.specs.Core.{system_of};
 ghost use Rattle.sdl_instances.specs.Run.{turns};
 
 use crate::block::BlockCore;
-use crate::parts::ProcessSet;
+use crate::process_set::ProcessSet;
 use crate::table::Table;
 use arrayvec::ArrayVec;
 use sdl_routes::{EndPoint, Routes};
@@ -17,7 +18,7 @@ use sdl_signal::{BlockId, Item, Pid, SetId, Signal, Sort, Value};
 use sdl_transition::Agents;
 
 impl<S: Agents> BlockCore<S> {
-    ghost use Rattle.sdl_instances.specs.Cores.{core_of, system_in};
+    ghost use Rattle.sdl_instances.specs.CoreOf.{core_of, system_in};
 
     /// The number of the block. No memory is taken.
     pub fn block(&self) -> BlockId
@@ -84,33 +85,11 @@ fn is_carried(routes: &Routes, item: &Item) -> bool
 
 /// Whether the signal is there, with the sorts of these parameters.
 fn has_its_sorts(signals: &[ArrayVec<Sort, 4>], signal: &Signal) -> bool
-    ensures { IsTrue result ↔ slice_get (map (λ s. s.items) signals.now) signal.now.id.0 ≡ Some (map sorting.sort_of signal.now.params.items) }
+    ensures { IsTrue result ↔ slice_get (map (λ s. s.items) signals.now) signal.now.id.0 ≡ Some (map sort_of signal.now.params.items) }
 {
     match signals.get(signal.id.0 as usize) {
-        Some(sorts) => are_of_sorts(signal.params.as_slice(), sorts.as_slice()),
+        Some(sorts) => Value::are_of_sorts(signal.params.as_slice(), sorts.as_slice()),
         None => false,
-    }
-}
-
-fn sort_of(value: &Value) -> Sort
-    ensures { result ≡ sorting.sort_of value.now }
-{
-    match value {
-        Value::Integer(_) => Sort::Integer,
-        Value::Boolean(_) => Sort::Boolean,
-        Value::Pid(_) => Sort::Pid,
-    }
-}
-
-/// Whether the values are of these sorts, one by one.
-fn are_of_sorts(values: &[Value], sorts: &[Sort]) -> bool
-    ensures { IsTrue result ↔ AreOfSorts values.now sorts.now }
-{
-    match (values, sorts) {
-        ([], []) => true,
-        ([value, values @ ..], [sort, sorts @ ..]) => sort_of(value) == *sort
-            && are_of_sorts(values, sorts),
-        _ => false,
     }
 }
 

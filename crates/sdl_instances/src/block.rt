@@ -9,7 +9,7 @@ ghost use Rattle.std.specs.Prelude.{IsTrue, ◌↔◌};
 ghost use Rattle.sdl_instances.specs.Core.{IsReady, arrival_event, IsLivingAt, IsLegalIn, IsSound, IsBoundIn, signals_of, sets_of};
 ghost use Rattle.sdl_instances.specs.Run.{turns, waiting, initial};
 ghost use Rattle.sdl_transition.specs.Rules.{block_rules};
-ghost use Rattle.sdl_routes.specs.declared.parts.Row.{Row};
+ghost use Rattle.sdl_routes.specs.declared.route.TableRow.{TableRow};
 
 use crate::event::{Arrival, Event, Trigger, Turned};
 use crate::outputs::{set_of, signal_of};
@@ -34,7 +34,7 @@ impl<S: Agents> BlockCore<S> {
     ghost use Rattle.std.specs.Prelude.{OnOk, OnErr, All, Some, true};
     ghost use Rattle.sdl_processes.specs.Record.{is_ready, Record};
     ghost use Rattle.sdl_signal.specs.declared.values.Item.{Item};
-    ghost use Rattle.sdl_instances.specs.Cores.{core_of, parts_of, system_in, CanFire, HasTurnRoom};
+    ghost use Rattle.sdl_instances.specs.CoreOf.{core_of, parts_of, system_in, CanFire, HasTurnRoom};
     ghost use Rattle.sdl_instances.specs.Calls.{KeepsRest, TurnAnswers, hand_of};
     ghost use Rattle.sdl_instances.specs.Living.{StandsAt, next_frame};
     ghost use Rattle.sdl_instances.specs.Turning.{Fires};
@@ -50,7 +50,7 @@ impl<S: Agents> BlockCore<S> {
         requires budget { (1 ≤ budget) × (budget ≤ 1000000) }
         requires bound { IsBoundIn (signals_of checked.now) (sets_of checked.now) (block_rules parts) parts.block }
         ensures initial { IfOk result (λ c. core_of c ≡ record { block = parts.block; signals = signals_of checked.now; sets = sets_of checked.now; state = initial (block_rules parts) (sets_of checked.now) parts.block; log = []; budget = budget }) }
-        ensures sound { IfOk result (λ c. (routes : List Row) → IsSound S.may (system_in c routes) (core_of c)) }
+        ensures sound { IfOk result (λ c. (routes : List TableRow) → IsSound S.may (system_in c routes) (core_of c)) }
         ensures parts { IfOk result (λ c. parts_of c ≡ parts) }
         ensures err { IfErr result (λ e. e.0 ≡ parts) }
     {

@@ -6,7 +6,7 @@ ghost use Rattle.sdl_instances.specs.Run.{first_instances, initial_instances, in
 ghost use Rattle.sdl_transition.specs.Rules.{rules_for, rules_of, block_rules};
 ghost use Rattle.std.specs.List.{AllByRecursion};
 
-use crate::parts::ProcessSet;
+use crate::process_set::ProcessSet;
 use arrayvec::ArrayVec;
 use indexmap::IndexMap;
 use sdl_parts::{Set, SignalDecl};

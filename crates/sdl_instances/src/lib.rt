@@ -10,13 +10,13 @@ mod first;
 pub mod laws;
 mod living;
 mod outputs;
-pub mod parts;
+pub mod process_set;
 mod ready;
 pub mod table;
 mod turning;
 
 pub use block::BlockCore;
 pub use event::{Arrival, Cause, Done, Event, Trigger, Turned};
-pub use parts::ProcessSet;
+pub use process_set::ProcessSet;
 pub use sdl_processes::{copies, instance};
 pub use sdl_transition::BlockParts;

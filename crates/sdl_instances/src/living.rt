@@ -3,12 +3,12 @@ ghost use Rattle.std.specs.Prelude.{◌≡◌, ◌+◌, ◌<◌, ◌≤◌, ◌^
 ghost use Rattle.sdl_signal.specs.declared.values.Pid.{Pid};
 ghost use Rattle.sdl_signal.specs.declared.values.Item.{Item};
 ghost use Rattle.sdl_processes.specs.Record.{Record, consumed};
-ghost use Rattle.sdl_instances.specs.Living.{state_of, births_of, StandsAt, HaveSerials, written, born, next_of, next_frame, CreatesAt, FinishesAt, OutputsAs};
+ghost use Rattle.sdl_instances.specs.Living.{state_of, creatable_of, StandsAt, HaveSerials, written, with_created, next_of, next_frame, CreatesAt, FinishesAt, OutputsAs};
 
 use crate::event::Done;
 use crate::first::numbers_at;
 use crate::outputs::{Mark, output};
-use crate::parts::ProcessSet;
+use crate::process_set::ProcessSet;
 use arrayvec::ArrayVec;
 use sdl_processes::copies::{copied_signal, copied_values};
 use sdl_processes::{Instance, Instances};
@@ -52,7 +52,7 @@ impl Living {
     /// Takes room for as many instances as a turn can create. A refusal changes no instance.
     pub fn make_room(&mut self) -> Result<(), AllocError>
         ensures same { state_of self.new ≡ state_of self.old }
-        ensures room { OnOk result (8 ≤ births_of self.new) }
+        ensures room { OnOk result (8 ≤ creatable_of self.new) }
     {
         self.instances.make_room(self.alloc, self.last.len())
     }
@@ -98,20 +98,20 @@ impl Living {
         requires within { place < length (state_of self.old).living }
         requires front { (p : Pid) (r : Record) → StandsAt (state_of self.old) place p r → 0 < length r.port }
         ensures consumed { (p : Pid) (r : Record) → StandsAt (state_of self.old) place p r → (rest : List Item) × (r.port ≡ result ∷ rest) × (state_of self.new ≡ written (state_of self.old) place p (consumed r result rest)) }
-        ensures births { births_of self.new ≡ births_of self.old }
+        ensures creatable { creatable_of self.new ≡ creatable_of self.old }
     {
         self.instances.consume(place)
     }
 
     /// Adds an instance of the set, of its next serial number, with the variables and the parent.
-    fn bear(&mut self, set: SetId, vars: &ArrayVec<Value, 8>, parent: Pid) -> Pid
+    fn add_created(&mut self, set: SetId, vars: &ArrayVec<Value, 8>, parent: Pid) -> Pid
         requires set { set.0 < length (state_of self.old).last }
-        requires room { 0 < births_of self.old }
+        requires room { 0 < creatable_of self.old }
         requires serials { HaveSerials (state_of self.old) }
         requires few { slice_index (state_of self.old).last set.0 + 1 < 2 ^ 32 }
         ensures pid { result ≡ next_of (state_of self.old) set }
-        ensures born { state_of self.new ≡ born (state_of self.old) set vars.now.items parent }
-        ensures births { births_of self.old < births_of self.new + 2 }
+        ensures with_created { state_of self.new ≡ with_created (state_of self.old) set vars.now.items parent }
+        ensures creatable { creatable_of self.old < creatable_of self.new + 2 }
     {
         let serial = self.last[set.0 as usize] + 1;
         let instance = Instance::new(self.alloc, copied_values(vars.as_slice()), parent);
@@ -131,16 +131,16 @@ impl Living {
     ) -> Pid
         requires within { place < length (state_of self.old).living }
         requires set { (set.0 < length sets.now) × (set.0 < length (state_of self.old).last) }
-        requires room { 0 < births_of self.old }
+        requires room { 0 < creatable_of self.old }
         requires serials { HaveSerials (state_of self.old) }
         requires few { slice_index (state_of self.old).last set.0 + 1 < 2 ^ 32 }
         ensures creates { (p : Pid) (r : Record) → StandsAt (state_of self.old) place p r → CreatesAt sets.now place p r set vars.now.items result (state_of self.old) (state_of self.new) }
-        ensures births { births_of self.old < births_of self.new + 2 }
+        ensures creatable { creatable_of self.old < creatable_of self.new + 2 }
     {
         let creator = self.pid(place);
         let numbers = numbers_at(sets, set.0 as usize);
         let made = if self.instances.number_of(set) < numbers.maximum as usize {
-            self.bear(set, vars, creator)
+            self.add_created(set, vars, creator)
         } else {
             Pid::Null
         };

@@ -2,13 +2,13 @@
 ghost use Rattle.std.specs.Prelude.{◌≡◌, ℕ, ◌++◌, ◌∷◌, ◌<◌, ◌≤◌, ◌%◌, ◌^◌, ◌-◌, [], OnOk, OnErr, IfOk, IfErr, slice_get, length, None, Some};
 ghost use Rattle.sdl_signal.specs.declared.ids.SetId.{SetId};
 ghost use Rattle.sdl_signal.specs.declared.values.Pid.{Pid};
-ghost use Rattle.sdl_routes.specs.declared.parts.Row.{Row};
-ghost use Rattle.sdl_routes.specs.declared.parts.EndPoint.TheVariants as ends;
+ghost use Rattle.sdl_routes.specs.declared.route.TableRow.{TableRow};
+ghost use Rattle.sdl_routes.specs.declared.route.EndPoint.TheVariants as ends;
 ghost use Rattle.sdl_instances.specs.Legal.{GoesTo, IsOfSet};
 ghost use Rattle.sdl_processes.specs.Record.{Record};
 ghost use Rattle.sdl_instances.specs.Machine.{Arrives, Becomes, number_living, pids};
 ghost use Rattle.sdl_instances.specs.Core.{arrival_event, IsLivingAt, signals_of, sets_of};
-ghost use Rattle.sdl_instances.specs.Living.{state_of, births_of};
+ghost use Rattle.sdl_instances.specs.Living.{state_of, creatable_of};
 ghost use Rattle.sdl_instances.specs.Run.{turns, waiting, initial};
 ghost use Rattle.sdl_transition.specs.Rules.{block_rules};
 ghost use Rattle.sdl_instances.specs.declared.event.Arrival.TheVariants as arrival;
@@ -16,7 +16,7 @@ ghost use Rattle.sdl_instances.specs.declared.event.Arrival.TheVariants as arriv
 use crate::event::{Arrival, Cause, Event};
 use crate::first::{first_living, first_serials, numbers_of_sets, sorts_of};
 use crate::living::Living;
-use crate::parts::ProcessSet;
+use crate::process_set::ProcessSet;
 use crate::ready::Look;
 use arrayvec::ArrayVec;
 use sdl_parts::Structure;
@@ -45,13 +45,13 @@ pub struct Table {
 
 impl Model for Table {
     ghost use Rattle.std.specs.Prelude.{map, vec_capacity};
-    ghost use Rattle.sdl_instances.specs.Core.{Held};
-    ghost use Rattle.sdl_instances.specs.Living.{state_of, births_of};
+    ghost use Rattle.sdl_instances.specs.Core.{CoreWithRoom};
+    ghost use Rattle.sdl_instances.specs.Living.{state_of, creatable_of};
     ghost use Rattle.sdl_instances.specs.Run.{IsCounted};
 
-    ghost Value = { Held };
+    ghost Value = { CoreWithRoom };
 
-    ghost view = { λ t. record { core = record { block = t.block; signals = map (λ s. s.items) t.signals.items; sets = t.sets.items; state = state_of t.living; log = t.log.items; budget = t.budget }; capacity = vec_capacity t.log; births = births_of t.living } };
+    ghost view = { λ t. record { core = record { block = t.block; signals = map (λ s. s.items) t.signals.items; sets = t.sets.items; state = state_of t.living; log = t.log.items; budget = t.budget }; capacity = vec_capacity t.log; creatable = creatable_of t.living } };
 
     ghost invariant = { λ t. IsCounted t.log.items (state_of t.living).living t.outputs t.stamp t.made t.budget };
 }
@@ -91,8 +91,8 @@ impl Table {
 
 /// The set at the end of the item's route.
 fn end_of(routes: &Routes, route: RouteId) -> SetId
-    requires { (set : SetId) × (row : Row) × (slice_get routes.now route.0 ≡ Some row) × (row.route.end ≡ ends.Set set) }
-    ensures { (row : Row) × (slice_get routes.now route.0 ≡ Some row) × (row.route.end ≡ ends.Set result) }
+    requires { (set : SetId) × (row : TableRow) × (slice_get routes.now route.0 ≡ Some row) × (row.route.end ≡ ends.Set set) }
+    ensures { (row : TableRow) × (slice_get routes.now route.0 ≡ Some row) × (row.route.end ≡ ends.Set result) }
 {
     match routes.get(route) {
         Some(found) => match found.end {

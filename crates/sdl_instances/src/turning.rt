@@ -27,7 +27,7 @@ impl Table {
     /// Takes the room for a turn: for its event, and for as many instances as it can create. A refusal changes nothing.
     pub fn make_room(&mut self) -> Result<(), AllocError>
         ensures same { self.new.core ≡ self.old.core }
-        ensures room { OnOk result ((length self.new.core.log < self.new.capacity) × (8 ≤ self.new.births)) }
+        ensures room { OnOk result ((length self.new.core.log < self.new.capacity) × (8 ≤ self.new.creatable)) }
     {
         self.log.reserve(1)?;
         self.living.make_room()?;
@@ -48,7 +48,7 @@ impl Table {
         requires front { (p : Pid) (r : Record) → StandsAt self.old.core.state place p r → 0 < length r.port }
         ensures consumed { Consumes place result self.old.core self.new.core }
         ensures capacity { self.new.capacity ≡ self.old.capacity }
-        ensures births { self.new.births ≡ self.old.births }
+        ensures creatable { self.new.creatable ≡ self.old.creatable }
     {
         self.living.consume(place)
     }
@@ -86,7 +86,7 @@ impl Table {
         step: Step,
     ) -> ArrayVec<Item, 8>
         requires indexed { IsIndexed parts.now }
-        requires ready { CanCarryOut self.old.core.sets place 8 self.old.births self.old.core.state }
+        requires ready { CanCarryOut self.old.core.sets place 8 self.old.creatable self.old.core.state }
         requires creatable { AllByRecursion (CanAct self.old.core.sets (block_rules parts.now)) step.actions.items }
         requires room { length self.old.core.log < self.old.capacity }
         requires budget { (turns self.old.core.log < self.old.core.budget) × (length (origins self.old.core.log) + 8 < 2 ^ 64) }

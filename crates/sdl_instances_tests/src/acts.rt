@@ -1,7 +1,7 @@
 //! Calls of a block's core, each with the answer that it is to give.
 ghost use Rattle.std.specs.Prelude.{IfOk};
 ghost use Rattle.sdl_instances.specs.Core.{IsSound};
-ghost use Rattle.sdl_instances.specs.Cores.{CanFire, core_of, parts_of, system_in};
+ghost use Rattle.sdl_instances.specs.CoreOf.{CanFire, core_of, parts_of, system_in};
 
 use super::shown::{On, Saw, answer_of, latest_frame, quiet};
 use arrayvec::ArrayVec;

@@ -1,7 +1,7 @@
 //! Kids asked by their places in the order of creation.
 ghost use Rattle.std.specs.Prelude.{IfOk};
 ghost use Rattle.sdl_instances.specs.Core.{IsSound};
-ghost use Rattle.sdl_instances.specs.Cores.{CanFire, core_of, parts_of, system_in};
+ghost use Rattle.sdl_instances.specs.CoreOf.{CanFire, core_of, parts_of, system_in};
 
 use super::acts::{arrive, turn};
 use super::shown::On;

@@ -2,7 +2,7 @@
 ghost use Rattle.std.specs.List.{AllByRecursion};
 ghost use Rattle.sdl_transition.specs.Transitions.{IsAllowedBehaviour};
 ghost use Rattle.sdl_instances.specs.Core.{IsSound};
-ghost use Rattle.sdl_instances.specs.Cores.{CanFire, core_of, parts_of, system_in};
+ghost use Rattle.sdl_instances.specs.CoreOf.{CanFire, core_of, parts_of, system_in};
 
 use super::acts::{Act, act_all};
 use super::rows_kept::keep_rows;

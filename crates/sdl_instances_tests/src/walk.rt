@@ -1,7 +1,7 @@
 //! A random walk: Kids are made and stopped, and each is found where its order of creation says.
 ghost use Rattle.std.specs.Prelude.{IfOk};
 ghost use Rattle.sdl_instances.specs.Core.{IsSound};
-ghost use Rattle.sdl_instances.specs.Cores.{CanFire, core_of, parts_of, system_in};
+ghost use Rattle.sdl_instances.specs.CoreOf.{CanFire, core_of, parts_of, system_in};
 
 use super::acts::{Arriving, arrive, turn};
 use super::asking::ask_all;

@@ -5,7 +5,7 @@ use Rattle.std.proofs.lemmas.List.Sums.{sum_by-cons, sum_by_more_le}
 use Rattle.arrayvec.specs.ArrayVec.{ArrayVec}
 use Rattle.sdl_signal.specs.declared.values.Item.{Item}
 use Rattle.sdl_signal.specs.declared.values.Pid.{Pid}
-use Rattle.sdl_routes.specs.declared.parts.Station.{Station}
+use Rattle.sdl_routes.specs.declared.route.Station.{Station}
 use Rattle.sdl_behaviour.specs.declared.step.Frame.{Frame}
 use Rattle.sdl_behaviour.specs.declared.step.Step.{Step}
 use Rattle.sdl_instances.specs.declared.event.Done.{Done}
@@ -15,8 +15,8 @@ use Rattle.sdl_instances.specs.declared.event.Event.TheVariants as event
 use Rattle.sdl_instances.specs.Run.{done_in}
 use Rattle.sdl_outcome.specs.declared.environment_output.EnvOut.{EnvOut}
 use Rattle.sdl_ledger.specs.declared.ledger.Ledger.{Ledger}
-use Rattle.sdl_outcome.specs.Outcome.{Outcome, Held}
-use Rattle.sdl_ledger.specs.Counts.{IsLedgerOf, Fits, Adds, CanAdd, summed, of_event, of_trigger, of_done, of_output, of_hand, of_rest, output_by, no_route_by, entered_in, no_instance_in, gone_in, fired_in, implicit_in, stopped_in, items_held, items_at}
+use Rattle.sdl_outcome.specs.Outcome.{Outcome, WorkerHand}
+use Rattle.sdl_ledger.specs.Counts.{IsLedgerOf, CountsFit, Adds, CanAdd, summed, of_event, of_trigger, of_done, of_output, of_hand, of_rest, output_by, no_route_by, entered_in, no_instance_in, gone_in, fired_in, implicit_in, stopped_in, items_held, items_at}
 
 pub no_sum : {X : Type 0} (xs : List X) → sum_by (λ x. 0) xs ≡ 0
 no_sum [] = refl
@@ -151,14 +151,14 @@ none_in (log ∷ logs) =
     let c = none_in logs in
     omega arith
 
-module _ {V H Q : Type 0} (g : V → List Event) (h : H → Held) (q : Q → Station × List Item) (vs : List V) (puts : List EnvOut) (received : List Item) (hands : List H) (rests : List Q) (held : ℕ) where
+module _ {V H Q : Type 0} (g : V → List Event) (h : H → WorkerHand) (q : Q → Station × List Item) (vs : List V) (puts : List EnvOut) (received : List Item) (hands : List H) (rests : List Q) (held : ℕ) where
   abbrev whole : Outcome
   whole = record { logs = map g vs; env_put = puts; env_received = received; hands = map h hands; rests = map q rests }
 
   abbrev in_logs : List V → Ledger
   in_logs = summed (λ v. summed of_event (g v))
 
-  module _ (fits : Fits whole) (first : Ledger) (begins : Begins (length received) held first) where
+  module _ (fits : CountsFit whole) (first : Ledger) (begins : Begins (length received) held first) where
     pub log_room : (now : Ledger) (k : ℕ) (d : V) (log : List Event) → k < length vs → Adds first (in_logs (take k vs)) now → log ≡ g (get_or vs k d) → CanAdd now (summed of_event log)
     log_room now k d log less adds is =
         let none = none_in (map g vs) in

@@ -4,8 +4,8 @@ use Rattle.std.specs.Option.{option_to_list}
 use Rattle.std.specs.List.{AllByRecursion}
 use Rattle.sdl_signal.specs.declared.values.Item.{Item}
 use Rattle.sdl_signal.specs.Environment.{most_lines}
-use Rattle.sdl_routes.specs.declared.parts.Hop.{Hop}
-use Rattle.sdl_routes.specs.declared.parts.Station.{Station}
+use Rattle.sdl_routes.specs.declared.route.Hop.{Hop}
+use Rattle.sdl_routes.specs.declared.route.Station.{Station}
 use Rattle.sdl_behaviour.specs.declared.step.Frame.{Frame}
 use Rattle.sdl_behaviour.specs.declared.step.Step.{Step}
 use Rattle.sdl_instances.specs.declared.event.Cause.TheVariants as cause
@@ -25,7 +25,7 @@ use Rattle.sdl_outcome.specs.declared.worker.Worker.TheVariants.{Environment, Fo
 use Rattle.sdl_outcome.specs.EnvironmentWork.{ComesIn, env_sent}
 use Rattle.sdl_outcome.specs.Books.{InOrder}
 use Rattle.sdl_outcome.specs.Plan.{Plan, IsPlan, blocks_in, rules_at, ways_of}
-use Rattle.sdl_outcome.specs.Outcome.{Held, Outcome, IsComplete, IsLawful, books_of}
+use Rattle.sdl_outcome.specs.Outcome.{WorkerHand, Outcome, IsComplete, IsLawful, books_of}
 
 -- an output, with or without a route
 abbrev pub output_by : Done → ℕ
@@ -89,7 +89,7 @@ stopped_in (event.Entered i p) = 0
 stopped_in (event.Discarded i c) = 0
 
 -- the items in a hand: the one that is kept, and those that are yet to be put
-abbrev pub items_held : Held → ℕ
+abbrev pub items_held : WorkerHand → ℕ
 items_held h = length (option_to_list h.kept) + length h.outgoing
 
 -- the items that rest at a station
@@ -145,7 +145,7 @@ Balances l =
     × (l.entered ≡ l.fired + l.implicit + l.stopped + l.waiting + l.environment)
 
 -- each count is less than 2 ^ 64
-pub record Fits (o : Outcome) : Type 0 where
+pub record CountsFit (o : Outcome) : Type 0 where
   pub output : all_output o < 2 ^ 64
   pub no_route : all_no_route o < 2 ^ 64
   pub entered : all_entered o < 2 ^ 64
@@ -225,7 +225,7 @@ of_event e =
 abbrev pub of_output : EnvOut → Ledger
 of_output out = record no_counts { output = 1; no_route = no_route_at out }
 
-abbrev pub of_hand : Held → Ledger
+abbrev pub of_hand : WorkerHand → Ledger
 of_hand h = record no_counts { left = items_held h }
 
 abbrev pub of_rest : Station × List Item → Ledger

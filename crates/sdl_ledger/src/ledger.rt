@@ -4,7 +4,7 @@ ghost use Rattle.sdl_forward.specs.Boards.{lists_of};
 ghost use Rattle.sdl_queue.specs.Rest.{left_in};
 ghost use Rattle.sdl_outcome.specs.Lists.{items_in, held_in};
 ghost use Rattle.sdl_outcome.specs.Outcome.{Outcome};
-ghost use Rattle.sdl_ledger.specs.Counts.{IsLedgerOf, Fits, Adds, CanAdd, summed, of_event, of_trigger, of_done, of_output, of_hand, of_rest};
+ghost use Rattle.sdl_ledger.specs.Counts.{IsLedgerOf, CountsFit, Adds, CanAdd, summed, of_event, of_trigger, of_done, of_output, of_hand, of_rest};
 
 use sdl_hand::Hand;
 use sdl_instances::{Cause, Done, Event, Trigger};
@@ -53,7 +53,7 @@ impl Ledger {
         rests: &[(Station, Rest)],
         waiting: u64,
     ) -> Ledger
-        requires { Fits (record { logs = map items_in logs.now; env_put = env_put.now; env_received = env_received.now; hands = map held_in hands.now; rests = lists_of rests.now }) }
+        requires { CountsFit (record { logs = map items_in logs.now; env_put = env_put.now; env_received = env_received.now; hands = map held_in hands.now; rests = lists_of rests.now }) }
         ensures { IsLedgerOf (record { logs = map items_in logs.now; env_put = env_put.now; env_received = env_received.now; hands = map held_in hands.now; rests = lists_of rests.now }) waiting result }
     {
         let received = env_received.len() as u64;

@@ -9,9 +9,9 @@ use Rattle.std.proofs.lemmas.List.Concat.{flat_map-append}
 use Rattle.std.proofs.lemmas.List.Elements.{recursion_from_All}
 use Rattle.sdl_signal.specs.declared.ids.BlockId.{BlockId}
 use Rattle.sdl_signal.specs.declared.values.Item.{Item}
-use Rattle.sdl_routes.specs.declared.parts.Row.{Row}
-use Rattle.sdl_routes.specs.declared.parts.Station.{Station}
-use Rattle.sdl_routes.specs.declared.parts.Station.TheVariants.{Line, Inlet, Outlet}
+use Rattle.sdl_routes.specs.declared.route.TableRow.{TableRow}
+use Rattle.sdl_routes.specs.declared.route.Station.{Station}
+use Rattle.sdl_routes.specs.declared.route.Station.TheVariants.{Line, Inlet, Outlet}
 use Rattle.sdl_behaviour.specs.declared.step.Frame.{Frame}
 use Rattle.sdl_behaviour.specs.declared.step.Step.{Step}
 use Rattle.sdl_instances.specs.declared.event.Event.{Event}
@@ -21,9 +21,9 @@ use Rattle.sdl_outcome.specs.declared.worker.Worker.{Worker}
 use Rattle.sdl_outcome.specs.declared.worker.Worker.TheVariants.{Block, Environment, Forwarder}
 use Rattle.sdl_outcome.specs.Stations.{IsAgent, first, next, place, taker}
 use Rattle.sdl_outcome.specs.Books.{standing}
-use Rattle.sdl_outcome.specs.Steps.{Acts, IsQuiet, is_station, bound_for}
+use Rattle.sdl_outcome.specs.Steps.{Acts, IsUnchangedAt, bound_for}
 use Rattle.sdl_outcome.specs.Plan.{Plan, IsPlan, MayTravel, system_at, ways_of}
-use Rattle.sdl_hand.specs.Work.{Working, Works, beginning_at, first_station, is_at}
+use Rattle.sdl_hand.specs.Work.{Working, Works, beginning_at, first_station, is_station}
 use Rattle.sdl_outcome.specs.EnvironmentWork.{env_sent}
 use Rattle.sdl_order.specs.Driver.{Site, site_books, of_agent, IsCoreAt, IsAtWork}
 use Rattle.sdl_outcome.proofs.Lists.{all_front, all_end, all_append, all_filter, filter_agrees, get_set, get_set_other, length_set}
@@ -32,23 +32,15 @@ use Rattle.sdl_order.proofs.Starts.{block, run_starts}
 use Rattle.sdl_outcome.proofs.Ways.{ways_are}
 use Rattle.sdl_order.proofs.Keeps.{acts_keeps}
 
-first_get : (ss : List Station) → first ss ≡ slice_get ss 0
-first_get [] = refl
-first_get (s ∷ ss) = refl
-
-pub first_row : (o : Option Row) → first (elim o as (λ _. List Station) [ None ↦ [] | Some row ↦ row.route.stations.items ]) ≡ option_and_then (λ (row : Row). slice_get row.route.stations.items 0) o
+pub first_row : (o : Option TableRow) → first (elim o as (λ _. List Station) [ None ↦ [] | Some row ↦ row.route.stations.items ]) ≡ option_and_then (λ (row : TableRow). slice_get row.route.stations.items 0) o
 first_row None = refl
-first_row (Some row) = first_get row.route.stations.items
-
-pub same_at : (s : Station) (o : Option Station) → is_station s o ≡ is_at s o
-same_at s None = refl
-same_at s (Some x) = refl
+first_row (Some row) = refl
 
 -- a block's items go to where their routes begin
 pub bound_is : (plan : Plan) (b : BlockId) (s : Station) (items : List Item) → bound_for (ways_of plan) (Block b) s items ≡ beginning_at plan.routes s items
 bound_is plan b s items =
-    filter_agrees (λ (i : Item). is_station s (next (ways_of plan) (Block b) i.route.0)) (λ (i : Item). is_at s (first_station plan.routes i))
-    (λ i. ap (is_station s) (first_row (slice_get plan.routes i.route.0)) ∙ same_at s (first_station plan.routes i)) items
+    filter_agrees (λ (i : Item). is_station s (next (ways_of plan) (Block b) i.route.0)) (λ (i : Item). is_station s (first_station plan.routes i))
+    (λ i. ap (is_station s) (first_row (slice_get plan.routes i.route.0))) items
 
 pub sent_append : (old more : List Event) → sent (old ++ more) ≡ sent old ++ sent more
 sent_append old more = ap (flat_map sent_by) (flat_map-append done_in old more) ∙ flat_map-append sent_by (all_done old) (all_done more)
@@ -146,7 +138,7 @@ module _ (may : ℕ → Frame → Step → Type 0) (plan : Plan) (ok : IsPlan pl
       let a = append_assoc ((site_books old).kept (taker s)) (waiting old.board s) (bound_for (ways_of plan) here s works.put) in
       cc
 
-  pub steps_quiet : (v : Worker) → v ≢ here → IsQuiet v (site_books old) (site_books then)
+  pub steps_quiet : (v : Worker) → v ≢ here → IsUnchangedAt v (site_books old) (site_books then)
   steps_quiet v e =
       record {
         sent = of_block_other (λ (w : Working). sent w.core.log) (env_sent old.environment.put) old.blocks n was is before v e;

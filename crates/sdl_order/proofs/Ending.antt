@@ -6,8 +6,8 @@ use Rattle.std.proofs.lemmas.Bool.{cond_both, cond-true, eqb-true, eq-eqb}
 use Rattle.std.proofs.lemmas.List.{length-map, length-append}
 use Rattle.sdl_signal.specs.declared.ids.BlockId.{BlockId}
 use Rattle.sdl_signal.specs.declared.values.Item.{Item}
-use Rattle.sdl_routes.specs.declared.parts.Hop.{Hop}
-use Rattle.sdl_routes.specs.declared.parts.Station.{Station}
+use Rattle.sdl_routes.specs.declared.route.Hop.{Hop}
+use Rattle.sdl_routes.specs.declared.route.Station.{Station}
 use Rattle.sdl_behaviour.specs.declared.step.Frame.{Frame}
 use Rattle.sdl_behaviour.specs.declared.step.Step.{Step}
 use Rattle.sdl_instances.specs.declared.event.Event.{Event}
@@ -20,7 +20,7 @@ use Rattle.sdl_outcome.specs.Stations.{IsAgent, Among, taker}
 use Rattle.sdl_outcome.specs.Books.{Books, InOrder, standing}
 use Rattle.sdl_outcome.specs.Steps.{IsStill}
 use Rattle.sdl_outcome.specs.Plan.{Plan, IsPlan, MayTravel, blocks_in, blocks_from, workers_of, lines_of, system_at, ways_of}
-use Rattle.sdl_outcome.specs.Outcome.{Held, IsComplete, IsLawful, AreRunsFrom, LeftsAreLegal, of_worker, books_of}
+use Rattle.sdl_outcome.specs.Outcome.{WorkerHand, IsComplete, IsLawful, AreRunsFrom, LeftsAreLegal, of_worker, books_of}
 use Rattle.sdl_hand.specs.Work.{Working}
 use Rattle.sdl_order.specs.Driver.{Site, site_books, of_agent, held_at, IsCoreAt, IsAtWork, outcome_of, finals_of, block_hand, env_hand, forwarder_hand}
 use Rattle.sdl_outcome.specs.EnvironmentWork.{env_sent}
@@ -89,7 +89,7 @@ map_append g [] ys = refl
 map_append g (x ∷ xs) ys = ap (λ zs. g x ∷ zs) (map_append g xs ys)
 
 -- the hands of all workers, by one of their parts
-hands_by : (g : Held → List Item) (site : Site)
+hands_by : (g : WorkerHand → List Item) (site : Site)
     → map g (outcome_of site).hands ≡ map (λ (w : Working). g (block_hand w)) site.blocks ++ g (env_hand site.environment) ∷ map (λ (k : Forwarding). g (forwarder_hand k)) site.forwarders
 hands_by g site =
     map_append g (map block_hand site.blocks) (env_hand site.environment ∷ map forwarder_hand site.forwarders)
@@ -120,20 +120,20 @@ module _ (may : ℕ → Frame → Step → Type 0) (plan : Plan) (ok : IsPlan pl
   arrived_same Environment a = logs_by arrived site.environment.received Environment ∙ env_has plan site work.blocks (λ (k : Working). arrived k.core.log) site.environment.received []
   arrived_same (Forwarder h) a = absurd a
 
-  by_hands : (g : Held → List Item) (w : Worker) → of_worker w (workers_of plan) (map g (outcome_of site).hands)
+  by_hands : (g : WorkerHand → List Item) (w : Worker) → of_worker w (workers_of plan) (map g (outcome_of site).hands)
       ≡ of_worker w (workers_of plan) (map (λ (k : Working). g (block_hand k)) site.blocks ++ g (env_hand site.environment) ∷ map (λ (k : Forwarding). g (forwarder_hand k)) site.forwarders)
   by_hands g w = ap (of_worker w (workers_of plan)) (hands_by g site)
 
   pub outgoing_same : (w : Worker) → IsAgent w → after.outgoing w ≡ before.outgoing w
-  outgoing_same (Block b) a = by_hands (λ (h : Held). h.outgoing) (Block b) ∙ block_has plan site work.blocks (λ (k : Working). k.outgoing) site.environment.outgoing (map (λ (k : Forwarding). []) site.forwarders) b
-  outgoing_same Environment a = by_hands (λ (h : Held). h.outgoing) Environment ∙ env_has plan site work.blocks (λ (k : Working). k.outgoing) site.environment.outgoing (map (λ (k : Forwarding). []) site.forwarders)
+  outgoing_same (Block b) a = by_hands (λ (h : WorkerHand). h.outgoing) (Block b) ∙ block_has plan site work.blocks (λ (k : Working). k.outgoing) site.environment.outgoing (map (λ (k : Forwarding). []) site.forwarders) b
+  outgoing_same Environment a = by_hands (λ (h : WorkerHand). h.outgoing) Environment ∙ env_has plan site work.blocks (λ (k : Working). k.outgoing) site.environment.outgoing (map (λ (k : Forwarding). []) site.forwarders)
   outgoing_same (Forwarder h) a = absurd a
 
   kept_same : (w : Worker) → after.kept w ≡ before.kept w
-  kept_same (Block b) = by_hands (λ (h : Held). option_to_list h.kept) (Block b) ∙ block_has plan site work.blocks (λ (k : Working). option_to_list k.kept) [] (map (λ (k : Forwarding). option_to_list k.held) site.forwarders) b
-  kept_same Environment = by_hands (λ (h : Held). option_to_list h.kept) Environment ∙ env_has plan site work.blocks (λ (k : Working). option_to_list k.kept) [] (map (λ (k : Forwarding). option_to_list k.held) site.forwarders)
+  kept_same (Block b) = by_hands (λ (h : WorkerHand). option_to_list h.kept) (Block b) ∙ block_has plan site work.blocks (λ (k : Working). option_to_list k.kept) [] (map (λ (k : Forwarding). option_to_list k.held) site.forwarders) b
+  kept_same Environment = by_hands (λ (h : WorkerHand). option_to_list h.kept) Environment ∙ env_has plan site work.blocks (λ (k : Working). option_to_list k.kept) [] (map (λ (k : Forwarding). option_to_list k.held) site.forwarders)
   kept_same (Forwarder h) =
-      by_hands (λ (k : Held). option_to_list k.kept) (Forwarder h)
+      by_hands (λ (k : WorkerHand). option_to_list k.kept) (Forwarder h)
       ∙ (forwarder_has plan site work.blocks (λ (k : Working). option_to_list k.kept) [] (map (λ (k : Forwarding). option_to_list k.held) site.forwarders) h
       ∙ (ap (λ (hs : List Hop). of_worker (Forwarder h) (map Forwarder hs) (map (λ (k : Forwarding). option_to_list k.held) site.forwarders)) (sym work.forwarders)
       ∙ forwarder_among site.forwarders h))
@@ -147,7 +147,7 @@ module _ (may : ℕ → Frame → Step → Type 0) (plan : Plan) (ok : IsPlan pl
 
   pub forwarders_put : (h : Hop) → after.outgoing (Forwarder h) ≡ []
   forwarders_put h =
-      by_hands (λ (k : Held). k.outgoing) (Forwarder h)
+      by_hands (λ (k : WorkerHand). k.outgoing) (Forwarder h)
       ∙ (forwarder_has plan site work.blocks (λ (k : Working). k.outgoing) site.environment.outgoing (map (λ (k : Forwarding). []) site.forwarders) h
       ∙ none_put h (lines_of plan) site.forwarders)
 

@@ -2,7 +2,7 @@
 use Rattle.std.proofs.Common.{ℕ, zero, suc, List, [], ◌∷◌, map, ◌≡◌, ◌≢◌, Some, slice_get, ap, subst}
 use Rattle.std.specs.List.{AllByRecursion}
 use Rattle.std.proofs.lemmas.Option.{none-some, same_Some}
-use Rattle.sdl_routes.specs.declared.parts.Hop.{Hop}
+use Rattle.sdl_routes.specs.declared.route.Hop.{Hop}
 use Rattle.sdl_routes.specs.Routes.{EachOnce}
 use Rattle.sdl_forward.specs.Forwards.{Forwarding}
 use Rattle.sdl_order.proofs.ForwarderStep.{IsFirstAt}

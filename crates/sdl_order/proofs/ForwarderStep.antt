@@ -4,34 +4,25 @@ use Rattle.std.specs.Option.{option_to_list, option_and_then}
 use Rattle.std.proofs.lemmas.Bool.{cases_Bool, cond_both, cond-true, cond-false}
 use Rattle.std.proofs.lemmas.Option.{same_Some}
 use Rattle.sdl_signal.specs.declared.values.Item.{Item}
-use Rattle.sdl_routes.specs.declared.parts.Hop.{Hop}
-use Rattle.sdl_routes.specs.declared.parts.Row.{Row}
-use Rattle.sdl_routes.specs.declared.parts.Station.{Station}
-use Rattle.sdl_routes.specs.declared.parts.Station.TheVariants.{Line}
+use Rattle.sdl_routes.specs.declared.route.Hop.{Hop}
+use Rattle.sdl_routes.specs.declared.route.TableRow.{TableRow}
+use Rattle.sdl_routes.specs.declared.route.Station.{Station}
+use Rattle.sdl_routes.specs.declared.route.Station.TheVariants.{Line}
 use Rattle.sdl_forward.specs.Boards.{same_hop, same_station}
 use Rattle.sdl_forward.specs.Forwards.{Forwarding, station_behind, next_station}
 use Rattle.sdl_outcome.specs.declared.worker.Worker.TheVariants.{Forwarder}
-use Rattle.sdl_outcome.specs.Stations.{first, after, next}
+use Rattle.sdl_outcome.specs.Stations.{next}
 use Rattle.sdl_outcome.specs.Plan.{Plan, ways_of}
 use Rattle.sdl_order.specs.Driver.{held_at}
 use Rattle.sdl_outcome.proofs.Comparisons.{same_hop_is, same_hop_itself}
 
-first_get : (ss : List Station) → first ss ≡ slice_get ss 0
-first_get [] = refl
-first_get (s ∷ ss) = refl
-
-after_behind : (s : Station) (ss : List Station) → after s ss ≡ station_behind s ss
-after_behind s [] = refl
-after_behind s (x ∷ xs) =
-    ap (λ (o : Option Station). cond (same_station x s) o (after s xs)) (first_get xs) ∙ ap (λ (o : Option Station). cond (same_station x s) (slice_get xs 0) o) (after_behind s xs)
-
-after_row : (s : Station) (o : Option Row) → after s (elim o as (λ _. List Station) [ None ↦ [] | Some row ↦ row.route.stations.items ]) ≡ option_and_then (λ (row : Row). station_behind s row.route.stations.items) o
-after_row s None = refl
-after_row s (Some row) = after_behind s row.route.stations.items
+behind_in_row : (s : Station) (o : Option TableRow) → station_behind s (elim o as (λ _. List Station) [ None ↦ [] | Some row ↦ row.route.stations.items ]) ≡ option_and_then (λ (row : TableRow). station_behind s row.route.stations.items) o
+behind_in_row s None = refl
+behind_in_row s (Some row) = refl
 
 -- a forwarder brings an item to the station behind its own on the item's route
 pub next_is : (plan : Plan) (h : Hop) (i : Item) → next (ways_of plan) (Forwarder h) i.route.0 ≡ next_station plan.routes (Line h) i
-next_is plan h i = after_row (Line h) (slice_get plan.routes i.route.0)
+next_is plan h i = behind_in_row (Line h) (slice_get plan.routes i.route.0)
 
 -- the forwarder's path stands at this place, and at no other before it
 abbrev pub IsFirstAt : List Forwarding → ℕ → Hop → Type 0

@@ -4,9 +4,9 @@ use Rattle.std.specs.Option.{option_to_list}
 use Rattle.std.proofs.lemmas.List.{append_assoc}
 use Rattle.std.specs.List.{AllByRecursion}
 use Rattle.sdl_signal.specs.declared.values.Item.{Item}
-use Rattle.sdl_routes.specs.declared.parts.Hop.{Hop}
-use Rattle.sdl_routes.specs.declared.parts.Station.{Station}
-use Rattle.sdl_routes.specs.declared.parts.Station.TheVariants.{Line, Inlet, Outlet}
+use Rattle.sdl_routes.specs.declared.route.Hop.{Hop}
+use Rattle.sdl_routes.specs.declared.route.Station.{Station}
+use Rattle.sdl_routes.specs.declared.route.Station.TheVariants.{Line, Inlet, Outlet}
 use Rattle.sdl_routes.specs.Routes.{EachOnce}
 use Rattle.sdl_behaviour.specs.declared.step.Frame.{Frame}
 use Rattle.sdl_behaviour.specs.declared.step.Step.{Step}
@@ -15,7 +15,7 @@ use Rattle.sdl_forward.specs.Forwards.{Forwarding, Moves, Holds}
 use Rattle.sdl_outcome.specs.declared.worker.Worker.{Worker}
 use Rattle.sdl_outcome.specs.Stations.{IsAgent, taker}
 use Rattle.sdl_outcome.specs.Books.{standing}
-use Rattle.sdl_outcome.specs.Steps.{Forwards, IsStill, IsQuiet}
+use Rattle.sdl_outcome.specs.Steps.{BringsOn, IsStill, IsUnchangedAt}
 use Rattle.sdl_outcome.specs.Plan.{Plan, IsPlan, MayTravel, ways_of, lines_of}
 use Rattle.sdl_order.specs.Driver.{Site, site_books, held_at, IsAtWork}
 use Rattle.sdl_outcome.proofs.Comparisons.{cases_station}
@@ -46,7 +46,7 @@ module _ (may : ℕ → Frame → Step → Type 0) (plan : Plan) (ok : IsPlan pl
   kept_else (Inlet b) e = refl
   kept_else Outlet e = refl
 
-  quiet : (w : Worker) → IsAgent w → IsQuiet w (site_books old) (site_books then)
+  quiet : (w : Worker) → IsAgent w → IsUnchangedAt w (site_books old) (site_books then)
   quiet w a = record { sent = refl; arrived = refl; outgoing = refl }
 
   hops_then : map (λ (f : Forwarding). f.hop) (set old.forwarders k is) ≡ lines_of plan
@@ -71,7 +71,7 @@ module _ (may : ℕ → Frame → Step → Type 0) (plan : Plan) (ok : IsPlan pl
         let e3 = append_assoc ((site_books old).kept (taker moves.to)) (waiting old.board moves.to) (moves.item ∷ []) in
         cc
 
-    pub forwards : Forwards (ways_of plan) was.hop (site_books old) (site_books then)
+    pub forwards : BringsOn (ways_of plan) was.hop (site_books old) (site_books then)
     forwards =
         record {
           item = moves.item;

@@ -5,18 +5,20 @@ use Rattle.std.proofs.lemmas.List.{append_assoc, append-nil}
 use Rattle.std.proofs.lemmas.List.Elements.{filter-append}
 use Rattle.std.proofs.lemmas.Option.{same_Some}
 use Rattle.std.specs.List.{flat_map, AllByRecursion}
-use Rattle.sdl_routes.specs.declared.parts.Hop.{Hop}
+use Rattle.sdl_routes.specs.declared.route.Hop.{Hop}
 use Rattle.sdl_signal.specs.declared.values.Item.{Item}
-use Rattle.sdl_routes.specs.declared.parts.Station.{Station}
-use Rattle.sdl_routes.specs.declared.parts.Station.TheVariants.{Line}
+use Rattle.sdl_routes.specs.declared.route.Station.{Station}
+use Rattle.sdl_routes.specs.declared.route.Station.TheVariants.{Line}
 use Rattle.sdl_outcome.specs.declared.worker.Worker.{Worker}
 use Rattle.sdl_outcome.specs.declared.worker.Worker.TheVariants.{Forwarder}
-use Rattle.sdl_outcome.specs.Stations.{Ways, IsAgent, Leads, AreWays, IsWay, Among, Once, first, after, next, place, taker}
+use Rattle.sdl_outcome.specs.Stations.{Ways, IsAgent, Leads, AreWays, IsWay, Among, Once, first, next, place, taker}
+use Rattle.sdl_forward.specs.Forwards.{station_behind}
 use Rattle.sdl_outcome.specs.Books.{Books, InOrder, of_route, outs, came, left, standing}
-use Rattle.sdl_outcome.specs.Steps.{is_station, bound_for, IsStill, Forwards, Acts, Steps}
+use Rattle.sdl_outcome.specs.Steps.{bound_for, IsStill, BringsOn, Acts, Steps}
+use Rattle.sdl_hand.specs.Work.{is_station}
 use Rattle.sdl_outcome.proofs.Comparisons.{cases_station, cases_worker}
 use Rattle.sdl_outcome.proofs.Lists.{all_front, all_end, all_append, all_weaker, all_passes, filter_none}
-use Rattle.sdl_outcome.proofs.Way.{next_among, first_among, after_any, after_skip, after_itself, next_agent, line_not_place, place_taker}
+use Rattle.sdl_outcome.proofs.AlongStations.{next_among, first_among, after_any, after_skip, after_itself, next_agent, line_not_place, place_taker}
 use Rattle.sdl_outcome.proofs.Along.{way, ways, head, first_way, back_from, route_bound, same_route, is_station_is}
 
 flat_same : (f g : Station → List Item) (ss : List Station) → ((s : Station) → Among s ss → g s ≡ f s) → flat_map g (reverse ss) ≡ flat_map f (reverse ss)
@@ -45,15 +47,15 @@ module _ (f g : Station → List Item) (a z : Station) (xs : List Item) (from : 
       let e5 = across (flat_map f (reverse zs)) (f z) xs (g a) in
       cc
 
-  slide : (ss : List Station) → Once ss → after a ss ≡ Some z → flat_map g (reverse ss) ≡ flat_map f (reverse ss)
+  slide : (ss : List Station) → Once ss → station_behind a ss ≡ Some z → flat_map g (reverse ss) ≡ flat_map f (reverse ss)
   slide [] o e = absurd (first_among [] z e)
   slide (x ∷ ys) o e = elim (cases_station x a) [
     | inl p ↦ subst (λ (u : Station). flat_map g (reverse (u ∷ ys)) ≡ flat_map f (reverse (u ∷ ys))) (sym p)
-        (slide_here ys (sym (after_itself a ys) ∙ subst (λ (u : Station). after a (u ∷ ys) ≡ Some z) p e) (subst (λ (u : Station). Among u ys → ⊥) p o.0) o.1)
+        (slide_here ys (sym (after_itself a ys) ∙ subst (λ (u : Station). station_behind a (u ∷ ys) ≡ Some z) p e) (subst (λ (u : Station). Among u ys → ⊥) p o.0) o.1)
     | inr n ↦ (
         let e1 = back_from g x ys in
         let e2 = back_from f x ys in
-        let follows : after a ys ≡ Some z = sym (after_skip a x ys n) ∙ e in
+        let follows : station_behind a ys ≡ Some z = sym (after_skip a x ys n) ∙ e in
         let e3 = others x n (λ p. o.0 (subst (λ (u : Station). Among u ys) (sym p) (after_any a ys z follows))) in
         let e4 = slide ys o.1 follows in
         cc)
@@ -63,7 +65,7 @@ module _ (f g : Station → List Item) (a z : Station) (xs : List Item) (from : 
 passes_route : (t : Ways) (r : ℕ) (s : Station) → Among s (t.stations r) → Leads t r
 passes_route t r s m e = subst (λ (ss : List Station). Among s ss) e m
 
-module _ (t : Ways) (h : Hop) (b c : Books) (ok : AreWays t) (o : InOrder t b) (step : Forwards t h b c) where
+module _ (t : Ways) (h : Hop) (b c : Books) (ok : AreWays t) (o : InOrder t b) (step : BringsOn t h b c) where
   forwards_order : (r : ℕ) → Leads t r → outs t c r ≡ came t c r ++ left t c r
   forwards_order r some =
       let is_way : IsWay t r = ok r some in
@@ -76,7 +78,7 @@ module _ (t : Ways) (h : Hop) (b c : Books) (ok : AreWays t) (o : InOrder t b) (
       let others = λ (s : Station) (n : s ≢ Line h) (m : s ≢ step.to). ap (of_route r) (step.others s n m) in
       let same : flat_map g (reverse (t.stations r)) ≡ flat_map f (reverse (t.stations r)) = elim (cases_Bool (of step.item)) [
         | inl e ↦ slide f g (Line h) step.to xs from to others (t.stations r) is_way.once
-            (subst (λ (n : ℕ). after (Line h) (t.stations n) ≡ Some step.to) (same_route step.item r e) step.goes)
+            (subst (λ (n : ℕ). station_behind (Line h) (t.stations n) ≡ Some step.to) (same_route step.item r e) step.goes)
         | inr e ↦ (
             let none : xs ≡ [] = cond-false (of step.item) (step.item ∷ []) [] e in
             flat_same f g (t.stations r) (λ s m. elim (cases_station s (Line h)) [
@@ -106,7 +108,7 @@ module _ (t : Ways) (h : Hop) (b c : Books) (ok : AreWays t) (o : InOrder t b) (
     ]
   ]
 
-pub forwards_keeps : (t : Ways) (h : Hop) (b c : Books) → AreWays t → InOrder t b → Forwards t h b c → InOrder t c
+pub forwards_keeps : (t : Ways) (h : Hop) (b c : Books) → AreWays t → InOrder t b → BringsOn t h b c → InOrder t c
 forwards_keeps t h b c ok o step = record {
   in_order = forwards_order t h b c ok o step;
   in_place = forwards_place t h b c ok o step;

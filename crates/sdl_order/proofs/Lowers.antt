@@ -5,11 +5,11 @@ use Rattle.std.proofs.lemmas.Bool.{cond_both}
 use Rattle.std.proofs.lemmas.Option.{same_Some, slice_get_within}
 use Rattle.std.proofs.lemmas.List.Sums.{sum_by-cons, sum_by-append}
 use Rattle.sdl_signal.specs.declared.values.Item.{Item}
-use Rattle.sdl_routes.specs.declared.parts.Row.{Row}
-use Rattle.sdl_routes.specs.declared.parts.Station.{Station}
-use Rattle.sdl_routes.specs.declared.parts.Station.TheVariants.{Inlet}
+use Rattle.sdl_routes.specs.declared.route.TableRow.{TableRow}
+use Rattle.sdl_routes.specs.declared.route.Station.{Station}
+use Rattle.sdl_routes.specs.declared.route.Station.TheVariants.{Inlet}
 use Rattle.sdl_routes.specs.Routes.{EachOnce}
-use Rattle.sdl_routes.specs.Table.{IsPlain}
+use Rattle.sdl_routes.specs.Table.{IsTableRoute}
 use Rattle.sdl_behaviour.specs.declared.step.Frame.{Frame}
 use Rattle.sdl_behaviour.specs.declared.step.Step.{Step}
 use Rattle.sdl_instances.specs.declared.event.Event.{Event}
@@ -20,13 +20,14 @@ use Rattle.sdl_outcome.specs.declared.worker.Worker.{Worker}
 use Rattle.sdl_outcome.specs.declared.worker.Worker.TheVariants.{Block, Environment, Forwarder}
 use Rattle.sdl_outcome.specs.Stations.{Ways, Among, next, place, taker}
 use Rattle.sdl_outcome.specs.Books.{standing}
-use Rattle.sdl_outcome.specs.Steps.{is_station, bound_for}
+use Rattle.sdl_outcome.specs.Steps.{bound_for}
+use Rattle.sdl_hand.specs.Work.{is_station}
 use Rattle.sdl_outcome.specs.Plan.{Plan, IsPlan, blocks_in, blocks_from, lines_of, workers_of, system_at, ways_of}
 use Rattle.sdl_hand.specs.Work.{Working, Works}
 use Rattle.sdl_order.specs.Driver.{Site, site_books, IsAtWork}
 use Rattle.sdl_order.specs.Measure.{stations_from, to_go, to_go_out, turns_left, load, work_left}
 use Rattle.sdl_outcome.proofs.Lists.{all_at, all_end, get_set, get_set_other}
-use Rattle.sdl_outcome.proofs.Way.{place_taker}
+use Rattle.sdl_outcome.proofs.AlongStations.{place_taker}
 use Rattle.sdl_outcome.proofs.Along.{is_station_is}
 use Rattle.sdl_order.proofs.Starts.{block}
 use Rattle.sdl_order.proofs.BlockStep.{steps_hand, steps_else, steps_quiet, inlet_parts, block_keeps, of_block_is, arrived_append}
@@ -40,9 +41,9 @@ from_most s [] = omega arith
 from_most s (x ∷ xs) = cond_both (same_station x s) (suc (length xs)) (stations_from s xs) (λ (k : ℕ). k ≤ suc (length xs)) (λ t. omega arith) (λ t. let h = from_most s xs in omega arith)
 
 -- a route has at most four stations
-short_row : (plan : Plan) → IsPlan plan → (r : ℕ) (o : Option Row) → slice_get plan.routes r ≡ o → length (elim o as (λ _. List Station) [ None ↦ [] | Some row ↦ row.route.stations.items ]) ≤ 4
+short_row : (plan : Plan) → IsPlan plan → (r : ℕ) (o : Option TableRow) → slice_get plan.routes r ≡ o → length (elim o as (λ _. List Station) [ None ↦ [] | Some row ↦ row.route.stations.items ]) ≤ 4
 short_row plan ok r None at = omega arith
-short_row plan ok r (Some row) at = (all_at IsPlain plan.routes r row ok.table.plain at).few_stations
+short_row plan ok r (Some row) at = (all_at IsTableRoute plan.routes r row ok.table.shown at).few_stations
 
 short_way : (plan : Plan) → IsPlan plan → (r : ℕ) → length ((ways_of plan).stations r) ≤ 4
 short_way plan ok r = short_row plan ok r (slice_get plan.routes r) refl

@@ -5,9 +5,9 @@ use Rattle.std.proofs.lemmas.List.Sums.{sum_by-append}
 use Rattle.sdl_signal.specs.declared.values.Item.{Item}
 use Rattle.sdl_signal.specs.declared.ends.InputEnd.{InputEnd}
 use Rattle.sdl_parts.specs.Structure.{Structure}
-use Rattle.sdl_routes.specs.declared.parts.Row.{Row}
-use Rattle.sdl_routes.specs.declared.parts.Station.{Station}
-use Rattle.sdl_routes.specs.declared.parts.Station.TheVariants.{Outlet}
+use Rattle.sdl_routes.specs.declared.route.TableRow.{TableRow}
+use Rattle.sdl_routes.specs.declared.route.Station.{Station}
+use Rattle.sdl_routes.specs.declared.route.Station.TheVariants.{Outlet}
 use Rattle.sdl_behaviour.specs.declared.step.Frame.{Frame}
 use Rattle.sdl_behaviour.specs.declared.step.Step.{Step}
 use Rattle.sdl_forward.specs.Boards.{waiting, IsBoardOf}
@@ -47,7 +47,7 @@ left_none (Some end) n h = refl
 abbrev Less : EnvWorking → List EnvOut → EnvWorking → Type 0
 Less old outs new = (k : ℕ) × (lines_left old ≡ lines_left new + k) × (length outs ≤ k) × (((new.ended ≡ old.ended) × (outs ≡ [])) ⊎ (1 ≤ k))
 
-reads_less : (s : Structure) (routes : List Row) (n : ℕ) (old : EnvWorking) (outs : List EnvOut) (new : EnvWorking) → new.reading.carried ≤ 16384 → ReadsOn s routes n old outs new → Less old outs new
+reads_less : (s : Structure) (routes : List TableRow) (n : ℕ) (old : EnvWorking) (outs : List EnvOut) (new : EnvWorking) → new.reading.carried ≤ 16384 → ReadsOn s routes n old outs new → Less old outs new
 reads_less s routes n old outs new few (inl (none, ended, reading)) =
     let a : lines_left new ≡ left_by old.ended new.reading.carried = ap (λ (o : Option InputEnd). left_by o new.reading.carried) ended in
     let b : left_by old.ended new.reading.carried ≡ lines_left old = ap (λ r. left_by old.ended r.carried) reading in

@@ -4,23 +4,24 @@ use Rattle.std.proofs.lemmas.Bool.{cond_both, cond-true, cond-false, cases_Bool,
 use Rattle.std.proofs.lemmas.Option.{none-some, same_Some}
 use Rattle.std.proofs.lemmas.List.Sums.{sum_by-cons, sum_by-append}
 use Rattle.sdl_signal.specs.declared.values.Item.{Item}
-use Rattle.sdl_routes.specs.declared.parts.Hop.{Hop}
-use Rattle.sdl_routes.specs.declared.parts.Station.{Station}
-use Rattle.sdl_routes.specs.declared.parts.Station.TheVariants.{Line}
+use Rattle.sdl_routes.specs.declared.route.Hop.{Hop}
+use Rattle.sdl_routes.specs.declared.route.Station.{Station}
+use Rattle.sdl_routes.specs.declared.route.Station.TheVariants.{Line}
 use Rattle.sdl_behaviour.specs.declared.step.Frame.{Frame}
 use Rattle.sdl_behaviour.specs.declared.step.Step.{Step}
 use Rattle.sdl_forward.specs.Boards.{same_station, IsBoardOf}
 use Rattle.sdl_forward.specs.Forwards.{Forwarding, Moves}
 use Rattle.sdl_outcome.specs.declared.worker.Worker.{Worker}
 use Rattle.sdl_outcome.specs.declared.worker.Worker.TheVariants.{Environment, Forwarder}
-use Rattle.sdl_outcome.specs.Stations.{Among, Once, first, after, place, taker, same_worker}
+use Rattle.sdl_outcome.specs.Stations.{Among, Once, first, place, taker, same_worker}
+use Rattle.sdl_forward.specs.Forwards.{station_behind}
 use Rattle.sdl_outcome.specs.Books.{standing}
-use Rattle.sdl_outcome.specs.Steps.{Forwards}
+use Rattle.sdl_outcome.specs.Steps.{BringsOn}
 use Rattle.sdl_outcome.specs.Plan.{Plan, IsPlan, blocks_in, blocks_from, lines_of, workers_of, ways_of}
 use Rattle.sdl_order.specs.Driver.{Site, site_books, IsAtWork}
 use Rattle.sdl_order.specs.Measure.{stations_from, to_go, load, work_left}
 use Rattle.sdl_outcome.proofs.Comparisons.{cases_station, cases_worker, same_station_is, same_station_itself, same_worker_is, same_worker_itself}
-use Rattle.sdl_outcome.proofs.Way.{first_among, after_any, after_skip, after_itself, place_taker}
+use Rattle.sdl_outcome.proofs.AlongStations.{first_among, after_any, after_skip, after_itself, place_taker}
 use Rattle.sdl_outcome.proofs.Ways.{ways_are}
 use Rattle.sdl_outcome.proofs.Workers.{workers_once, taker_place, place_apart}
 use Rattle.sdl_order.proofs.Forwarding.{forwards}
@@ -47,16 +48,16 @@ from_some s (x ∷ xs) m =
     (λ t. elim m as (λ _. 1 ≤ stations_from s xs) [ inl e ↦ absurd (false≢true (sym t ∙ subst (λ (y : Station). same_station x y ≡ true) (sym e) (same_station_itself x))) | inr n ↦ from_some s xs n ])
 
 -- the station behind is one nearer the end
-pub one_nearer : (a z : Station) (ss : List Station) → Once ss → after a ss ≡ Some z → stations_from a ss ≡ suc (stations_from z ss)
+pub one_nearer : (a z : Station) (ss : List Station) → Once ss → station_behind a ss ≡ Some z → stations_from a ss ≡ suc (stations_from z ss)
 one_nearer a z [] o e = absurd (none-some z e)
 one_nearer a z (x ∷ xs) o e = elim (cases_station x a) [
   | inl p ↦ (
-      let then : first xs ≡ Some z = sym (after_itself x xs) ∙ subst (λ (u : Station). after u (x ∷ xs) ≡ Some z) (sym p) e in
+      let then : first xs ≡ Some z = sym (after_itself x xs) ∙ subst (λ (u : Station). station_behind u (x ∷ xs) ≡ Some z) (sym p) e in
       let apart : x ≢ z = λ s. o.0 (subst (λ (u : Station). Among u xs) (sym s) (first_among xs z then)) in
       subst (λ (u : Station). stations_from u (x ∷ xs) ≡ suc (stations_from z (x ∷ xs))) p
       (from_itself x xs ∙ ap suc (sym (from_skip x z xs apart ∙ first_from xs z then))))
   | inr n ↦ (
-      let then : after a xs ≡ Some z = sym (after_skip a x xs n) ∙ e in
+      let then : station_behind a xs ≡ Some z = sym (after_skip a x xs n) ∙ e in
       let apart : x ≢ z = λ s. o.0 (subst (λ (u : Station). Among u xs) (sym s) (after_any a xs z then)) in
       from_skip x a xs n ∙ (one_nearer a z xs o.1 then ∙ ap suc (sym (from_skip x z xs apart))))
 ]
@@ -79,7 +80,7 @@ among_behind x (y ∷ xs) ys m = inr (among_behind x xs ys m)
 
 module _ (may : ℕ → Frame → Step → Type 0) (plan : Plan) (ok : IsPlan plan) (old : Site) (work : IsAtWork may plan old) (k : ℕ) (was is : Forwarding)
     (before : slice_get old.forwarders k ≡ Some was) (board : List (Station × List Item)) (complete : IsBoardOf plan.routes board) (same : is.hop ≡ was.hop)
-    (step : Forwards (ways_of plan) was.hop (site_books old) (site_books (record { blocks = old.blocks; environment = old.environment; forwarders = set old.forwarders k is; board = board }))) where
+    (step : BringsOn (ways_of plan) was.hop (site_books old) (site_books (record { blocks = old.blocks; environment = old.environment; forwarders = set old.forwarders k is; board = board }))) where
   abbrev then : Site
   then = record { blocks = old.blocks; environment = old.environment; forwarders = set old.forwarders k is; board = board }
 
@@ -98,7 +99,7 @@ module _ (may : ℕ → Frame → Step → Type 0) (plan : Plan) (ok : IsPlan pl
 
   nearer : far ≡ suc near
   nearer =
-      let leads = λ (e : (ways_of plan).stations step.item.route.0 ≡ []). first_among [] step.to (sym (ap (after (Line was.hop)) e) ∙ step.goes) in
+      let leads = λ (e : (ways_of plan).stations step.item.route.0 ≡ []). first_among [] step.to (sym (ap (station_behind (Line was.hop)) e) ∙ step.goes) in
       one_nearer (Line was.hop) step.to ((ways_of plan).stations step.item.route.0) (ways_are plan ok step.item.route.0 leads).once step.goes
 
   -- the loads after the item has left, before it has come

@@ -13,12 +13,12 @@ use Rattle.sdl_parts.specs.declared.parts.Channel.{Channel}
 use Rattle.sdl_parts.specs.declared.parts.Set.{Set}
 use Rattle.sdl_parts.specs.declared.parts.Direction.TheVariants.{Forth, Back}
 use Rattle.sdl_parts.specs.Structure.{Structure, path_of, channel_at, set_at}
-use Rattle.sdl_routes.specs.declared.parts.Hop.{Hop}
-use Rattle.sdl_routes.specs.declared.parts.Row.{Row}
-use Rattle.sdl_routes.specs.declared.parts.EndPoint.{EndPoint}
-use Rattle.sdl_routes.specs.declared.parts.EndPoint.TheVariants as ends
-use Rattle.sdl_routes.specs.declared.parts.Station.{Station}
-use Rattle.sdl_routes.specs.declared.parts.Station.TheVariants.{Line, Inlet, Outlet}
+use Rattle.sdl_routes.specs.declared.route.Hop.{Hop}
+use Rattle.sdl_routes.specs.declared.route.TableRow.{TableRow}
+use Rattle.sdl_routes.specs.declared.route.EndPoint.{EndPoint}
+use Rattle.sdl_routes.specs.declared.route.EndPoint.TheVariants as ends
+use Rattle.sdl_routes.specs.declared.route.Station.{Station}
+use Rattle.sdl_routes.specs.declared.route.Station.TheVariants.{Line, Inlet, Outlet}
 use Rattle.sdl_routes.specs.Routes.{IsRoute, IsWalk, Carries, IsLastStation, is_delaying, hop_direction}
 use Rattle.sdl_instances.specs.Machine.{State}
 use Rattle.sdl_instances.specs.Run.{turns}
@@ -155,17 +155,17 @@ state_here (w ∷ ws) zero s e = (w, refl, same_Some w.core.state s e)
 state_here (w ∷ ws) (suc n) s e = state_here ws n s e
 
 module _ (plan : Plan) (ok : IsPlan plan) where
-  pub route_at : (r : ℕ) (row : Row) → slice_get plan.routes r ≡ Some row → IsRoute plan.structure row
+  pub route_at : (r : ℕ) (row : TableRow) → slice_get plan.routes r ≡ Some row → IsRoute plan.structure row
   route_at r row at = all_at (IsRoute plan.structure) plan.routes r row ok.routes.sound at
 
   -- the row of a route through a station, and where the station stands in it
-  pub passing : (r : ℕ) (s : Station) → Among s ((ways_of plan).stations r) → (row : Row) × (slice_get plan.routes r ≡ Some row) × Among s row.route.stations.items
+  pub passing : (r : ℕ) (s : Station) → Among s ((ways_of plan).stations r) → (row : TableRow) × (slice_get plan.routes r ≡ Some row) × Among s row.route.stations.items
   passing r s m =
       let row = row_of plan r (unbound s ((ways_of plan).stations r) m) in
-      (row.0, row.1, subst (λ (o : Option Row). Among s (elim o as (λ _. List Station) [ None ↦ [] | Some x ↦ x.route.stations.items ])) row.1 m)
+      (row.0, row.1, subst (λ (o : Option TableRow). Among s (elim o as (λ _. List Station) [ None ↦ [] | Some x ↦ x.route.stations.items ])) row.1 m)
 
   -- where a row's station stands: a line that is among the lines, or its last
-  pub station_cases : (s : Station) (row : Row) → IsRoute plan.structure row → Among s row.route.stations.items → ((h : Hop) × Among h (lines_of plan) × (s ≡ Line h)) ⊎ IsLastStation plan.structure row.route.end s
+  pub station_cases : (s : Station) (row : TableRow) → IsRoute plan.structure row → Among s row.route.stations.items → ((h : Hop) × Among h (lines_of plan) × (s ≡ Line h)) ⊎ IsLastStation plan.structure row.route.end s
   station_cases s row route m =
       elim (among_stations (filter (is_delaying plan.structure) row.route.hops.items) route.stations.0 s (subst (Among s) route.stations.2 m)) [
         | inl r ↦ (
@@ -209,7 +209,7 @@ module _ (plan : Plan) (ok : IsPlan plan) where
   last_outlet (ends.Environment g) h = (g, refl)
 
   module _ (may : ℕ → Frame → Step → Type 0) (site : Site) (work : IsAtWork may plan site) where
-    waits_on_route : (s : Station) → (waiting site.board s ≡ []) ⊎ ((row : Row) × IsRoute plan.structure row × Among s row.route.stations.items)
+    waits_on_route : (s : Station) → (waiting site.board s ≡ []) ⊎ ((row : TableRow) × IsRoute plan.structure row × Among s row.route.stations.items)
     waits_on_route s =
         elim (first_route plan s (waiting site.board s) (all_end (λ (i : Item). Among s ((ways_of plan).stations i.route.0)) ((site_books site).kept (taker s)) (waiting site.board s) (work.order.in_place s))) [
           | inl e ↦ inl e

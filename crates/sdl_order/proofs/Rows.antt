@@ -15,11 +15,11 @@ use Rattle.sdl_signal.specs.Line.{line_text}
 use Rattle.sdl_signal.specs.Bytes.{BeginsWithLines}
 use Rattle.sdl_signal.specs.Environment.{AreRead}
 use Rattle.sdl_parts.specs.Structure.{Structure, lexicon_of}
-use Rattle.sdl_routes.specs.declared.parts.Row.{Row}
+use Rattle.sdl_routes.specs.declared.route.TableRow.{TableRow}
 use Rattle.sdl_outcome.specs.declared.environment_output.EnvOut.TheVariants as env_out
 use Rattle.sdl_outcome.specs.EnvironmentWork.{HasReadAll, HasWritten, AreCounted, received_text, received_line, env_origins}
-use Rattle.sdl_routes.specs.declared.parts.Hop.{Hop}
-use Rattle.sdl_routes.specs.declared.parts.Station.TheVariants as station
+use Rattle.sdl_routes.specs.declared.route.Hop.{Hop}
+use Rattle.sdl_routes.specs.declared.route.Station.TheVariants as station
 use Rattle.sdl_routes.specs.Routes.{IsRoute}
 use Rattle.sdl_instances.specs.Machine.{State}
 use Rattle.sdl_instances.specs.Run.{IsStamped, turns}
@@ -147,12 +147,12 @@ unread_lines : (names : Lexicon) (lines : List (List ℕ)) (byte : ℕ) (bytes :
 unread_lines names [] byte bytes first read = cc
 unread_lines names (line ∷ lines) byte bytes first read = read
 
-pub unread : (s : Structure) (routes : List Row) (worker byte : ℕ) (bytes : List ℕ) (now : Option (List ℕ)) → HasReadAll s routes worker (Some (byte ∷ bytes)) now [] input.Whole → ⊥
+pub unread : (s : Structure) (routes : List TableRow) (worker byte : ℕ) (bytes : List ℕ) (now : Option (List ℕ)) → HasReadAll s routes worker (Some (byte ∷ bytes)) now [] input.Whole → ⊥
 unread s routes worker byte bytes now ([], outs, (given, consumes, (lines, first, read, few))) = unread_lines (lexicon_of s) lines byte bytes first read
 unread s routes worker byte bytes now (line ∷ lines, outs, read) = outs
 
 -- and what was received was not written whole where nothing was written
-pub unwritten : (names : Lexicon) (routes : List Row) (i : Item) (items : List Item) (start : List ℕ) → HasWritten (Some start) (Some start) (received_text names routes (i ∷ items)) output.Whole → ⊥
+pub unwritten : (names : Lexicon) (routes : List TableRow) (i : Item) (items : List Item) (start : List ℕ) → HasWritten (Some start) (Some start) (received_text names routes (i ∷ items)) output.Whole → ⊥
 unwritten names routes i items start h =
     let text = unwrap_or (line_text names (received_line routes i)) [] in
     let a : length start ≡ length (start ++ ((text ++ 10 ∷ []) ++ received_text names routes items)) = ap length h in

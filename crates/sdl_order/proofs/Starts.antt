@@ -9,10 +9,10 @@ use Rattle.sdl_signal.specs.declared.ids.SetId.{SetId}
 use Rattle.sdl_signal.specs.declared.values.Item.{Item}
 use Rattle.sdl_parts.specs.Structure.{Structure, set_at}
 use Rattle.sdl_parts.specs.declared.parts.Set.{Set}
-use Rattle.sdl_routes.specs.declared.parts.Row.{Row}
+use Rattle.sdl_routes.specs.declared.route.TableRow.{TableRow}
 use Rattle.sdl_behaviour.specs.declared.step.Frame.{Frame}
 use Rattle.sdl_behaviour.specs.declared.step.Step.{Step}
-use Rattle.sdl_instances.specs.declared.parts.ProcessSet.{ProcessSet}
+use Rattle.sdl_instances.specs.declared.process_set.ProcessSet.{ProcessSet}
 use Rattle.sdl_instances.specs.declared.event.Event.{Event}
 use Rattle.sdl_instances.specs.Machine.{State}
 use Rattle.sdl_instances.specs.Run.{Leads, done_in, sent_by, sent, all_done, initial}
@@ -41,7 +41,7 @@ module _ (may : ℕ → Frame → Step → Type 0) (plan : Plan) (n : ℕ) (b : 
 
   from_starts : (i : Item) → IsFrom i → StartsHere i
   from_starts i (set, serial, d, row, sender, found, here, at, from) =
-      ap (λ (o : Option Row). elim o as (λ _. Worker) [ None ↦ Environment | Some x ↦ starter plan.structure x.source ]) at
+      ap (λ (o : Option TableRow). elim o as (λ _. Worker) [ None ↦ Environment | Some x ↦ starter plan.structure x.source ]) at
       ∙ (ap (starter plan.structure) from
       ∙ (set_worker plan.structure set d (set_at plan.structure set) refl (sym (slice_get-map numbers_of plan.structure.sets set.0) ∙ found) ∙ ap Block (here ∙ at_n)))
 

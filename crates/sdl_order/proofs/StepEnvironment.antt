@@ -7,25 +7,25 @@ use Rattle.std.proofs.lemmas.List.Elements.{recursion_from_All, All-from_recursi
 use Rattle.sdl_signal.specs.declared.values.Item.{Item}
 use Rattle.sdl_signal.specs.declared.values.Origin.{Origin}
 use Rattle.sdl_parts.specs.Structure.{Structure}
-use Rattle.sdl_routes.specs.declared.parts.Row.{Row}
-use Rattle.sdl_routes.specs.declared.parts.Station.{Station}
-use Rattle.sdl_routes.specs.declared.parts.Station.TheVariants.{Line, Inlet, Outlet}
+use Rattle.sdl_routes.specs.declared.route.TableRow.{TableRow}
+use Rattle.sdl_routes.specs.declared.route.Station.{Station}
+use Rattle.sdl_routes.specs.declared.route.Station.TheVariants.{Line, Inlet, Outlet}
 use Rattle.sdl_behaviour.specs.declared.step.Frame.{Frame}
 use Rattle.sdl_behaviour.specs.declared.step.Step.{Step}
 use Rattle.sdl_forward.specs.Boards.{waiting, AreAllStations, IsBoardOf}
-use Rattle.sdl_hand.specs.Work.{beginning_at, first_station, is_at}
+use Rattle.sdl_hand.specs.Work.{beginning_at, first_station, is_station}
 use Rattle.sdl_outcome.specs.declared.environment_output.EnvOut.{EnvOut}
 use Rattle.sdl_outcome.specs.declared.worker.Worker.{Worker}
 use Rattle.sdl_outcome.specs.declared.worker.Worker.TheVariants.{Block, Environment, Forwarder}
 use Rattle.sdl_outcome.specs.Stations.{IsAgent, Among, next, taker}
 use Rattle.sdl_outcome.specs.Books.{standing}
-use Rattle.sdl_outcome.specs.Steps.{Acts, IsQuiet, is_station, bound_for}
+use Rattle.sdl_outcome.specs.Steps.{Acts, IsUnchangedAt, bound_for}
 use Rattle.sdl_outcome.specs.Plan.{Plan, IsPlan, MayTravel, blocks_in, starter, ways_of}
 use Rattle.sdl_outcome.specs.EnvironmentWork.{EnvWorking, IsEnvFresh, IsEnvSound, EnvWorks, IsLegalItem, ComesIn, GoesOut, AreCounted, sent_of, origin_of, env_sent, env_origins}
 use Rattle.sdl_order.specs.Driver.{Site, site_books, kept_by, IsAtWork}
 use Rattle.sdl_outcome.proofs.Lists.{all_front, all_end, all_append, all_filter, all_weaker, all_both, filter_agrees}
 use Rattle.sdl_outcome.proofs.Comparisons.{cases_station, cases_worker}
-use Rattle.sdl_order.proofs.BlockStep.{first_row, same_at}
+use Rattle.sdl_order.proofs.BlockStep.{first_row}
 use Rattle.sdl_order.proofs.Quiet.{passing, route_at, station_cases, last_outlet}
 use Rattle.sdl_outcome.proofs.Ways.{ways_are}
 use Rattle.sdl_order.proofs.Keeps.{acts_keeps}
@@ -33,16 +33,16 @@ use Rattle.sdl_order.proofs.Keeps.{acts_keeps}
 -- the environment's items go to where their routes begin
 pub env_bound_is : (plan : Plan) (s : Station) (items : List Item) → bound_for (ways_of plan) Environment s items ≡ beginning_at plan.routes s items
 env_bound_is plan s items =
-    filter_agrees (λ (i : Item). is_station s (next (ways_of plan) Environment i.route.0)) (λ (i : Item). is_at s (first_station plan.routes i))
-    (λ i. ap (is_station s) (first_row (slice_get plan.routes i.route.0)) ∙ same_at s (first_station plan.routes i)) items
+    filter_agrees (λ (i : Item). is_station s (next (ways_of plan) Environment i.route.0)) (λ (i : Item). is_station s (first_station plan.routes i))
+    (λ i. ap (is_station s) (first_row (slice_get plan.routes i.route.0))) items
 
 -- an item whose source is a gate starts in the environment
 comes_starts : (plan : Plan) (i : Item) → ComesIn plan.routes i → (ways_of plan).start i.route.0 ≡ Environment
 comes_starts plan i (row, gate, at, from) =
-    ap (λ (o : Option Row). elim o as (λ _. Worker) [ None ↦ Environment | Some x ↦ starter plan.structure x.source ]) at ∙ ap (starter plan.structure) from
+    ap (λ (o : Option TableRow). elim o as (λ _. Worker) [ None ↦ Environment | Some x ↦ starter plan.structure x.source ]) at ∙ ap (starter plan.structure) from
 
 -- before anything was read the environment is sound
-pub env_starts : (s : Structure) (routes : List Row) (n : ℕ) (w : EnvWorking) → IsEnvFresh n w → IsEnvSound s routes n w
+pub env_starts : (s : Structure) (routes : List TableRow) (n : ℕ) (w : EnvWorking) → IsEnvFresh n w → IsEnvSound s routes n w
 env_starts s routes n w fresh =
     record {
       number = fresh.number;
@@ -114,7 +114,7 @@ module _ (may : ℕ → Frame → Step → Type 0) (plan : Plan) (ok : IsPlan pl
       let a = append_assoc (kept_by old (taker s)) (waiting old.board s) (bound_for (ways_of plan) Environment s works.put) in
       cc
 
-  pub env_quiet : (v : Worker) → v ≢ Environment → IsQuiet v (site_books old) (site_books then)
+  pub env_quiet : (v : Worker) → v ≢ Environment → IsUnchangedAt v (site_books old) (site_books then)
   env_quiet (Block b) e = record { sent = refl; arrived = refl; outgoing = refl }
   env_quiet Environment e = absurd (e refl)
   env_quiet (Forwarder h) e = record { sent = refl; arrived = refl; outgoing = refl }

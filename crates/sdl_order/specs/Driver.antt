@@ -3,9 +3,9 @@ use Rattle.std.specs.Prelude.{◌≡◌, ◌≢◌, ℕ, List, [], ◌∷◌, �
 use Rattle.std.specs.Option.{option_to_list}
 use Rattle.std.specs.List.{AllByRecursion}
 use Rattle.sdl_signal.specs.declared.values.Item.{Item}
-use Rattle.sdl_routes.specs.declared.parts.Hop.{Hop}
-use Rattle.sdl_routes.specs.declared.parts.Station.{Station}
-use Rattle.sdl_routes.specs.declared.parts.Station.TheVariants.{Line, Outlet}
+use Rattle.sdl_routes.specs.declared.route.Hop.{Hop}
+use Rattle.sdl_routes.specs.declared.route.Station.{Station}
+use Rattle.sdl_routes.specs.declared.route.Station.TheVariants.{Line, Outlet}
 use Rattle.sdl_behaviour.specs.declared.step.Frame.{Frame}
 use Rattle.sdl_behaviour.specs.declared.step.Step.{Step}
 use Rattle.sdl_instances.specs.Machine.{State}
@@ -23,7 +23,7 @@ use Rattle.sdl_outcome.specs.Books.{Books, InOrder, standing}
 use Rattle.sdl_outcome.specs.Plan.{Plan, blocks_in, lines_of, system_at, ways_of, MayTravel}
 use Rattle.sdl_hand.specs.Work.{Working, StepsAs, IsAtRest}
 use Rattle.sdl_outcome.specs.EnvironmentWork.{EnvWorking, env_sent, env_origins, AreCounted, ComesIn, IsEnvFresh, IsEnvSound, EnvStepsAs}
-use Rattle.sdl_outcome.specs.Outcome.{Held, Outcome}
+use Rattle.sdl_outcome.specs.Outcome.{WorkerHand, Outcome}
 
 -- the blocks at work, the environment, the forwarders, and the board
 pub record Site : Type 0 where
@@ -59,13 +59,13 @@ site_books site =
       rest = waiting site.board;
     }
 
-abbrev pub block_hand : Working → Held
+abbrev pub block_hand : Working → WorkerHand
 block_hand w = record { kept = w.kept; outgoing = w.outgoing }
 
-abbrev pub env_hand : EnvWorking → Held
+abbrev pub env_hand : EnvWorking → WorkerHand
 env_hand w = record { kept = None; outgoing = w.outgoing }
 
-abbrev pub forwarder_hand : Forwarding → Held
+abbrev pub forwarder_hand : Forwarding → WorkerHand
 forwarder_hand f = record { kept = f.held; outgoing = [] }
 
 -- what a run leaves that stops here

@@ -1,7 +1,7 @@
 -- How much is left to do at most: each step that does something lowers it. (This project's own.)
 use Rattle.std.specs.Prelude.{ℕ, suc, ◌+◌, ◌-◌, ◌*◌, cond, List, [], ◌∷◌, Some, None, length, slice_get, sum_by}
 use Rattle.sdl_signal.specs.declared.values.Item.{Item}
-use Rattle.sdl_routes.specs.declared.parts.Station.{Station}
+use Rattle.sdl_routes.specs.declared.route.Station.{Station}
 use Rattle.sdl_instances.specs.Run.{turns}
 use Rattle.sdl_forward.specs.Boards.{same_station}
 use Rattle.sdl_outcome.specs.declared.worker.Worker.{Worker}

@@ -8,7 +8,7 @@ ghost use Rattle.sdl_signal.specs.declared.ends.InputEnd.TheVariants as input;
 ghost use Rattle.sdl_signal.specs.declared.ends.OutputEnd.TheVariants as output;
 ghost use Rattle.sdl_signal.specs.Names.{Lexicon};
 ghost use Rattle.sdl_parts.specs.Structure.{Structure};
-ghost use Rattle.sdl_routes.specs.declared.parts.Row.{Row};
+ghost use Rattle.sdl_routes.specs.declared.route.TableRow.{TableRow};
 ghost use Rattle.sdl_outcome.specs.declared.environment_output.EnvOut.TheVariants as env_out;
 ghost use Rattle.sdl_outcome.specs.EnvironmentWork.{HasReadAll, HasWritten, AreCounted, received_text, env_origins};
 ghost use Rattle.sdl_signal.specs.declared.values.Item.{Item};
@@ -57,8 +57,8 @@ pub fn wrong_runs_are_refused()
     ensures not_least { (finals : List State) → IsSpentAt (plan 2) (leaves (tok 2 0 1 ∷ [])) finals 1 → ⊥ }
     ensures unsettled { (finals : List State) → IsSpentAt (plan 2) stops_early finals 0 → ⊥ }
     ensures not_quiet { (finals : List State) → IsQuiet (plan 2) (leaves (tok 2 0 1 ∷ [])) finals → ⊥ }
-    ensures unread { (s : Structure) (routes : List Row) (worker byte : ℕ) (bytes : List ℕ) (now : Option (List ℕ)) → HasReadAll s routes worker (Some (byte ∷ bytes)) now [] input.Whole → ⊥ }
-    ensures unwritten { (names : Lexicon) (routes : List Row) (i : Item) (items : List Item) (start : List ℕ) → HasWritten (Some start) (Some start) (received_text names routes (i ∷ items)) output.Whole → ⊥ }
+    ensures unread { (s : Structure) (routes : List TableRow) (worker byte : ℕ) (bytes : List ℕ) (now : Option (List ℕ)) → HasReadAll s routes worker (Some (byte ∷ bytes)) now [] input.Whole → ⊥ }
+    ensures unwritten { (names : Lexicon) (routes : List TableRow) (i : Item) (items : List Item) (start : List ℕ) → HasWritten (Some start) (Some start) (received_text names routes (i ∷ items)) output.Whole → ⊥ }
     ensures misnumbered { AreCounted 2 0 (env_origins (env_out.Sent (tok 0 2 1) ∷ [])) → ⊥ }
     ensures no_loop { (a b : Item) → IsStamped 0 (enters a ∷ sends (trigger.Fire a) (b ∷ []) ∷ []) → IsStamped 0 (enters b ∷ sends (trigger.Fire b) (a ∷ []) ∷ []) → ⊥ }
 {}

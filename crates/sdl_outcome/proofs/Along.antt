@@ -4,17 +4,18 @@ use Rattle.std.proofs.lemmas.Bool.{false≢true, eqb-true}
 use Rattle.std.proofs.lemmas.List.{append-nil, map-id, reverse-append}
 use Rattle.std.proofs.lemmas.List.Concat.{flat_map-append}
 use Rattle.std.specs.List.{flat_map}
-use Rattle.sdl_routes.specs.declared.parts.Hop.{Hop}
+use Rattle.sdl_routes.specs.declared.route.Hop.{Hop}
 use Rattle.sdl_signal.specs.declared.values.Item.{Item}
-use Rattle.sdl_routes.specs.declared.parts.Station.{Station}
-use Rattle.sdl_routes.specs.declared.parts.Station.TheVariants.{Line}
+use Rattle.sdl_routes.specs.declared.route.Station.{Station}
+use Rattle.sdl_routes.specs.declared.route.Station.TheVariants.{Line}
 use Rattle.sdl_outcome.specs.declared.worker.Worker.{Worker}
 use Rattle.sdl_outcome.specs.Stations.{Ways, Leads, AreWays, IsWay, Among, first, next, place}
 use Rattle.sdl_outcome.specs.Books.{Books, InOrder, NoOther, of_route}
-use Rattle.sdl_outcome.specs.Steps.{is_station, bound_for}
+use Rattle.sdl_outcome.specs.Steps.{bound_for}
+use Rattle.sdl_hand.specs.Work.{is_station}
 use Rattle.sdl_outcome.proofs.Comparisons.{same_station_is, same_station_itself}
 use Rattle.sdl_outcome.proofs.Lists.{all_weaker, all_every, filter_within}
-use Rattle.sdl_outcome.proofs.Way.{ends_at}
+use Rattle.sdl_outcome.proofs.AlongStations.{ends_at}
 
 pub same_route : (i : Item) (r : ℕ) → eqb i.route.0 r ≡ true → i.route.0 ≡ r
 same_route i r e = eqb-true i.route.0 r e

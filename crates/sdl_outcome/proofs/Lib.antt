@@ -1,6 +1,6 @@
 pub mod Comparisons
 pub mod Lists
-pub mod Way
+pub mod AlongStations
 pub mod Along
 pub mod Ways
 pub mod Sums

@@ -4,7 +4,7 @@ use Rattle.std.specs.List.{AllByRecursion}
 use Rattle.std.proofs.lemmas.Bool.{cond_both, false≢true}
 use Rattle.sdl_signal.specs.declared.ids.SignalId.{SignalId}
 use Rattle.sdl_parts.specs.declared.parts.Channel.{Channel}
-use Rattle.sdl_routes.specs.declared.parts.Hop.{Hop}
+use Rattle.sdl_routes.specs.declared.route.Hop.{Hop}
 use Rattle.sdl_routes.specs.Routes.{EachOnce}
 use Rattle.sdl_outcome.specs.Plan.{path_line, lines_from}
 use Rattle.sdl_outcome.proofs.Lists.{all_append, all_weaker}

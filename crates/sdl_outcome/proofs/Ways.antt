@@ -5,15 +5,15 @@ use Rattle.std.specs.List.{filter, AllByRecursion}
 use Rattle.std.specs.Option.{IsSomeAnd}
 use Rattle.sdl_parts.specs.Structure.{Structure, set_at}
 use Rattle.sdl_parts.specs.declared.parts.Set.{Set}
-use Rattle.sdl_routes.specs.declared.parts.EndPoint.{EndPoint}
-use Rattle.sdl_routes.specs.declared.parts.EndPoint.TheVariants as ends
-use Rattle.sdl_routes.specs.declared.parts.Source.{Source}
-use Rattle.sdl_routes.specs.declared.parts.Source.TheVariants as source
-use Rattle.sdl_routes.specs.declared.parts.Row.{Row}
-use Rattle.sdl_routes.specs.declared.parts.Station.{Station}
-use Rattle.sdl_routes.specs.declared.parts.Station.TheVariants.{Line, Inlet}
+use Rattle.sdl_routes.specs.declared.route.EndPoint.{EndPoint}
+use Rattle.sdl_routes.specs.declared.route.EndPoint.TheVariants as ends
+use Rattle.sdl_routes.specs.declared.route.Source.{Source}
+use Rattle.sdl_routes.specs.declared.route.Source.TheVariants as source
+use Rattle.sdl_routes.specs.declared.route.TableRow.{TableRow}
+use Rattle.sdl_routes.specs.declared.route.Station.{Station}
+use Rattle.sdl_routes.specs.declared.route.Station.TheVariants.{Line, Inlet}
 use Rattle.sdl_routes.specs.Routes.{IsRoute, IsLastStation, EachOnce, is_delaying}
-use Rattle.sdl_routes.specs.Table.{IsPlain}
+use Rattle.sdl_routes.specs.Table.{IsTableRoute}
 use Rattle.sdl_outcome.specs.declared.worker.Worker.{Worker}
 use Rattle.sdl_outcome.specs.declared.worker.Worker.TheVariants.{Block, Environment}
 use Rattle.sdl_outcome.specs.Stations.{IsAgent, Leads, AreWays, IsWay, Among, Once, place}
@@ -49,29 +49,29 @@ last_place s (ends.Set t) last h = set_last (set_at s t) last h
 last_place s (ends.Environment g) last h = h
 
 -- at a row, the way is its own
-module _ (plan : Plan) (ok : IsPlan plan) (r : ℕ) (row : Row) (at : slice_get plan.routes r ≡ Some row) where
+module _ (plan : Plan) (ok : IsPlan plan) (r : ℕ) (row : TableRow) (at : slice_get plan.routes r ≡ Some row) where
   is_route : IsRoute plan.structure row
   is_route = all_at (IsRoute plan.structure) plan.routes r row ok.routes.sound at
 
   pub stations_at : (ways_of plan).stations r ≡ row.route.stations.items
-  stations_at = ap (λ (o : Option Row). elim o as (λ _. List Station) [ None ↦ [] | Some x ↦ x.route.stations.items ]) at
+  stations_at = ap (λ (o : Option TableRow). elim o as (λ _. List Station) [ None ↦ [] | Some x ↦ x.route.stations.items ]) at
 
   pub start_at : (ways_of plan).start r ≡ starter plan.structure row.source
-  start_at = ap (λ (o : Option Row). elim o as (λ _. Worker) [ None ↦ Environment | Some x ↦ starter plan.structure x.source ]) at
+  start_at = ap (λ (o : Option TableRow). elim o as (λ _. Worker) [ None ↦ Environment | Some x ↦ starter plan.structure x.source ]) at
 
   pub finish_at : (ways_of plan).finish r ≡ finisher plan.structure row.route.end
-  finish_at = ap (λ (o : Option Row). elim o as (λ _. Worker) [ None ↦ Environment | Some x ↦ finisher plan.structure x.route.end ]) at
+  finish_at = ap (λ (o : Option TableRow). elim o as (λ _. Worker) [ None ↦ Environment | Some x ↦ finisher plan.structure x.route.end ]) at
 
   pub way_at : IsWay (ways_of plan) r
   way_at =
-      let plain : IsPlain row = all_at IsPlain plan.routes r row ok.table.plain at in
+      let shown : IsTableRoute row = all_at IsTableRoute plan.routes r row ok.table.shown at in
       let last = is_route.stations.0 in
       let lines = filter (is_delaying plan.structure) row.route.hops.items in
       let place_is : last ≡ place ((ways_of plan).finish r) = last_place plan.structure row.route.end last is_route.stations.1 ∙ ap place (sym finish_at) in
       record {
         lines = lines;
         are = stations_at ∙ (is_route.stations.2 ∙ ap (λ (s : Station). map Line lines ++ s ∷ []) place_is);
-        once = subst Once (sym stations_at) (once_of row.route.stations.items plain.stations_once);
+        once = subst Once (sym stations_at) (once_of row.route.stations.items shown.stations_once);
         from = subst IsAgent (sym start_at) (starter_agent plan.structure row.source);
         to = subst IsAgent (sym finish_at) (finisher_agent plan.structure row.route.end);
       }
@@ -80,16 +80,16 @@ some_last : (lines : List Station) (s : Station) → lines ++ s ∷ [] ≢ []
 some_last [] s e = cc
 some_last (x ∷ xs) s e = cc
 
-pub leads_at : (plan : Plan) → IsPlan plan → (r : ℕ) (row : Row) → slice_get plan.routes r ≡ Some row → Leads (ways_of plan) r
+pub leads_at : (plan : Plan) → IsPlan plan → (r : ℕ) (row : TableRow) → slice_get plan.routes r ≡ Some row → Leads (ways_of plan) r
 leads_at plan ok r row at e =
     let way = way_at plan ok r row at in
     some_last (map Line way.lines) (place ((ways_of plan).finish r)) (sym way.are ∙ e)
 
 -- a number that leads somewhere is that of a row
-pub row_of : (plan : Plan) (r : ℕ) → Leads (ways_of plan) r → (row : Row) × (slice_get plan.routes r ≡ Some row)
+pub row_of : (plan : Plan) (r : ℕ) → Leads (ways_of plan) r → (row : TableRow) × (slice_get plan.routes r ≡ Some row)
 row_of plan r leads = elim (slice_get_cases plan.routes r).1 [
   | inl h ↦ (h.0, h.2)
-  | inr h ↦ absurd (leads (ap (λ (o : Option Row). elim o as (λ _. List Station) [ None ↦ [] | Some x ↦ x.route.stations.items ]) h.1))
+  | inr h ↦ absurd (leads (ap (λ (o : Option TableRow). elim o as (λ _. List Station) [ None ↦ [] | Some x ↦ x.route.stations.items ]) h.1))
 ]
 
 pub ways_are : (plan : Plan) → IsPlan plan → AreWays (ways_of plan)

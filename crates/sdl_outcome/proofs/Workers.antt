@@ -2,16 +2,16 @@
 use Rattle.std.proofs.Common.{ℕ, zero, suc, ◌+◌, ◌≤◌, List, [], ◌∷◌, ◌++◌, map, length, ◌≡◌, ◌≢◌, refl, ap, sym, ◌∙◌, arith}
 use Rattle.std.specs.List.{AllByRecursion}
 use Rattle.sdl_signal.specs.declared.ids.BlockId.{BlockId}
-use Rattle.sdl_routes.specs.declared.parts.Hop.{Hop}
-use Rattle.sdl_routes.specs.declared.parts.Station.{Station}
-use Rattle.sdl_routes.specs.declared.parts.Station.TheVariants.{Line, Inlet, Outlet}
+use Rattle.sdl_routes.specs.declared.route.Hop.{Hop}
+use Rattle.sdl_routes.specs.declared.route.Station.{Station}
+use Rattle.sdl_routes.specs.declared.route.Station.TheVariants.{Line, Inlet, Outlet}
 use Rattle.sdl_routes.specs.Routes.{EachOnce}
 use Rattle.sdl_outcome.specs.declared.worker.Worker.{Worker}
 use Rattle.sdl_outcome.specs.declared.worker.Worker.TheVariants.{Block, Environment, Forwarder}
 use Rattle.sdl_outcome.specs.Stations.{place, taker}
 use Rattle.sdl_outcome.specs.Plan.{Plan, blocks_in, blocks_from, lines_of, workers_of}
 use Rattle.sdl_outcome.proofs.Lists.{all_append, all_weaker}
-use Rattle.sdl_outcome.proofs.Way.{place_taker}
+use Rattle.sdl_outcome.proofs.AlongStations.{place_taker}
 use Rattle.sdl_outcome.proofs.Lines.{lines_once}
 
 -- each worker stands once among the workers

@@ -3,9 +3,9 @@ use Rattle.std.specs.Prelude.{◌≡◌, ℕ, ◌<◌, List, [], None, Some, sli
 use Rattle.std.specs.List.{AllByRecursion}
 use Rattle.sdl_signal.specs.declared.ids.BlockId.{BlockId}
 use Rattle.sdl_signal.specs.declared.values.Pid.{Pid}
-use Rattle.sdl_routes.specs.declared.parts.Hop.{Hop}
-use Rattle.sdl_routes.specs.declared.parts.Station.{Station}
-use Rattle.sdl_routes.specs.declared.parts.Station.TheVariants as station
+use Rattle.sdl_routes.specs.declared.route.Hop.{Hop}
+use Rattle.sdl_routes.specs.declared.route.Station.{Station}
+use Rattle.sdl_routes.specs.declared.route.Station.TheVariants as station
 use Rattle.sdl_instances.specs.Machine.{State}
 use Rattle.sdl_instances.specs.Run.{turns}
 use Rattle.sdl_instances.specs.Core.{IsReady}
@@ -13,10 +13,10 @@ use Rattle.sdl_forward.specs.Boards.{waiting}
 use Rattle.sdl_outcome.specs.declared.end.RunEnd.{RunEnd}
 use Rattle.sdl_outcome.specs.declared.end.RunEnd.TheVariants as run_end
 use Rattle.sdl_outcome.specs.Plan.{Plan, blocks_in, workers_of}
-use Rattle.sdl_outcome.specs.Outcome.{Outcome, Held, log_at}
+use Rattle.sdl_outcome.specs.Outcome.{Outcome, WorkerHand, log_at}
 
 -- the hand is empty
-abbrev pub IsFree : Held → Type 0
+abbrev pub IsFree : WorkerHand → Type 0
 IsFree h = (h.kept ≡ None) × (h.outgoing ≡ [])
 
 module _ (plan : Plan) (o : Outcome) (finals : List State) where
@@ -29,8 +29,8 @@ module _ (plan : Plan) (o : Outcome) (finals : List State) where
   IsSettled b = (s : State) (p : Pid) → slice_get finals b ≡ Some s → IsReady p s → ⊥
 
   -- the budget of the block is used
-  abbrev pub IsSpent : ℕ → Type 0
-  IsSpent b = turns (log_at o.logs b) ≡ plan.budget
+  abbrev pub HasUsedBudget : ℕ → Type 0
+  HasUsedBudget b = turns (log_at o.logs b) ≡ plan.budget
 
   -- every rest, hand and port is empty, and every living instance has started
   pub record IsQuiet : Type 0 where
@@ -43,8 +43,8 @@ module _ (plan : Plan) (o : Outcome) (finals : List State) where
   pub record IsSpentAt (b : ℕ) : Type 0 where
     pub more : IsQuiet → ⊥
     pub within : b < blocks_in plan
-    pub spent : IsSpent b
-    pub least : (a : ℕ) → a < b → IsSpent a → ⊥
+    pub spent : HasUsedBudget b
+    pub least : (a : ℕ) → a < b → HasUsedBudget a → ⊥
     pub hands : AllByRecursion IsFree o.hands
     pub lines : (h : Hop) → IsEmpty (station.Line h)
     pub outlet : IsEmpty station.Outlet

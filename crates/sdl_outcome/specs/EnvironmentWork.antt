@@ -18,15 +18,15 @@ use Rattle.sdl_signal.specs.Line.{line_text}
 use Rattle.sdl_signal.specs.Bytes.{ended_line}
 use Rattle.sdl_signal.specs.Environment.{Reading, HasCarried, HasRead, EndsItself, most_lines}
 use Rattle.sdl_parts.specs.Structure.{Structure, lexicon_of}
-use Rattle.sdl_routes.specs.declared.parts.Row.{Row}
-use Rattle.sdl_routes.specs.declared.parts.Goal.{Goal}
-use Rattle.sdl_routes.specs.declared.parts.Goal.TheVariants as goal
-use Rattle.sdl_routes.specs.declared.parts.Source.TheVariants as source
-use Rattle.sdl_routes.specs.declared.parts.EndPoint.TheVariants as ends
-use Rattle.sdl_routes.specs.declared.parts.Via.TheVariants as via
-use Rattle.sdl_routes.specs.declared.parts.Wish.{Wish}
-use Rattle.sdl_routes.specs.declared.parts.Station.{Station}
-use Rattle.sdl_routes.specs.declared.parts.Station.TheVariants.{Outlet}
+use Rattle.sdl_routes.specs.declared.route.TableRow.{TableRow}
+use Rattle.sdl_routes.specs.declared.route.Goal.{Goal}
+use Rattle.sdl_routes.specs.declared.route.Goal.TheVariants as goal
+use Rattle.sdl_routes.specs.declared.route.Source.TheVariants as source
+use Rattle.sdl_routes.specs.declared.route.EndPoint.TheVariants as ends
+use Rattle.sdl_routes.specs.declared.route.Via.TheVariants as via
+use Rattle.sdl_routes.specs.declared.route.Wish.{Wish}
+use Rattle.sdl_routes.specs.declared.route.Station.{Station}
+use Rattle.sdl_routes.specs.declared.route.Station.TheVariants.{Outlet}
 use Rattle.sdl_instances.specs.Legal.{IsLegal}
 use Rattle.sdl_instances.specs.Machine.{FitsAt, NoneFits, goal_at}
 use Rattle.sdl_instances.specs.Core.{signals_of, sets_of}
@@ -79,7 +79,7 @@ abbrev pub wish_for : EnvLine → Wish
 wish_for line = record { source = source.Gate line.gate; signal = line.signal.id; goal = goal_to line.to; via = via.Any }
 
 -- The n-th output of the environment is that of the line: along a fitting route, or none fits.
-abbrev pub IsOutputOf : List Row → ℕ → ℕ → EnvLine → EnvOut → Type 0
+abbrev pub IsOutputOf : List TableRow → ℕ → ℕ → EnvLine → EnvOut → Type 0
 IsOutputOf routes worker n line (env_out.Sent i) =
     (i ≡ record { origin = record { worker = worker; number = n }; stamp = 0; signal = line.signal; sender = pid.Env; to = line.to; route = i.route })
     × FitsAt routes (wish_for line) i.route
@@ -87,20 +87,20 @@ IsOutputOf routes worker n line (env_out.NoRoute o l) =
     (o ≡ record { worker = worker; number = n }) × (l ≡ line) × NoneFits routes (wish_for line)
 
 -- one output for each line, numbered from n on
-abbrev pub AreOutputsOf : List Row → ℕ → ℕ → List EnvLine → List EnvOut → Type 0
+abbrev pub AreOutputsOf : List TableRow → ℕ → ℕ → List EnvLine → List EnvOut → Type 0
 AreOutputsOf routes worker n [] [] = ⊤
 AreOutputsOf routes worker n (line ∷ lines) (out ∷ outs) = IsOutputOf routes worker n line out × AreOutputsOf routes worker (n + 1) lines outs
 AreOutputsOf routes worker n _ _ = ⊥
 
 -- the line that a received item is written as: at the gate where its route ends, without a TO part
-abbrev pub end_gate_of : List Row → Item → GateId
+abbrev pub end_gate_of : List TableRow → Item → GateId
 end_gate_of routes i = elim (slice_get routes i.route.0) [ None ↦ record { 0 = 0 } | Some row ↦ row.route.end_gate ]
 
-abbrev pub received_line : List Row → Item → EnvLine
+abbrev pub received_line : List TableRow → Item → EnvLine
 received_line routes i = record { gate = end_gate_of routes i; signal = i.signal; to = None }
 
 -- the text of received items, each as a line with its newline
-abbrev pub received_text : Lexicon → List Row → List Item → List ℕ
+abbrev pub received_text : Lexicon → List TableRow → List Item → List ℕ
 received_text names routes items = flat_map (λ i. ended_line (unwrap_or (line_text names (received_line routes i)) [])) items
 
 -- the text was written whole, or a shorter front of it
@@ -109,12 +109,12 @@ HasWritten old new text output.Whole = Appends old new text
 HasWritten old new text output.WriteFault = (n : ℕ) × (n < length text) × Appends old new (take n text)
 
 -- the item's route ends in the environment
-abbrev pub GoesOut : List Row → Item → Type 0
-GoesOut routes i = (row : Row) × (gate : GateId) × (slice_get routes i.route.0 ≡ Some row) × (row.route.end ≡ ends.Environment gate)
+abbrev pub GoesOut : List TableRow → Item → Type 0
+GoesOut routes i = (row : TableRow) × (gate : GateId) × (slice_get routes i.route.0 ≡ Some row) × (row.route.end ≡ ends.Environment gate)
 
 -- the item's route starts in the environment
-abbrev pub ComesIn : List Row → Item → Type 0
-ComesIn routes i = (row : Row) × (gate : GateId) × (slice_get routes i.route.0 ≡ Some row) × (row.source ≡ source.Gate gate)
+abbrev pub ComesIn : List TableRow → Item → Type 0
+ComesIn routes i = (row : TableRow) × (gate : GateId) × (slice_get routes i.route.0 ≡ Some row) × (row.source ≡ source.Gate gate)
 
 -- before anything was read
 pub record IsEnvFresh (worker : ℕ) (w : EnvWorking) : Type 0 where
@@ -136,7 +136,7 @@ OwnEnd (Some end) = EndsItself (env.Ended end)
 abbrev pub input_end : EnvWorking → InputEnd
 input_end w = elim w.ended [ None ↦ input.Stopped (length w.put) | Some end ↦ end ]
 
-module _ (structure : Structure) (routes : List Row) (worker : ℕ) where
+module _ (structure : Structure) (routes : List TableRow) (worker : ℕ) where
   -- the item may travel
   abbrev pub IsLegalItem : Item → Type 0
   IsLegalItem i = IsLegal (signals_of structure) (length (sets_of structure)) routes i

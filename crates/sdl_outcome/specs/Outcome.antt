@@ -4,7 +4,7 @@ use Rattle.std.specs.Option.{option_to_list}
 use Rattle.std.specs.List.{flat_map, AllByRecursion}
 use Rattle.sdl_signal.specs.declared.values.Item.{Item}
 use Rattle.sdl_signal.specs.declared.values.Origin.{Origin}
-use Rattle.sdl_routes.specs.declared.parts.Station.{Station}
+use Rattle.sdl_routes.specs.declared.route.Station.{Station}
 use Rattle.sdl_behaviour.specs.declared.step.Frame.{Frame}
 use Rattle.sdl_behaviour.specs.declared.step.Step.{Step}
 use Rattle.sdl_instances.specs.declared.event.Event.{Event}
@@ -20,7 +20,7 @@ use Rattle.sdl_outcome.specs.Causes.{IsCause}
 use Rattle.sdl_outcome.specs.Plan.{Plan, blocks_in, system_at, MayTravel, workers_of, ways_of}
 
 -- what a worker still holds: an item that it took, and the items that it has yet to put
-pub record Held : Type 0 where
+pub record WorkerHand : Type 0 where
   pub kept : Option Item
   pub outgoing : List Item
 
@@ -30,7 +30,7 @@ pub record Outcome : Type 0 where
   pub logs : List (List Event)
   pub env_put : List EnvOut
   pub env_received : List Item
-  pub hands : List Held
+  pub hands : List WorkerHand
   pub rests : List (Station × List Item)
 
 -- what stands for worker w in a list in the order of the workers; nothing where there is none
@@ -45,8 +45,8 @@ books_of plan o =
     record {
       sent = λ w. of_worker w (workers_of plan) (map sent o.logs ++ env_sent o.env_put ∷ []);
       arrived = λ w. of_worker w (workers_of plan) (map arrived o.logs ++ o.env_received ∷ []);
-      kept = λ w. of_worker w (workers_of plan) (map (λ (h : Held). option_to_list h.kept) o.hands);
-      outgoing = λ w. of_worker w (workers_of plan) (map (λ (h : Held). h.outgoing) o.hands);
+      kept = λ w. of_worker w (workers_of plan) (map (λ (h : WorkerHand). option_to_list h.kept) o.hands);
+      outgoing = λ w. of_worker w (workers_of plan) (map (λ (h : WorkerHand). h.outgoing) o.hands);
       rest = λ s. waiting o.rests s;
     }
 

@@ -15,12 +15,12 @@ use Rattle.sdl_parts.specs.declared.parts.Scope.TheVariants as scope
 use Rattle.sdl_parts.specs.declared.parts.Side.{Side}
 use Rattle.sdl_parts.specs.declared.parts.Side.TheVariants.{Outer, Inner}
 use Rattle.sdl_parts.specs.Structure.{Structure}
-use Rattle.sdl_routes.specs.declared.parts.Hop.{Hop}
-use Rattle.sdl_routes.specs.declared.parts.Row.{Row}
-use Rattle.sdl_routes.specs.declared.parts.Source.TheVariants as source
-use Rattle.sdl_routes.specs.declared.parts.EndPoint.TheVariants as ends
-use Rattle.sdl_routes.specs.declared.parts.Station.{Station}
-use Rattle.sdl_routes.specs.declared.parts.Station.TheVariants as station
+use Rattle.sdl_routes.specs.declared.route.Hop.{Hop}
+use Rattle.sdl_routes.specs.declared.route.TableRow.{TableRow}
+use Rattle.sdl_routes.specs.declared.route.Source.TheVariants as source
+use Rattle.sdl_routes.specs.declared.route.EndPoint.TheVariants as ends
+use Rattle.sdl_routes.specs.declared.route.Station.{Station}
+use Rattle.sdl_routes.specs.declared.route.Station.TheVariants as station
 use Rattle.sdl_behaviour.specs.declared.step.Frame.{Frame}
 use Rattle.sdl_instances.specs.declared.event.Event.{Event}
 use Rattle.sdl_instances.specs.declared.event.Event.TheVariants as event
@@ -29,7 +29,7 @@ use Rattle.sdl_instances.specs.declared.event.Trigger.{Trigger}
 use Rattle.sdl_instances.specs.declared.event.Trigger.TheVariants as trigger
 use Rattle.sdl_instances.specs.Machine.{State}
 use Rattle.sdl_outcome.specs.Plan.{Plan}
-use Rattle.sdl_outcome.specs.Outcome.{Outcome, Held}
+use Rattle.sdl_outcome.specs.Outcome.{Outcome, WorkerHand}
 
 abbrev pub named : List ℕ → ArrayString
 named text = record { bytes = text; spare = [] }
@@ -78,7 +78,7 @@ abbrev pub hop : ℕ → Bool → Hop
 hop n back = record { channel = record { 0 = n }; back = back }
 
 -- from X through p, r and q to Y, and back
-abbrev pub to_y : Row
+abbrev pub to_y : TableRow
 to_y =
     record {
       route = record {
@@ -92,7 +92,7 @@ to_y =
       source = source.Set (record { 0 = 0 });
     }
 
-abbrev pub to_x : Row
+abbrev pub to_x : TableRow
 to_x =
     record {
       route = record {
@@ -139,7 +139,7 @@ log_of_p = sends trigger.Start (tok 0 0 0 ∷ []) ∷ enters (tok 1 1 0) ∷ sen
 abbrev pub log_of_q : List Event
 log_of_q = sends trigger.Start [] ∷ enters (tok 0 0 0) ∷ sends (trigger.Fire (tok 0 0 0)) (tok 1 1 0 ∷ []) ∷ []
 
-abbrev pub no_hand : Held
+abbrev pub no_hand : WorkerHand
 no_hand = record { kept = None; outgoing = [] }
 
 abbrev pub rests : List Item → List (Station × List Item)

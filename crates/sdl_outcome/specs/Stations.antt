@@ -1,10 +1,11 @@
 -- Workers, the stations that they take from, and the way of a route through the stations. A delaying path is a queue of
 -- its own (Z.101, channels); inlets and the outlet are this project's own.
-use Rattle.std.specs.Prelude.{ℕ, Bool, true, false, cond, ◌==◌, List, [], ◌∷◌, ◌++◌, map, ◌≡◌, ◌≢◌, ◌⊎◌, Option, Some, None}
-use Rattle.sdl_routes.specs.declared.parts.Hop.{Hop}
-use Rattle.sdl_routes.specs.declared.parts.Station.{Station}
-use Rattle.sdl_routes.specs.declared.parts.Station.TheVariants.{Line, Inlet, Outlet}
-use Rattle.sdl_forward.specs.Boards.{same_hop, same_station}
+use Rattle.std.specs.Prelude.{ℕ, Bool, true, false, slice_get, ◌==◌, List, [], ◌∷◌, ◌++◌, map, ◌≡◌, ◌≢◌, ◌⊎◌, Option}
+use Rattle.sdl_routes.specs.declared.route.Hop.{Hop}
+use Rattle.sdl_routes.specs.declared.route.Station.{Station}
+use Rattle.sdl_routes.specs.declared.route.Station.TheVariants.{Line, Inlet, Outlet}
+use Rattle.sdl_forward.specs.Boards.{same_hop}
+use Rattle.sdl_forward.specs.Forwards.{station_behind}
 use Rattle.sdl_outcome.specs.declared.worker.Worker.{Worker}
 use Rattle.sdl_outcome.specs.declared.worker.Worker.TheVariants.{Block, Environment, Forwarder}
 
@@ -39,19 +40,13 @@ pub record Ways : Type 0 where
   pub finish : ℕ → Worker
 
 abbrev pub first : List Station → Option Station
-first [] = None
-first (s ∷ ss) = Some s
-
--- the station behind s
-abbrev pub after : Station → List Station → Option Station
-after s [] = None
-after s (x ∷ xs) = cond (same_station x s) (first xs) (after s xs)
+first ss = slice_get ss 0
 
 -- where a worker brings an item of route r: a forwarder to the station behind its own, another to the first
 abbrev pub next : Ways → Worker → ℕ → Option Station
 next t (Block b) r = first (t.stations r)
 next t Environment r = first (t.stations r)
-next t (Forwarder h) r = after (Line h) (t.stations r)
+next t (Forwarder h) r = station_behind (Line h) (t.stations r)
 
 abbrev pub Among : {X : Type 0} → X → List X → Type 0
 Among s [] = ⊥

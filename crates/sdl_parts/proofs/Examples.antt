@@ -1,4 +1,4 @@
--- The system Echo, which answers `ping` with `pong`, is well formed. With one change it is not: a change for each sentence.
+-- The system Echo, which answers `ping` with `pong`, is well formed. With one change it is not: a change for each rule.
 use Rattle.std.proofs.Common.{◌≡◌, ℕ, zero, suc, ◌<◌, List, [], ◌∷◌, get_or, slice_get, false, IfSome, Contains, inl, inr, refl, ap, sym, ◌∙◌, subst, codes, arith, lit≤, lit<}
 use Rattle.arrayvec.specs.ArrayString.{ArrayString}
 use Rattle.sdl_signal.specs.declared.ids.SignalId.{SignalId}
@@ -20,7 +20,7 @@ use Rattle.sdl_parts.specs.declared.checking.CheckFault.TheVariants.{BadEnds, Em
 use Rattle.sdl_parts.specs.Order.{IsBefore}
 use Rattle.sdl_parts.specs.Structure.{Structure, Path, path_of, path_at, gate_at, HasSide}
 use Rattle.sdl_parts.specs.Rules.{HasEndsApart, CarriesSome, AdmitsStart, AdmitsFinish, IsAdmittedAt, IsJoined, LeadsOn, CarriesFrom, IsWellFormed, Applies, fault_number, fault_place, IsFirstFault}
-use Rattle.sdl_parts.specs.Sentences.{Holds}
+use Rattle.sdl_parts.specs.EachRule.{Holds}
 use Rattle.sdl_parts.proofs.Whole.{holds_never_applies}
 
 abbrev named : List ℕ → ArrayString

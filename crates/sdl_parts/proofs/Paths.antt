@@ -1,4 +1,4 @@
--- The sentences of the signals of a path: from place to place, and the first fault.
+-- The rules of the signals of a path: from place to place, and the first fault.
 use Rattle.std.proofs.Common.{◌≡◌, ℕ, suc, ◌<◌, ◌≤◌, ◌==◌, true, false, List, [], ◌∷◌, length, get_or, Option, Some, None, option_map, slice_get, IfSome, Contains, ◌⊎◌, inl, inr, refl, ap, sym, ◌∙◌, subst, arith}
 use Rattle.std.specs.List.{position_or_len}
 use Rattle.std.specs.Option.{option_map_or}
@@ -16,7 +16,7 @@ use Rattle.sdl_parts.specs.declared.checking.CheckFault.TheVariants.{NotInGate, 
 use Rattle.sdl_parts.specs.Order.{IsBefore}
 use Rattle.sdl_parts.specs.Structure.{Structure, Path, path_of, path_at}
 use Rattle.sdl_parts.specs.Rules.{IsAdmittedAt, LeadsOn, fault_number, fault_place, direction_rank, signal_rank, end_rank}
-use Rattle.sdl_parts.specs.Sentences.{Holds, IsKeptBefore, IsFirstOf}
+use Rattle.sdl_parts.specs.EachRule.{Holds, IsKeptBefore, IsFirstOf}
 use Rattle.sdl_parts.proofs.Numbers.{less_cases, below_or_past, some_at}
 
 pub only_3 : (P : CheckFault → Type 0) → ((c : ChannelId) (d : Direction) (x : SignalId) (g : GateId) → P (NotInGate c d x g)) → (f : CheckFault) → fault_number f ≡ 3 → P f
@@ -55,7 +55,7 @@ rank_found xs x y k at (j, lt, is) rank =
 abbrev pub place_on : (Path → List ℕ) → SignalId → Option Path → List ℕ
 place_on t x o = option_map_or (λ p. signal_rank p x ∷ t p) o []
 
--- a sentence of a signal of a path
+-- a rule of a signal of a path
 abbrev pub HoldsOn : (Path → SignalId → Type 0) → SignalId → Option Path → Type 0
 HoldsOn Q x o = IfSome o (λ p. Contains p.signals x → Q p x)
 
@@ -137,7 +137,7 @@ inside_on t Q p k x (Some q) is short h =
     let le : signal_rank q x ≤ j = rank_at_most q.signals x j at in
     h (inl (omega arith)) (j, lt, at)
 
--- A sentence of a path's signals, with what more its faults name: it holds at the places before this one.
+-- A rule of a path's signals, with what more its faults name: it holds at the places before this one.
 module _ (s : Structure) (A : Type 0) (t : A → Path → List ℕ) (Q : A → Path → SignalId → Type 0) where
   abbrev pub place_of : ChannelId → Direction → SignalId → A → List ℕ
   place_of c d x a = c.0 ∷ direction_rank d ∷ place_on (t a) x (path_at s c d)
@@ -195,7 +195,7 @@ module _ (s : Structure) (A : Type 0) (t : A → Path → List ℕ) (Q : A → P
             ]
       ]
 
--- the third sentence and the fifth
+-- the third rule and the fifth
 abbrev pub end_place : GateId → Path → List ℕ
 end_place g p = end_rank p g ∷ []
 

@@ -1,4 +1,4 @@
--- The sentences of one channel, of one set and of one gate: all places, and the first fault.
+-- The rules of one channel, of one set and of one gate: all places, and the first fault.
 use Rattle.std.proofs.Common.{◌≡◌, ℕ, ◌<◌, [], ◌∷◌, length, Option, Some, None, slice_get, IfSome, inl, inr, refl, sym, subst, arith}
 use Rattle.std.proofs.lemmas.Option.{slice_get_past}
 use Rattle.sdl_signal.specs.declared.ids.ChannelId.{ChannelId}
@@ -12,7 +12,7 @@ use Rattle.sdl_parts.specs.declared.checking.CheckFault.TheVariants.{EmptyChanne
 use Rattle.sdl_parts.specs.Order.{IsBefore}
 use Rattle.sdl_parts.specs.Structure.{Structure, HasSide}
 use Rattle.sdl_parts.specs.Rules.{CarriesSome, IsJoined, fault_number, fault_place, side_rank}
-use Rattle.sdl_parts.specs.Sentences.{Holds, IsKept, IsFirstOf}
+use Rattle.sdl_parts.specs.EachRule.{Holds, IsKept, IsFirstOf}
 use Rattle.sdl_parts.proofs.Numbers.{at_same, all_places, some_at, below_or_past}
 
 -- the faults of one number are those of one form

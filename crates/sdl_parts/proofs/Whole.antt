@@ -1,16 +1,16 @@
--- All six sentences, and what it means that a fault is the first.
+-- All six rules, and what it means that a fault is the first.
 use Rattle.std.proofs.Common.{Option, Some, None, IfSome, IfNone, IsSomeAnd, MatchOption, refl}
 use Rattle.sdl_parts.specs.declared.checking.CheckFault.{CheckFault}
 use Rattle.sdl_parts.specs.declared.checking.CheckFault.TheVariants.{BadEnds, EmptyChannel, NotInGate, Unjoined, LeadsNowhere, InitialOverMax}
 use Rattle.sdl_parts.specs.Structure.{Structure, channel_at, set_at, gate_at, path_at}
 use Rattle.sdl_parts.specs.Rules.{IsWellFormed, Applies}
-use Rattle.sdl_parts.specs.Sentences.{Holds, IsKept}
+use Rattle.sdl_parts.specs.EachRule.{Holds, IsKept}
 
 never_both : {X : Type 0} (P Q : X → Type 0) → ((x : X) → P x → Q x → ⊥) → (o : Option X) → IfSome o P → IsSomeAnd o Q → ⊥
 never_both P Q apart None p q = q
 never_both P Q apart (Some x) p q = apart x p q
 
--- where a sentence holds its fault does not apply
+-- where a rule holds its fault does not apply
 pub holds_never_applies : (s : Structure) (f : CheckFault) → Holds s f → Applies s f → ⊥
 holds_never_applies s (BadEnds c) h a = never_both _ _ (λ x p q. q p) (channel_at s c) h a
 holds_never_applies s (EmptyChannel c) h a = never_both _ _ (λ x p q. q p) (channel_at s c) h a

@@ -1,5 +1,5 @@
 pub mod Structure
 pub mod Order
 pub mod Rules
-pub mod Sentences
+pub mod EachRule
 pub mod Lists

@@ -1,4 +1,4 @@
--- When a structure is well formed. A sentence is said of a place, and its fault applies where it fails there.
+-- When a structure is well formed. A rule is said of a place, and its fault applies where it fails there.
 use Rattle.std.specs.Prelude.{◌≡◌, ◌≢◌, ℕ, ◌<◌, ◌≤◌, List, [], ◌∷◌, ◌==◌, IsSomeAnd, IfSome, Contains, Any, ◌⊎◌, ⊤, if◌then◌else◌}
 use Rattle.std.specs.List.{position_or_len}
 use Rattle.std.specs.Option.{option_map_or}
@@ -64,7 +64,7 @@ LeadsOn s finish signal = IsBlockGate s finish.gate → StartsAt s signal (recor
 abbrev pub StartsWithin : Set → Type 0
 StartsWithin t = t.initial ≤ t.maximum
 
--- each sentence holds at each of its places
+-- each rule holds at each of its places
 pub record IsWellFormed (s : Structure) : Type 0 where
   pub ends_apart : (c : ChannelId) → IfSome (channel_at s c) HasEndsApart
   pub carries_some : (c : ChannelId) → IfSome (channel_at s c) CarriesSome
@@ -73,7 +73,7 @@ pub record IsWellFormed (s : Structure) : Type 0 where
   pub leads_on : (c : ChannelId) (d : Direction) (x : SignalId) → IfSome (path_at s c d) (λ p. Contains p.signals x → LeadsOn s p.finish x)
   pub starts_within : (t : SetId) → IfSome (set_at s t) StartsWithin
 
--- the sentence of the fault fails at the fault's place
+-- the rule of the fault fails at the fault's place
 abbrev pub Applies : Structure → CheckFault → Type 0
 Applies s (BadEnds c) = IsSomeAnd (channel_at s c) (λ channel. ¬ HasEndsApart channel)
 Applies s (EmptyChannel c) = IsSomeAnd (channel_at s c) (λ channel. ¬ CarriesSome channel)
@@ -82,7 +82,7 @@ Applies s (Unjoined g side) = IsSomeAnd (gate_at s g) (λ gate. HasSide gate.own
 Applies s (LeadsNowhere c d x) = IsSomeAnd (path_at s c d) (λ p. Contains p.signals x × ¬ LeadsOn s p.finish x)
 Applies s (InitialOverMax t) = IsSomeAnd (set_at s t) (λ set. ¬ StartsWithin set)
 
--- the number of the sentence
+-- the number of the rule
 abbrev pub fault_number : CheckFault → ℕ
 fault_number (BadEnds c) = 1
 fault_number (EmptyChannel c) = 2

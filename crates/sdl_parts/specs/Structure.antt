@@ -5,7 +5,7 @@ use Rattle.sdl_signal.specs.declared.ids.SetId.{SetId}
 use Rattle.sdl_signal.specs.declared.ids.SignalId.{SignalId}
 use Rattle.sdl_signal.specs.declared.ids.GateId.{GateId}
 use Rattle.sdl_signal.specs.declared.ids.ChannelId.{ChannelId}
-use Rattle.sdl_signal.specs.Names.{Lexicon, Declared, IsName}
+use Rattle.sdl_signal.specs.Names.{Lexicon, DeclaredSignal, IsName}
 use Rattle.sdl_parts.specs.declared.parts.SignalDecl.{SignalDecl}
 use Rattle.sdl_parts.specs.declared.parts.Block.{Block}
 use Rattle.sdl_parts.specs.declared.parts.Set.{Set}
@@ -118,13 +118,13 @@ pub record IsStructure (s : Structure) : Type 0 where
 abbrev pub system_gate_name : Gate → Option (List ℕ)
 system_gate_name g = elim g.owner [ owner.System ↦ Some g.name.bytes | owner.Block b ↦ None | owner.Set t ↦ None ]
 
-abbrev pub declared : SignalDecl → Declared
-declared x = record { name = x.name.bytes; sorts = x.sorts.items }
+abbrev pub declared_signal : SignalDecl → DeclaredSignal
+declared_signal x = record { name = x.name.bytes; sorts = x.sorts.items }
 
 abbrev pub lexicon_of : Structure → Lexicon
 lexicon_of s = record {
   gates = filter_map system_gate_name s.gates;
-  signals = map declared s.signals;
+  signals = map declared_signal s.signals;
   sets = map (λ t. t.name.bytes) s.sets;
 }
 

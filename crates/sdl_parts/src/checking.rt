@@ -4,20 +4,20 @@ ghost use Rattle.sdl_parts.specs.declared.checking.CheckFault.{CheckFault};
 ghost use Rattle.sdl_parts.specs.Structure.{IsStructure};
 ghost use Rattle.sdl_parts.specs.Rules.{IsWellFormed, IsFirstFault};
 
-mod probes;
-mod sentences;
+mod at_place;
+mod each_rule;
 
 use crate::parts::{Direction, Side};
 use crate::structure::Structure;
-use sdl_signal::{ChannelId, GateId, SetId, SignalId};
-use sentences::{
+use each_rule::{
     first_bad_ends, first_empty_channel, first_initial_over_max, first_leads_nowhere,
     first_not_in_gate, first_unjoined,
 };
+use sdl_signal::{ChannelId, GateId, SetId, SignalId};
 use std::marker::Model;
 use thiserror::Error;
 
-/// Why a structure is not well formed, and where: the first sentence that fails, at its first place. All are this project's
+/// Why a structure is not well formed, and where: the first rule that fails, at its first place. All are this project's
 /// own form of what Basic SDL-2010 asks of channels, gates and instance numbers.
 #[derive(Clone, Copy, Debug, PartialEq, Eq, Error)]
 pub enum CheckFault {

@@ -2,6 +2,7 @@
 #![tactic(auto)]
 
 pub mod checking;
+pub mod limits;
 pub mod parts;
 pub mod structure;
 

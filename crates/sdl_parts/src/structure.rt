@@ -1,12 +1,13 @@
 //! A whole structure.
-ghost use Rattle.std.specs.Prelude.{◌≡◌, ◌+◌, ◌<◌, ◌≤◌, [], ◌∷◌, ◌++◌, length, map, filter_map, All, IfOk, OnOk};
+ghost use Rattle.std.specs.Prelude.{◌≡◌, ◌+◌, ◌<◌, ◌≤◌, [], ◌∷◌, ◌++◌, length, map, filter_map, All, IfOk, OnOk, IsTrue, ◌↔◌};
 ghost use Rattle.sdl_signal.specs.Names.{IsName};
-ghost use Rattle.sdl_parts.specs.Structure.{IsStructure, lexicon_of, system_gate_name, declared, HasLegalNames};
+ghost use Rattle.sdl_parts.specs.Structure.{IsStructure, lexicon_of, system_gate_name, declared_signal, HasLegalNames};
 ghost use Rattle.sdl_parts.specs.Lists.{structure_of};
+ghost use Rattle.sdl_parts.specs.Rules.{IsBlockGate};
 
 use crate::parts::{Block, Channel, Gate, Owner, Set, SignalDecl};
 use arrayvec::ArrayVec;
-use sdl_signal::{Name, Names, Sort};
+use sdl_signal::{GateId, Name, Names, Sort};
 use std::alloc::{AllocError, Global};
 use std::marker::Model;
 
@@ -133,6 +134,16 @@ impl Structure {
         self.gates.as_slice()
     }
 
+    /// Whether the gate is one of a block.
+    pub fn is_block_gate(&self, gate: GateId) -> bool
+        ensures { IsTrue result ↔ IsBlockGate self.now gate }
+    {
+        match self.gates().get(gate.0 as usize) {
+            Some(gate) => matches!(gate.owner, Owner::Block(_)),
+            None => false,
+        }
+    }
+
     /// The channels, at most 64. A channel's number is its place here.
     pub fn channels(&self) -> &[Channel]
         ensures { result.now ≡ self.now.channels }
@@ -188,7 +199,7 @@ fn add_gate(names: &mut Names, gate: &Gate) -> Result<(), AllocError>
 fn add_signals(names: &mut Names, signals: &[SignalDecl]) -> Result<(), AllocError>
     requires legal { All (λ x. IsName x.name.bytes) signals.now }
     requires few { length names.old.signals + length signals.now < 65536 }
-    ensures ok { OnOk result (names.new ≡ record names.old { signals = names.old.signals ++ map declared signals.now }) }
+    ensures ok { OnOk result (names.new ≡ record names.old { signals = names.old.signals ++ map declared_signal signals.now }) }
 {
     for signal in signals {
         names.add_signal(signal.name, copied(&signal.sorts))?;

@@ -16,7 +16,7 @@ is_of set pid.Env = false
 -- taking memory, and of how many sets
 pub record Listed : Type 0 where
   pub entries : List (Pid × Record)
-  pub births : ℕ
+  pub creatable : ℕ
   pub sets : ℕ
 
 -- what a contract sees of the lists of places by set: each list, and how many places can be added to each without taking

@@ -16,8 +16,8 @@ pub record Record : Type 0 where
   pub sender : Pid
 
 -- a new instance, not started
-abbrev pub newborn : List Value → Pid → Record
-newborn vars parent =
+abbrev pub created_record : List Value → Pid → Record
+created_record vars parent =
     record { state = None; vars = vars; port = []; parent = parent; offspring = pid.Null; sender = pid.Null }
 
 -- the record after the front of its port is consumed, the rest staying there

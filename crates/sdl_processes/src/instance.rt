@@ -1,7 +1,7 @@
 //! A living instance.
 ghost use Rattle.std.specs.Prelude.{◌≡◌, ◌<◌, ◌++◌, ◌∷◌, [], List, OnOk, OnErr, Some, option_copied, length};
 ghost use Rattle.sdl_signal.specs.declared.values.Item.{Item};
-ghost use Rattle.sdl_processes.specs.Record.{newborn, consumed, front_of, is_ready};
+ghost use Rattle.sdl_processes.specs.Record.{created_record, consumed, front_of, is_ready};
 
 use crate::copies::copied_values;
 use arrayvec::ArrayVec;
@@ -32,7 +32,7 @@ impl Model for Instance {
 impl Instance {
     /// An instance that has not started, with its initial variables and the parent. No memory is taken.
     pub fn new(alloc: Global, vars: ArrayVec<Value, 8>, parent: Pid) -> Instance
-        ensures { result ≡ newborn vars.items parent }
+        ensures { result ≡ created_record vars.items parent }
     {
         Instance {
             state: None,

@@ -4,7 +4,7 @@
 mod by_set;
 pub mod copies;
 pub mod instance;
-pub mod instances;
+pub mod living_instances;
 
 pub use instance::Instance;
-pub use instances::Instances;
+pub use living_instances::Instances;

@@ -1,7 +1,7 @@
 -- What a run starts from.
 use Rattle.std.specs.Prelude.{ℕ, ◌≤◌, List}
 use Rattle.sdl_parts.specs.Structure.{Structure}
-use Rattle.sdl_routes.specs.declared.parts.Row.{Row}
+use Rattle.sdl_routes.specs.declared.route.TableRow.{TableRow}
 use Rattle.sdl_routes.specs.Routes.{AreRoutesOf}
 
 -- the budget of a structure file: from 1 to 1,000,000 transitions of each block
@@ -10,5 +10,5 @@ pub record HasBudget (s : Structure) : Type 0 where
   pub most : s.budget ≤ 1000000
 
 -- the structure of a file, and its routes
-unfoldable pub CanRun : Structure → List Row → Type 0
+unfoldable pub CanRun : Structure → List TableRow → Type 0
 CanRun s routes = HasBudget s × AreRoutesOf s routes

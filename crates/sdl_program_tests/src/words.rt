@@ -1,7 +1,7 @@
 //! The program's arguments.
 use sdl_program::arguments::{Arguments, Command, Options, read_arguments};
 
-const PLAIN: Options = Options {
+const WITHOUT_OPTIONS: Options = Options {
     command: Command::Run,
     serial: false,
     ledger: false,
@@ -10,7 +10,7 @@ const PLAIN: Options = Options {
 
 const LEDGER: Options = Options {
     ledger: true,
-    ..PLAIN
+    ..WITHOUT_OPTIONS
 };
 
 const ALL: Options = Options {
@@ -25,33 +25,33 @@ const ACCEPTED: [(&[&str], Options); 11] = [
         &["check", "f.toml"],
         Options {
             command: Command::Check,
-            ..PLAIN
+            ..WITHOUT_OPTIONS
         },
     ),
     (
         &["check", ""],
         Options {
             command: Command::Check,
-            ..PLAIN
+            ..WITHOUT_OPTIONS
         },
     ),
     (
         &["routes", "f.toml"],
         Options {
             command: Command::Routes,
-            ..PLAIN
+            ..WITHOUT_OPTIONS
         },
     ),
     (
         &["routes", ""],
         Options {
             command: Command::Routes,
-            ..PLAIN
+            ..WITHOUT_OPTIONS
         },
     ),
-    (&["run", "f.toml"], PLAIN),
-    (&["run", ""], PLAIN),
-    (&["run", "run"], PLAIN),
+    (&["run", "f.toml"], WITHOUT_OPTIONS),
+    (&["run", ""], WITHOUT_OPTIONS),
+    (&["run", "run"], WITHOUT_OPTIONS),
     (&["run", "--ledger", "f.toml"], LEDGER),
     (&["run", "--ledger", "--ledger", "f.toml"], LEDGER),
     (&["run", "--ledger", "--trace", "--serial", "-"], ALL),

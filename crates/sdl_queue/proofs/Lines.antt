@@ -13,7 +13,7 @@ use Rattle.sdl_queue.specs.declared.rule.View.{View}
 use Rattle.sdl_queue.specs.declared.rule.View.TheVariants.{Spent, Feeds, Takes}
 use Rattle.sdl_queue.specs.DelayLine.{items_by, AreOfFeeders, HasNumber}
 use Rattle.sdl_queue.specs.Ends.{put_list}
-use Rattle.sdl_queue.specs.Rule.{taking, seen_by, tap_of, IsFeeder, IsTap, IsWhole, unfed, with_feeder, new_feeder, longer, with_put, gathered, HasPut, with_taken, HasTaken, left_of, IsSettled, HasSettled, Chronicle, HasJoined, FitsTap, Fits, InLine}
+use Rattle.sdl_queue.specs.Rule.{taking, seen_by, tap_of, IsFeeder, IsTap, IsWhole, unfed, with_feeder, new_feeder, longer, with_put, gathered, HasPut, with_taken, HasTaken, left_of, IsRejoined, HasTakenRejoined, Chronicle, HasJoined, TapAgreesWith, AgreesWith, InLine}
 use Rattle.sdl_queue.proofs.Puts.{items_by-append, items_by-own, items_by-other, every, every-append, drop-append-same, whole, at_new, updated, updated_here, updated_else}
 
 abbrev Seen : Type 0
@@ -41,7 +41,7 @@ grown n f seen h t own lt c = let h' : List Tagged = h ++ t ∷ [] in record {
 
 -- what another pass knows stays true
 fits_grown : (n tap : ℕ) (seat : ℕ → ℕ) (seen : Seen) (taken h : List Tagged) (t : Tagged) (f pass j : ℕ) (v : View) → seat f ≡ pass → j ≢ pass
-    → Fits n tap seat seen taken h j v → Fits n tap seat (updated seen f (h ++ t ∷ [])) taken (h ++ t ∷ []) j v
+    → AgreesWith n tap seat seen taken h j v → AgreesWith n tap seat (updated seen f (h ++ t ∷ [])) taken (h ++ t ∷ []) j v
 fits_grown n tap seat seen taken h t f pass j Spent at other fit = tt
 fits_grown n tap seat seen taken h t f pass j (Feeds m s) at other fit = let apart : m ≢ f = λ e. other (sym fit.1 ∙ ap seat e ∙ at) in (fit.0, fit.1, updated_else seen f (h ++ t ∷ []) m apart ∙ fit.2)
 fits_grown n tap seat seen taken h t f pass j (Takes a) at other fit =
@@ -52,7 +52,7 @@ fits_grown n tap seat seen taken h t f pass j (Takes a) at other fit =
     (fit.0, fit.1, fit.2, every (HasJoined n tap seat seen taken h a.latest) (HasJoined n tap seat (updated seen f h') taken h' a.latest) same a.joined fit.3, (fit.4.0 ++ t ∷ [], ap (λ l. l ++ t ∷ []) fit.4.1 ∙ append_assoc a.latest fit.4.0 (t ∷ [])))
 
 abbrev FitAll : ℕ → ℕ → (ℕ → ℕ) → Seen → List Tagged → List Tagged → List View → Type 0
-FitAll n tap seat seen taken h views = (pass : ℕ) (v : View) → get_elem? views pass ≡ some v → Fits n tap seat seen taken h pass v
+FitAll n tap seat seen taken h views = (pass : ℕ) (v : View) → get_elem? views pass ≡ some v → AgreesWith n tap seat seen taken h pass v
 
 -- one view changed, the others not
 fit_set : (F : ℕ → View → Type 0) (views : List View) (pass : ℕ) (w : View) → F pass w → ((j : ℕ) (u : View) → j ≢ pass → get_elem? views j ≡ some u → F j u)
@@ -64,11 +64,11 @@ pub pushes : (n pass : ℕ) (v : View) (t : Tagged) → IsFeeder t.feeder v → 
 pushes n pass v t is items views _ r at =
     let f : ℕ = t.feeder in let s : List Tagged = seen_by v in
     let h : List Tagged = r.taken ++ items in let h' : List Tagged = h ++ t ∷ [] in
-    let mine : Fits r.feeders r.tap r.seat r.seen r.taken h pass (Feeds f s) = subst (Fits r.feeders r.tap r.seat r.seen r.taken h pass) is (r.fits pass v at) in
+    let mine : AgreesWith r.feeders r.tap r.seat r.seen r.taken h pass (Feeds f s) = subst (AgreesWith r.feeders r.tap r.seat r.seen r.taken h pass) is (r.fits pass v at) in
     let c = grown r.feeders f r.seen h t refl mine.0 r.chronicle in
     let seen' : Seen = updated r.seen f h' in
     let fits : FitAll r.feeders r.tap r.seat seen' r.taken h' (set views pass (Feeds f h')) =
-    fit_set (Fits r.feeders r.tap r.seat seen' r.taken h') views pass (Feeds f h') (mine.0, mine.1, updated_here r.seen f h' f refl)
+    fit_set (AgreesWith r.feeders r.tap r.seat seen' r.taken h') views pass (Feeds f h') (mine.0, mine.1, updated_here r.seen f h' f refl)
     (λ j u other e. fits_grown r.feeders r.tap r.seat r.seen r.taken h t f pass j u mine.1 other (r.fits j u e)) in
     let flat : h' ≡ r.taken ++ (items ++ t ∷ []) = append_assoc r.taken items (t ∷ []) in (
       Feeds f h',
@@ -86,11 +86,11 @@ pushes n pass v t is items views _ r at =
 
 -- A take
 
-taken_fits : (items : List Tagged) (views : List View) (pass : ℕ) (v : View) (r : InLine items views) → IsTap v → get_elem? views pass ≡ some v → FitsTap r.feeders r.tap r.seat r.seen r.taken (r.taken ++ items) pass (tap_of v)
-taken_fits items views pass v r is at = subst (Fits r.feeders r.tap r.seat r.seen r.taken (r.taken ++ items) pass) is (r.fits pass v at)
+taken_fits : (items : List Tagged) (views : List View) (pass : ℕ) (v : View) (r : InLine items views) → IsTap v → get_elem? views pass ≡ some v → TapAgreesWith r.feeders r.tap r.seat r.seen r.taken (r.taken ++ items) pass (tap_of v)
+taken_fits items views pass v r is at = subst (AgreesWith r.feeders r.tap r.seat r.seen r.taken (r.taken ++ items) pass) is (r.fits pass v at)
 
 -- another pass is a feeder's, or spent, and what a feeder knows does not depend on what was taken
-fits_else : (n tap : ℕ) (seat : ℕ → ℕ) (seen : Seen) (taken taken' h h' : List Tagged) (j : ℕ) (v : View) → j ≢ tap → Fits n tap seat seen taken h j v → Fits n tap seat seen taken' h' j v
+fits_else : (n tap : ℕ) (seat : ℕ → ℕ) (seen : Seen) (taken taken' h h' : List Tagged) (j : ℕ) (v : View) → j ≢ tap → AgreesWith n tap seat seen taken h j v → AgreesWith n tap seat seen taken' h' j v
 fits_else n tap seat seen taken taken' h h' j Spent other fit = tt
 fits_else n tap seat seen taken taken' h h' j (Feeds m s) other fit = fit
 fits_else n tap seat seen taken taken' h h' j (Takes a) other fit = absurd (other fit.1)
@@ -102,9 +102,9 @@ takes pass v is x items views r at =
     let taken' : List Tagged = r.taken ++ x ∷ [] in
     let w : View = Takes (with_taken a x) in
     let flat : r.taken ++ x ∷ items ≡ taken' ++ items = sym (append_assoc r.taken (x ∷ []) items) in
-    let now : FitsTap r.feeders r.tap r.seat r.seen taken' (r.taken ++ x ∷ items) pass (with_taken a x) = (mine.0, mine.1, ap (λ l. l ++ x ∷ []) mine.2, mine.3, mine.4) in
+    let now : TapAgreesWith r.feeders r.tap r.seat r.seen taken' (r.taken ++ x ∷ items) pass (with_taken a x) = (mine.0, mine.1, ap (λ l. l ++ x ∷ []) mine.2, mine.3, mine.4) in
     let fits : FitAll r.feeders r.tap r.seat r.seen taken' (r.taken ++ x ∷ items) (set views pass w) =
-    fit_set (Fits r.feeders r.tap r.seat r.seen taken' (r.taken ++ x ∷ items)) views pass w now
+    fit_set (AgreesWith r.feeders r.tap r.seat r.seen taken' (r.taken ++ x ∷ items)) views pass w now
     (λ j u other e. fits_else r.feeders r.tap r.seat r.seen r.taken taken' (r.taken ++ x ∷ items) (r.taken ++ x ∷ items) j u (λ t. other (t ∙ sym mine.1)) (r.fits j u e)) in (
       w,
       record {
@@ -124,8 +124,8 @@ takes pass v is x items views r at =
 none_there : (v : View) (w : View) (j : ℕ) → get_elem? (v ∷ []) (suc j) ≡ some w → ⊥
 none_there v w j e = some-ne-none w (sym e)
 
-begins_fit : (j : ℕ) (u : View) → get_elem? (unfed ∷ []) j ≡ some u → Fits 0 0 (λ _. 0) (λ _. []) [] [] j u
-begins_fit zero u e = let P : View → Type 0 = Fits 0 0 (λ _. 0) (λ _. []) [] [] 0 in let start : P unfed = (refl, refl, refl, tt, ([], refl)) in subst P (some-injective unfed u e) start
+begins_fit : (j : ℕ) (u : View) → get_elem? (unfed ∷ []) j ≡ some u → AgreesWith 0 0 (λ _. 0) (λ _. []) [] [] j u
+begins_fit zero u e = let P : View → Type 0 = AgreesWith 0 0 (λ _. 0) (λ _. []) [] [] 0 in let start : P unfed = (refl, refl, refl, tt, ([], refl)) in subst P (some-injective unfed u e) start
 begins_fit (suc j) u e = absurd (none_there unfed u j e)
 
 pub begins : InLine [] (unfed ∷ [])
@@ -144,7 +144,7 @@ begins = record {
 enrolled_joined : (n tap : ℕ) (seat : ℕ → ℕ) (seen : Seen) (taken h latest : List Tagged) (pass : ℕ) (p : PutList) → HasJoined n tap seat seen taken h latest p → HasJoined (n + 1) tap (updated seat n pass) seen taken h latest p
 enrolled_joined n tap seat seen taken h latest pass p q = let off : p.number ≢ n = (let lt = q.0 in omega arith) in ((let lt = q.0 in omega arith), updated_else seat n pass p.number off ∙ q.1, q.2, q.3)
 
-enrolled_fits : (n tap : ℕ) (seat : ℕ → ℕ) (seen : Seen) (taken h : List Tagged) (pass j : ℕ) (v : View) → j ≢ tap → Fits n tap seat seen taken h j v → Fits (n + 1) tap (updated seat n pass) seen taken h j v
+enrolled_fits : (n tap : ℕ) (seat : ℕ → ℕ) (seen : Seen) (taken h : List Tagged) (pass j : ℕ) (v : View) → j ≢ tap → AgreesWith n tap seat seen taken h j v → AgreesWith (n + 1) tap (updated seat n pass) seen taken h j v
 enrolled_fits n tap seat seen taken h pass j Spent other fit = tt
 enrolled_fits n tap seat seen taken h pass j (Feeds m s) other fit = let off : m ≢ n = (let lt = fit.0 in omega arith) in ((let lt = fit.0 in omega arith), updated_else seat n pass m off ∙ fit.1, fit.2)
 enrolled_fits n tap seat seen taken h pass j (Takes a) other fit = absurd (other fit.1)
@@ -165,9 +165,9 @@ forks pass v is items views r at =
     let vs : List View = set views pass (with_feeder v) in
     let place : ℕ = length vs in
     let seat' : ℕ → ℕ = updated r.seat n place in
-    let now : FitsTap (n + 1) r.tap seat' r.seen r.taken h pass (taking (a.feeders + 1) a.taken a.joined a.latest) =
+    let now : TapAgreesWith (n + 1) r.tap seat' r.seen r.taken h pass (taking (a.feeders + 1) a.taken a.joined a.latest) =
     (ap (λ k. k + 1) mine.0, mine.1, mine.2, every (HasJoined n r.tap r.seat r.seen r.taken h a.latest) (HasJoined (n + 1) r.tap seat' r.seen r.taken h a.latest) (enrolled_joined n r.tap r.seat r.seen r.taken h a.latest place) a.joined mine.3, mine.4) in
-    let F : ℕ → View → Type 0 = Fits (n + 1) r.tap seat' r.seen r.taken h in
+    let F : ℕ → View → Type 0 = AgreesWith (n + 1) r.tap seat' r.seen r.taken h in
     let old : (j : ℕ) (u : View) → get_elem? vs j ≡ some u → F j u = fit_set F views pass (with_feeder v) now
     (λ j u other e. enrolled_fits n r.tap r.seat r.seen r.taken h place j u (λ t. other (t ∙ sym mine.1)) (r.fits j u e)) in
     let new : F place (Feeds n []) = (omega arith, updated_here r.seat n place n refl, r.chronicle.unseen n (omega arith)) in
@@ -199,7 +199,7 @@ longer_begins h xs ys b c = cond_both (nat_lt (length xs) (length ys)) ys xs (λ
 seated : (seat : ℕ → ℕ) (f tap k : ℕ) → seat k ≡ tap → updated seat f tap k ≡ tap
 seated seat f tap k e = ⊎_elim (λ is. updated_here seat f tap k is) (λ off. updated_else seat f tap k off ∙ e) (cases_eq k f)
 
-gathered_fits : (n tap : ℕ) (seat : ℕ → ℕ) (seen : Seen) (taken h : List Tagged) (f other j : ℕ) (v : View) → seat f ≡ other → j ≢ other → j ≢ tap → Fits n tap seat seen taken h j v → Fits n tap (updated seat f tap) seen taken h j v
+gathered_fits : (n tap : ℕ) (seat : ℕ → ℕ) (seen : Seen) (taken h : List Tagged) (f other j : ℕ) (v : View) → seat f ≡ other → j ≢ other → j ≢ tap → AgreesWith n tap seat seen taken h j v → AgreesWith n tap (updated seat f tap) seen taken h j v
 gathered_fits n tap seat seen taken h f other j Spent at apart off fit = tt
 gathered_fits n tap seat seen taken h f other j (Feeds m s) at apart off fit = (fit.0, updated_else seat f tap m (λ e. apart (sym fit.1 ∙ ap seat e ∙ at)) ∙ fit.1, fit.2)
 gathered_fits n tap seat seen taken h f other j (Takes a) at apart off fit = absurd (off fit.1)
@@ -212,7 +212,7 @@ gathers pass v other f s is items views r at apart at' =
     let both : Taking = with_put a f s in
     let vs : List View = set views pass (Takes both) in
     let was : get_elem? views other ≡ some (Feeds f s) = ⊎_elim (λ x. absurd (apart x.0)) (λ x. x.1) (at_set views pass other (Takes both) (Feeds f s) at') in
-    let theirs : Fits n r.tap r.seat r.seen r.taken h other (Feeds f s) = r.fits other (Feeds f s) was in
+    let theirs : AgreesWith n r.tap r.seat r.seen r.taken h other (Feeds f s) = r.fits other (Feeds f s) was in
     let seat' : ℕ → ℕ = updated r.seat f r.tap in
     let old : (p : PutList) → HasJoined n r.tap r.seat r.seen r.taken h a.latest p → HasJoined n r.tap seat' r.seen r.taken h both.latest p =
     λ p q. (q.0, seated r.seat f r.tap p.number q.1, q.2, (let le = longer_left a.latest s in let l = q.3 in omega arith)) in
@@ -221,8 +221,8 @@ gathers pass v other f s is items views r at apart at' =
     let joined : AllByRecursion (HasJoined n r.tap seat' r.seen r.taken h both.latest) both.joined =
     every-append (HasJoined n r.tap seat' r.seen r.taken h both.latest) a.joined (put_list f (items_by f s) ∷ []) (every (HasJoined n r.tap r.seat r.seen r.taken h a.latest) (HasJoined n r.tap seat' r.seen r.taken h both.latest) old a.joined mine.3) (new, tt) in
     let begins : Begins h s = (let w = r.chronicle.ahead f in (w.0, w.1 ∙ ap (λ l. l ++ w.0) theirs.2)) in
-    let now : FitsTap n r.tap seat' r.seen r.taken h pass both = (mine.0, mine.1, mine.2, joined, longer_begins h a.latest s mine.4 begins) in
-    let F : ℕ → View → Type 0 = Fits n r.tap seat' r.seen r.taken h in
+    let now : TapAgreesWith n r.tap seat' r.seen r.taken h pass both = (mine.0, mine.1, mine.2, joined, longer_begins h a.latest s mine.4 begins) in
+    let F : ℕ → View → Type 0 = AgreesWith n r.tap seat' r.seen r.taken h in
     -- every pass but the one that is spent
     let G : ℕ → View → Type 0 = λ j u. j ≢ other → F j u in
     let most : (j : ℕ) (u : View) → get_elem? vs j ≡ some u → G j u = fit_set G views pass (Takes both) (λ _. now)
@@ -255,7 +255,7 @@ is_whole items views pass v r whole_v at =
     (joined_length r.feeders r.tap r.seat r.seen r.taken h a.latest x.0 a.joined mine.3 (whole_v.1 x.0 (subst (λ k. x.0 < k) (sym mine.0) x.1)))) r.chronicle.last in
     whole h a.latest mine.4.0 mine.4.1 long
 
-pub settles : (pass : ℕ) (v : View) → IsWhole v → Learns InLine pass v (IsSettled v)
+pub settles : (pass : ℕ) (v : View) → IsWhole v → Learns InLine pass v (IsRejoined v)
 settles pass v whole_v items views r at =
     let a : Taking = tap_of v in let h : List Tagged = r.taken ++ items in
     let mine = taken_fits items views pass v r whole_v.0 at in
@@ -270,7 +270,7 @@ settles pass v whole_v items views r at =
       ),
     )
 
-pub settled_takes : (pass : ℕ) (v : View) → IsWhole v → Pops InLine pass v (HasSettled v)
+pub settled_takes : (pass : ℕ) (v : View) → IsWhole v → Pops InLine pass v (HasTakenRejoined v)
 settled_takes pass v whole_v x items views r at =
     let a : Taking = tap_of v in
     let t = takes pass v whole_v.0 x items views r at in

@@ -9,7 +9,7 @@ use Rattle.sdl_queue.specs.declared.rule.Tagged.{Tagged}
 use Rattle.sdl_queue.specs.declared.rule.View.{View}
 use Rattle.crossbeam_queue.specs.Fifo.{Held}
 use Rattle.sdl_queue.specs.DelayLine.{Covers, HasNumber, IsDelayLine}
-use Rattle.sdl_queue.specs.Rule.{IsTap, IsWhole, tap_of, left_of, IsSettled, HasSettled}
+use Rattle.sdl_queue.specs.Rule.{IsTap, IsWhole, tap_of, left_of, IsRejoined, HasTakenRejoined}
 use Rattle.sdl_queue.specs.Ends.{Opening, FeedEnd, TapEnd, fresh_feed, fresh_feeds, put_of, AreAllEnds}
 
 pub fresh_feeds-more : (o : Opening) (n : ℕ) → fresh_feeds o n ++ fresh_feed o n ∷ [] ≡ fresh_feeds o (n + 1)
@@ -35,21 +35,21 @@ pub whole_along : (n : ℕ) (v w : View) (ps : List PutList) → w ≡ v → IsT
 whole_along n v w ps e is m q covers = subst (λ u. IsWhole u) (sym e) (is, covers_along (tap_of v).feeders n (tap_of v).joined ps m q covers)
 
 -- a take from a queue all of whose feeds have come back
-pub whole_taken : (v w : View) (x : Tagged) → IsWhole v → HasSettled v x w → IsWhole w
+pub whole_taken : (v w : View) (x : Tagged) → IsWhole v → HasTakenRejoined v x w → IsWhole w
 whole_taken v w x is has = subst (λ u. IsWhole u) (sym has.0) (refl, is.1)
 
-pub left_taken : (v w : View) (x : Tagged) → HasSettled v x w → left_of (tap_of v) ≡ x ∷ left_of (tap_of w)
+pub left_taken : (v w : View) (x : Tagged) → HasTakenRejoined v x w → left_of (tap_of v) ≡ x ∷ left_of (tap_of w)
 left_taken v w x has = has.1 ∙ ap (λ u. x ∷ left_of (tap_of u)) (sym has.0)
 
-pub settled_len : (n : ℕ) (v w : View) → w ≡ v → Held n (IsSettled v) → n ≡ length (left_of (tap_of w))
+pub settled_len : (n : ℕ) (v w : View) → w ≡ v → Held n (IsRejoined v) → n ≡ length (left_of (tap_of w))
 settled_len n v w e h = sym h.1 ∙ ap length h.2.0 ∙ ap (λ u. length (left_of (tap_of u))) (sym e)
 
 -- a look at a queue all of whose feeds have come back
-pub settled_line : (n : ℕ) (v w : View) → w ≡ v → Held n (IsSettled v) → let t = tap_of w in IsDelayLine t.feeders t.joined t.taken (left_of t)
+pub settled_line : (n : ℕ) (v w : View) → w ≡ v → Held n (IsRejoined v) → let t = tap_of w in IsDelayLine t.feeders t.joined t.taken (left_of t)
 settled_line n v w e h = let t = tap_of v in
     subst (λ u. let t = tap_of u in IsDelayLine t.feeders t.joined t.taken (left_of t)) (sym e) (subst (λ l. IsDelayLine t.feeders t.joined t.taken l) h.2.0 h.2.1)
 
-pub took_left : (P : Type 0) (r : Option Tagged) (v w : View) → IsWhole v → MatchOption r ((w ≡ v) × IsSettled v []) (λ x. HasSettled v x w × P)
+pub took_left : (P : Type 0) (r : Option Tagged) (v w : View) → IsWhole v → MatchOption r ((w ≡ v) × IsRejoined v []) (λ x. HasTakenRejoined v x w × P)
     → IsWhole w × MatchOption r (left_of (tap_of v) ≡ []) (λ x. left_of (tap_of v) ≡ x ∷ left_of (tap_of w))
 took_left P None v w is h = (subst (λ u. IsWhole u) (sym h.0) is, sym h.1.0)
 took_left P (Some x) v w is h = (whole_taken v w x is h.0, left_taken v w x h.0)

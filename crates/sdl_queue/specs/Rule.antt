@@ -76,11 +76,11 @@ HasTaken v x w = w ≡ Takes (with_taken (tap_of v) x)
 abbrev pub left_of : Taking → List Tagged
 left_of t = drop (length t.taken) t.latest
 
-abbrev pub IsSettled : View → List Tagged → Type 0
-IsSettled v items = let t = tap_of v in (items ≡ left_of t) × IsDelayLine t.feeders t.joined t.taken items
+abbrev pub IsRejoined : View → List Tagged → Type 0
+IsRejoined v items = let t = tap_of v in (items ≡ left_of t) × IsDelayLine t.feeders t.joined t.taken items
 
-abbrev pub HasSettled : View → Tagged → View → Type 0
-HasSettled v x w = HasTaken v x w × (left_of (tap_of v) ≡ x ∷ left_of (with_taken (tap_of v) x))
+abbrev pub HasTakenRejoined : View → Tagged → View → Type 0
+HasTakenRejoined v x w = HasTaken v x w × (left_of (tap_of v) ≡ x ∷ left_of (with_taken (tap_of v) x))
 
 -- `seen f` is the history up to the last item of the feeder f
 pub record Chronicle (feeders : ℕ) (seen : ℕ → List Tagged) (history : List Tagged) : Type 0 where
@@ -94,13 +94,13 @@ module _ (feeders tap : ℕ) (seat : ℕ → ℕ) (seen : ℕ → List Tagged) (
   abbrev pub HasJoined : List Tagged → PutList → Type 0
   HasJoined latest p = (p.number < feeders) × (seat p.number ≡ tap) × (items_by p.number (seen p.number) ≡ p.items) × (length (seen p.number) ≤ length latest)
 
-  abbrev pub FitsTap : ℕ → Taking → Type 0
-  FitsTap pass t = (t.feeders ≡ feeders) × (pass ≡ tap) × (t.taken ≡ taken) × AllByRecursion (HasJoined t.latest) t.joined × ((later : List Tagged) × (history ≡ t.latest ++ later))
+  abbrev pub TapAgreesWith : ℕ → Taking → Type 0
+  TapAgreesWith pass t = (t.feeders ≡ feeders) × (pass ≡ tap) × (t.taken ≡ taken) × AllByRecursion (HasJoined t.latest) t.joined × ((later : List Tagged) × (history ≡ t.latest ++ later))
 
-  abbrev pub Fits : ℕ → View → Type 0
-  Fits pass (Feeds f s) = (f < feeders) × (seat f ≡ pass) × (seen f ≡ s)
-  Fits pass (Takes t) = FitsTap pass t
-  Fits pass Spent = Unit {0}
+  abbrev pub AgreesWith : ℕ → View → Type 0
+  AgreesWith pass (Feeds f s) = (f < feeders) × (seat f ≡ pass) × (seen f ≡ s)
+  AgreesWith pass (Takes t) = TapAgreesWith pass t
+  AgreesWith pass Spent = Unit {0}
 
 pub record InLine (items : List Tagged) (views : List View) : Type 0 where
   pub feeders : ℕ
@@ -109,4 +109,4 @@ pub record InLine (items : List Tagged) (views : List View) : Type 0 where
   pub seen : ℕ → List Tagged
   pub taken : List Tagged
   pub chronicle : Chronicle feeders seen (taken ++ items)
-  pub fits : (pass : ℕ) (v : View) → get_elem? views pass ≡ some v → Fits feeders tap seat seen taken (taken ++ items) pass v
+  pub fits : (pass : ℕ) (v : View) → get_elem? views pass ≡ some v → AgreesWith feeders tap seat seen taken (taken ++ items) pass v

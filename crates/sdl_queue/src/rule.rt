@@ -99,15 +99,15 @@ impl Lesson<Tagged, View> for Tapping {
 pub struct Settling;
 
 impl Outcome<Tagged, View> for Settling {
-    ghost use Rattle.sdl_queue.specs.Rule.{HasSettled};
+    ghost use Rattle.sdl_queue.specs.Rule.{HasTakenRejoined};
 
-    ghost then = { HasSettled };
+    ghost then = { HasTakenRejoined };
 }
 
 impl Lesson<Tagged, View> for Settling {
-    ghost use Rattle.sdl_queue.specs.Rule.{IsSettled};
+    ghost use Rattle.sdl_queue.specs.Rule.{IsRejoined};
 
-    ghost fact = { IsSettled };
+    ghost fact = { IsRejoined };
 }
 
 /// A queue under the rule.

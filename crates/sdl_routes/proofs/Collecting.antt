@@ -2,12 +2,12 @@
 use Rattle.std.proofs.Common.{◌≡◌, ◌≢◌, ℕ, ◌+◌, ◌<◌, ◌≤◌, false, List, [], ◌∷◌, ◌++◌, map, length, Result, Ok, Err, OnOk, IfErr, refl, ap, sym, ◌∙◌, subst, arith, length-append}
 use Rattle.sdl_signal.specs.declared.ids.SignalId.{SignalId}
 use Rattle.sdl_parts.specs.Structure.{Structure, IsStructure}
-use Rattle.sdl_routes.specs.declared.parts.Hop.{Hop}
-use Rattle.sdl_routes.specs.declared.parts.Row.{Row}
+use Rattle.sdl_routes.specs.declared.route.Hop.{Hop}
+use Rattle.sdl_routes.specs.declared.route.TableRow.{TableRow}
 use Rattle.sdl_routes.specs.declared.search.Collected.{Collected}
 use Rattle.sdl_routes.specs.Routes.{IsRoute, AreRoutesOf, HasTooMany, hop_number, place, row_place}
-use Rattle.sdl_routes.specs.Found.{after, Begins, HasFound}
-use Rattle.sdl_routes.specs.Collected.{Adds, HasCollected}
+use Rattle.sdl_routes.specs.Found.{place_behind, Begins, HasFound}
+use Rattle.sdl_routes.specs.Collected.{AddsRoute, HasCollected}
 use Rattle.sdl_routes.proofs.Found.{found_none, found_push}
 use Rattle.sdl_routes.proofs.Walks.{too_many, hop_from_number, all_found}
 use Rattle.sdl_routes.proofs.Counting.{not_too_many}
@@ -21,23 +21,23 @@ collected_none s c count kept = record {
   collected = record { count = count; kept = λ e. kept };
 }
 
-pub collected_moves : (s : Structure) (low high : List ℕ) (c : Collected) → ((rows : List Row) → HasFound s low rows → HasFound s high rows)
+pub collected_moves : (s : Structure) (low high : List ℕ) (c : Collected) → ((rows : List TableRow) → HasFound s low rows → HasFound s high rows)
     → HasCollected s low c → HasCollected s high c
 collected_moves s low high c moves h = record { found = h.found; before = moves h.found h.before; few = h.few; collected = h.collected }
 
 -- the route of these hops stands at their place, and no other begins there
-place_same : (row : Row) (x : SignalId) (hops : List Hop) → row.route.signal ≡ x → row.route.hops.items ≡ hops → row_place row ≡ place x hops
+place_same : (row : TableRow) (x : SignalId) (hops : List Hop) → row.route.signal ≡ x → row.route.hops.items ≡ hops → row_place row ≡ place x hops
 place_same row x hops e f = ap (λ (y : SignalId). place y row.route.hops.items) e ∙ ap (λ (hs : List Hop). place x hs) f
 
-only_here : (s : Structure) (row : Row) (p : List ℕ) → IsRoute s row → row_place row ≡ p
-    → (other : Row) → IsRoute s other → Begins p (row_place other) → other ≡ row
+only_here : (s : Structure) (row : TableRow) (p : List ℕ) → IsRoute s row → row_place row ≡ p
+    → (other : TableRow) → IsRoute s other → Begins p (row_place other) → other ≡ row
 only_here s row p route at other is begins =
     let P : List ℕ → Type 0 = λ q. Begins q (row_place other) in
     route_only s row route other is (subst P (sym at) begins)
 
-pub collected_push : (s : Structure) (x : SignalId) (hops : List Hop) (row : Row) (old new : Collected)
+pub collected_push : (s : Structure) (x : SignalId) (hops : List Hop) (row : TableRow) (old new : Collected)
     → IsRoute s row → row.route.signal ≡ x → row.route.hops.items ≡ hops
-    → HasCollected s (place x hops) old → Adds old row new → old.count < 4096 → HasCollected s (after (place x hops)) new
+    → HasCollected s (place x hops) old → AddsRoute old row new → old.count < 4096 → HasCollected s (place_behind (place x hops)) new
 collected_push s x hops row old new route signal same h adds room =
     let at : row_place row ≡ place x hops = place_same row x hops signal same in
     let count : old.count ≡ length h.found = h.collected.count in
@@ -49,11 +49,11 @@ collected_push s x hops row old new route signal same h adds room =
       few = omega arith;
       collected = record {
         count = omega arith;
-        kept = λ e. (adds.kept e).1 ∙ ap (λ (rows : List Row). rows ++ row ∷ []) (h.collected.kept (adds.kept e).0);
+        kept = λ e. (adds.kept e).1 ∙ ap (λ (rows : List TableRow). rows ++ row ∷ []) (h.collected.kept (adds.kept e).0);
       };
     }
 
-pub collected_too_many : (s : Structure) (x : SignalId) (hops : List Hop) (row : Row) (c : Collected)
+pub collected_too_many : (s : Structure) (x : SignalId) (hops : List Hop) (row : TableRow) (c : Collected)
     → IsRoute s row → row.route.signal ≡ x → row.route.hops.items ≡ hops
     → HasCollected s (place x hops) c → 4096 ≤ c.count → HasTooMany s
 collected_too_many s x hops row c route signal same h full =
@@ -73,8 +73,8 @@ hops_same (h ∷ a) (k ∷ b) e =
     cc
 
 -- where no route has the hops none has their place
-pub none_placed : (s : Structure) (x : SignalId) (hops : List Hop) → ((other : Row) → IsRoute s other → other.route.hops.items ≢ hops)
-    → (other : Row) → IsRoute s other → row_place other ≢ place x hops
+pub none_placed : (s : Structure) (x : SignalId) (hops : List Hop) → ((other : TableRow) → IsRoute s other → other.route.hops.items ≢ hops)
+    → (other : TableRow) → IsRoute s other → row_place other ≢ place x hops
 none_placed s x hops none other route e =
     let f : map hop_number other.route.hops.items ≡ map hop_number hops = cc in
     none other route (hops_same other.route.hops.items hops f)
@@ -88,7 +88,7 @@ pub all_kept : (s : Structure) → IsStructure s → (n : ℕ) (c : Collected) �
     → AreRoutesOf s c.rows.items × (length c.rows.items ≤ 4096)
 all_kept s is n c end none h =
     let same : h.found ≡ c.rows.items = sym (h.collected.kept none) in
-    let P : List Row → Type 0 = λ rows. AreRoutesOf s rows × (length rows ≤ 4096) in
+    let P : List TableRow → Type 0 = λ rows. AreRoutesOf s rows × (length rows ≤ 4096) in
     subst P same (all_found s is h.found (subst (λ (m : ℕ). HasFound s (m ∷ []) h.found) end h.before), h.few)
 
 -- what holds of a result, by what holds of another

@@ -8,14 +8,14 @@ use Rattle.sdl_parts.specs.declared.parts.Owner.TheVariants as owner
 use Rattle.sdl_parts.specs.declared.parts.Scope.TheVariants as scope
 use Rattle.sdl_parts.specs.declared.parts.Side.TheVariants.{Outer, Inner}
 use Rattle.sdl_parts.specs.Structure.{Structure}
-use Rattle.sdl_routes.specs.declared.parts.Hop.{Hop}
-use Rattle.sdl_routes.specs.declared.parts.Row.{Row}
-use Rattle.sdl_routes.specs.declared.parts.Source.TheVariants as source
-use Rattle.sdl_routes.specs.declared.parts.EndPoint.TheVariants as ends
-use Rattle.sdl_routes.specs.declared.parts.Station.TheVariants as stations
-use Rattle.sdl_routes.specs.declared.parts.Goal.TheVariants as goal
-use Rattle.sdl_routes.specs.declared.parts.Via.TheVariants as via
-use Rattle.sdl_routes.specs.declared.parts.Wish.{Wish}
+use Rattle.sdl_routes.specs.declared.route.Hop.{Hop}
+use Rattle.sdl_routes.specs.declared.route.TableRow.{TableRow}
+use Rattle.sdl_routes.specs.declared.route.Source.TheVariants as source
+use Rattle.sdl_routes.specs.declared.route.EndPoint.TheVariants as ends
+use Rattle.sdl_routes.specs.declared.route.Station.TheVariants as stations
+use Rattle.sdl_routes.specs.declared.route.Goal.TheVariants as goal
+use Rattle.sdl_routes.specs.declared.route.Via.TheVariants as via
+use Rattle.sdl_routes.specs.declared.route.Wish.{Wish}
 use Rattle.sdl_routes.specs.Routes.{IsRoute, Joins, AreInOrder, Fits, IsChoice, FollowsIn}
 use Rattle.sdl_routes.proofs.Once.{follows}
 
@@ -63,7 +63,7 @@ echo = record {
 }
 
 -- 0 ping env.line c0+ c1+ E.p
-abbrev pub ping_row : Row
+abbrev pub ping_row : TableRow
 ping_row = record {
   route = record {
     signal = record { 0 = 0 };
@@ -82,7 +82,7 @@ ping_row = record {
 }
 
 -- 1 pong E.p c1- c0- env.line
-abbrev pub pong_row : Row
+abbrev pub pong_row : TableRow
 pong_row = record {
   route = record {
     signal = record { 0 = 1 };
@@ -154,7 +154,7 @@ pub pong_is_chosen : IsChoice (ping_row ∷ pong_row ∷ []) wish_pong 7 (Some (
 pong_is_chosen = (1 ∷ [], inr (ping_fits_not, inl (pong_fits, ([], refl, refl))), refl)
 
 -- nothing goes to Null
-pub null_fits_not : (row : Row) → ¬ Fits row (record wish_pong { goal = goal.Null })
+pub null_fits_not : (row : TableRow) → ¬ Fits row (record wish_pong { goal = goal.Null })
 null_fits_not row fits = fits.end
 
 -- from no station to the first, and from the last to none

@@ -1,16 +1,16 @@
 -- The numbers of the rows that fit a wish, row by row.
 use Rattle.std.proofs.Common.{◌≡◌, ℕ, zero, suc, ◌+◌, ◌<◌, ◌≤◌, List, [], ◌∷◌, ◌++◌, length, take, Some, None, slice_get, inl, inr, refl, ap, sym, ◌∙◌, subst, arith}
-use Rattle.sdl_routes.specs.declared.parts.Row.{Row}
-use Rattle.sdl_routes.specs.declared.parts.Wish.{Wish}
+use Rattle.sdl_routes.specs.declared.route.TableRow.{TableRow}
+use Rattle.sdl_routes.specs.declared.route.Wish.{Wish}
 use Rattle.sdl_routes.specs.Routes.{Fits, AreFitting, picked}
 
-fits_same : (w : Wish) (a b : Row) → Some a ≡ Some b → Fits b w → Fits a w
-fits_same w a b e fits = let f : b ≡ a = cc in subst (λ (r : Row). Fits r w) f fits
+fits_same : (w : Wish) (a b : TableRow) → Some a ≡ Some b → Fits b w → Fits a w
+fits_same w a b e fits = let f : b ≡ a = cc in subst (λ (r : TableRow). Fits r w) f fits
 
-none_some : (row : Row) → None ≡ Some row → ⊥
+none_some : (row : TableRow) → None ≡ Some row → ⊥
 none_some row e = cc
 
-pub fit_more : (w : Wish) (n : ℕ) (rows : List Row) (i : ℕ) (row : Row) (fs : List ℕ) (m : ℕ) → slice_get rows i ≡ Some row → Fits row w → m ≡ n + i
+pub fit_more : (w : Wish) (n : ℕ) (rows : List TableRow) (i : ℕ) (row : TableRow) (fs : List ℕ) (m : ℕ) → slice_get rows i ≡ Some row → Fits row w → m ≡ n + i
     → AreFitting w n (take i rows) fs → AreFitting w n (take (suc i) rows) (fs ++ m ∷ [])
 fit_more w n [] i row fs m at fits is h = absurd (none_some row at)
 fit_more w n (r ∷ rows) zero row fs m at fits is h =
@@ -22,7 +22,7 @@ fit_more w n (r ∷ rows) (suc i) row fs m at fits is h =
       | inr (never, rest) ↦ inr (never, fit_more w (suc n) rows i row fs m at fits (omega arith) rest)
     ]
 
-pub fit_less : (w : Wish) (n : ℕ) (rows : List Row) (i : ℕ) (row : Row) (fs : List ℕ) → slice_get rows i ≡ Some row → ¬ Fits row w
+pub fit_less : (w : Wish) (n : ℕ) (rows : List TableRow) (i : ℕ) (row : TableRow) (fs : List ℕ) → slice_get rows i ≡ Some row → ¬ Fits row w
     → AreFitting w n (take i rows) fs → AreFitting w n (take (suc i) rows) fs
 fit_less w n [] i row fs at never h = absurd (none_some row at)
 fit_less w n (r ∷ rows) zero row fs at never h = inr ((λ fits. never (fits_same w row r (sym at) fits)), h)
@@ -33,7 +33,7 @@ fit_less w n (r ∷ rows) (suc i) row fs at never h =
     ]
 
 -- none fits below a number
-pub none_fit : (w : Wish) (n : ℕ) (rows : List Row) (low : ℕ) → ((k : ℕ) (row : Row) → slice_get rows k ≡ Some row → k < low → ¬ Fits row w)
+pub none_fit : (w : Wish) (n : ℕ) (rows : List TableRow) (low : ℕ) → ((k : ℕ) (row : TableRow) → slice_get rows k ≡ Some row → k < low → ¬ Fits row w)
     → AreFitting w n (take low rows) []
 none_fit w n rows zero none = refl
 none_fit w n [] (suc low) none = refl
@@ -41,20 +41,20 @@ none_fit w n (r ∷ rows) (suc low) none =
     inr (none 0 r refl (omega arith), none_fit w (suc n) rows low (λ k row at lt. none (suc k) row at (omega arith)))
 
 -- none fits from a number on
-pub fit_rest : (w : Wish) (n : ℕ) (rows : List Row) (high : ℕ) (fs : List ℕ) → ((k : ℕ) (row : Row) → slice_get rows k ≡ Some row → high ≤ k → ¬ Fits row w)
+pub fit_rest : (w : Wish) (n : ℕ) (rows : List TableRow) (high : ℕ) (fs : List ℕ) → ((k : ℕ) (row : TableRow) → slice_get rows k ≡ Some row → high ≤ k → ¬ Fits row w)
     → AreFitting w n (take high rows) fs → AreFitting w n rows fs
 fit_rest w n [] zero fs none h = h
 fit_rest w n [] (suc high) fs none h = h
 fit_rest w n (r ∷ rows) zero fs none h =
     inr (none 0 r refl (omega arith), fit_rest w (suc n) rows zero fs (λ k row at le. none (suc k) row at (omega arith)) h)
 fit_rest w n (r ∷ rows) (suc high) fs none h =
-    let later : (k : ℕ) (row : Row) → slice_get rows k ≡ Some row → high ≤ k → ¬ Fits row w = λ k row at le. none (suc k) row at (omega arith) in
+    let later : (k : ℕ) (row : TableRow) → slice_get rows k ≡ Some row → high ≤ k → ¬ Fits row w = λ k row at le. none (suc k) row at (omega arith) in
     elim h [
       | inl (first, (more, e, rest)) ↦ inl (first, (more, e, fit_rest w (suc n) rows high more later rest))
       | inr (other, rest) ↦ inr (other, fit_rest w (suc n) rows high fs later rest)
     ]
 
-pub fitting_unique : (w : Wish) (n : ℕ) (rows : List Row) (fs gs : List ℕ) → AreFitting w n rows fs → AreFitting w n rows gs → fs ≡ gs
+pub fitting_unique : (w : Wish) (n : ℕ) (rows : List TableRow) (fs gs : List ℕ) → AreFitting w n rows fs → AreFitting w n rows gs → fs ≡ gs
 fitting_unique w n [] fs gs f g = f ∙ sym g
 fitting_unique w n (r ∷ rows) fs gs f g =
     elim f [
@@ -69,7 +69,7 @@ fitting_unique w n (r ∷ rows) fs gs f g =
     ]
 
 -- behind those that fit below a row stands the row's own number
-pub fitting_at : (w : Wish) (n : ℕ) (rows : List Row) (i : ℕ) (row : Row) (fs gs : List ℕ) (m : ℕ) → slice_get rows i ≡ Some row → Fits row w → m ≡ n + i
+pub fitting_at : (w : Wish) (n : ℕ) (rows : List TableRow) (i : ℕ) (row : TableRow) (fs gs : List ℕ) (m : ℕ) → slice_get rows i ≡ Some row → Fits row w → m ≡ n + i
     → AreFitting w n (take i rows) fs → AreFitting w n rows gs → slice_get gs (length fs) ≡ Some m
 fitting_at w n [] i row fs gs m at fits is f g = absurd (none_some row at)
 fitting_at w n (r ∷ rows) zero row fs gs m at fits is f g =

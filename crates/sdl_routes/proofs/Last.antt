@@ -1,6 +1,6 @@
 -- The last of the hops is the one at the last place.
 use Rattle.std.proofs.Common.{◌≡◌, suc, ◌-◌, List, [], ◌∷◌, length, slice_get, refl, ap, ◌∙◌, arith}
-use Rattle.sdl_routes.specs.declared.parts.Hop.{Hop}
+use Rattle.sdl_routes.specs.declared.route.Hop.{Hop}
 use Rattle.sdl_routes.specs.Routes.{last_of}
 
 pub last_at : (hops : List Hop) → slice_get hops (length hops - 1) ≡ last_of hops

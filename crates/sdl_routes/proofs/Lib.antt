@@ -6,7 +6,7 @@ pub mod Walks
 pub mod Unique
 pub mod Counting
 pub mod Collecting
-pub mod Plain
+pub mod ShownRoutes
 pub mod Borders
 pub mod Fitting
 pub mod Once

@@ -3,7 +3,7 @@ use Rattle.std.proofs.Common.{◌≡◌, ◌≢◌, ℕ, zero, suc, List, [], �
 use Rattle.std.specs.List.{AllByRecursion}
 use Rattle.std.proofs.lemmas.Option.{slice_get_within, get_or_from_slice_get}
 use Rattle.sdl_routes.specs.Routes.{EachOnce, FollowsIn}
-use Rattle.sdl_routes.specs.declared.parts.Station.{Station}
+use Rattle.sdl_routes.specs.declared.route.Station.{Station}
 
 not_later : {X : Type 0} (x : X) (xs : List X) (k : ℕ) → AllByRecursion (λ y. x ≢ y) xs → slice_get xs k ≢ Some x
 not_later x [] k all at = let e : None ≡ Some x = at in cc

@@ -1,12 +1,12 @@
 -- Places before a bound.
 use Rattle.std.proofs.Common.{◌≡◌, ℕ, suc, ◌<◌, List, [], ◌∷◌, ◌++◌, ◌⊎◌, inl, inr, refl, ap, arith}
-use Rattle.sdl_routes.specs.Routes.{IsBefore}
-use Rattle.sdl_routes.specs.Found.{after, Begins}
+use Rattle.sdl_parts.specs.Order.{IsBefore}
+use Rattle.sdl_routes.specs.Found.{place_behind, Begins}
 
 pub le_cases : (y x : ℕ) → y < suc x → (y < x) ⊎ (y ≡ x)
 le_cases y x h = grind arith
 
-pub before_after_cases : (p q : List ℕ) → IsBefore q (after p) → IsBefore q p ⊎ Begins p q
+pub before_after_cases : (p q : List ℕ) → IsBefore q (place_behind p) → IsBefore q p ⊎ Begins p q
 before_after_cases [] q h = absurd h
 before_after_cases (x ∷ []) [] h = inl tt
 before_after_cases (x ∷ []) (y ∷ ys) h =
@@ -21,7 +21,7 @@ before_after_cases (x ∷ z ∷ zs) (y ∷ ys) h =
       | inr same ↦ elim (before_after_cases (z ∷ zs) ys same.1) [ inl less ↦ inl (inr (same.0, less)) | inr begins ↦ inr (same.0, begins) ]
     ]
 
-pub before_to_after : (p q : List ℕ) → IsBefore q p → IsBefore q (after p)
+pub before_to_after : (p q : List ℕ) → IsBefore q p → IsBefore q (place_behind p)
 before_to_after [] q h = absurd h
 before_to_after (x ∷ []) [] h = tt
 before_to_after (x ∷ []) (y ∷ ys) h = elim h [ inl lt ↦ inl (omega arith) | inr same ↦ absurd same.1 ]
@@ -29,7 +29,7 @@ before_to_after (x ∷ z ∷ zs) [] h = tt
 before_to_after (x ∷ z ∷ zs) (y ∷ ys) h =
     elim h [ inl lt ↦ inl lt | inr same ↦ inr (same.0, before_to_after (z ∷ zs) ys same.1) ]
 
-pub begins_to_after : (x : ℕ) (xs q : List ℕ) → Begins (x ∷ xs) q → IsBefore q (after (x ∷ xs))
+pub begins_to_after : (x : ℕ) (xs q : List ℕ) → Begins (x ∷ xs) q → IsBefore q (place_behind (x ∷ xs))
 begins_to_after x xs [] h = absurd h
 begins_to_after x [] (y ∷ ys) h = let e : y ≡ x = h.0 in inl (omega arith)
 begins_to_after x (z ∷ zs) (y ∷ ys) h = inr (h.0, begins_to_after z zs ys h.1)
@@ -53,7 +53,7 @@ pub itself_first : (p : List ℕ) → IsBefore p (p ++ 0 ∷ [])
 itself_first [] = tt
 itself_first (x ∷ xs) = inr (refl, itself_first xs)
 
-pub after_one : (p : List ℕ) (n : ℕ) → after (p ++ n ∷ []) ≡ p ++ suc n ∷ []
+pub after_one : (p : List ℕ) (n : ℕ) → place_behind (p ++ n ∷ []) ≡ p ++ suc n ∷ []
 after_one [] n = refl
 after_one (x ∷ []) n = refl
 after_one (x ∷ y ∷ ys) n = ap (λ zs. x ∷ zs) (after_one (y ∷ ys) n)

@@ -16,11 +16,11 @@ use Rattle.sdl_parts.specs.declared.parts.Direction.{Direction}
 use Rattle.sdl_parts.specs.declared.parts.Direction.TheVariants.{Forth, Back}
 use Rattle.sdl_parts.specs.Structure.{Structure, IsStructure, Path, path_of, set_at, gate_at, channel_at, other_side, JoinsAt, IsEnd, ScopeExists, SignalsExist}
 use Rattle.sdl_parts.specs.Rules.{IsWellFormed, IsBlockGate, HasEndsApart}
-use Rattle.sdl_routes.specs.declared.parts.Hop.{Hop}
-use Rattle.sdl_routes.specs.declared.parts.EndPoint.{EndPoint}
-use Rattle.sdl_routes.specs.declared.parts.EndPoint.TheVariants as ends
-use Rattle.sdl_routes.specs.declared.parts.Station.{Station}
-use Rattle.sdl_routes.specs.declared.parts.Station.TheVariants as stations
+use Rattle.sdl_routes.specs.declared.route.Hop.{Hop}
+use Rattle.sdl_routes.specs.declared.route.EndPoint.{EndPoint}
+use Rattle.sdl_routes.specs.declared.route.EndPoint.TheVariants as ends
+use Rattle.sdl_routes.specs.declared.route.Station.{Station}
+use Rattle.sdl_routes.specs.declared.route.Station.TheVariants as stations
 use Rattle.sdl_routes.specs.Routes.{hop_direction, Joins, IsWalk, is_delaying, delaying, IsLastStation, EachOnce, AreRoutesShort}
 
 -- up in a block, anything in the system or across in a block, down in a block

@@ -8,14 +8,14 @@ use Rattle.sdl_parts.specs.declared.parts.Owner.{Owner}
 use Rattle.sdl_parts.specs.declared.parts.Owner.TheVariants as owner
 use Rattle.sdl_parts.specs.Structure.{Structure, Path, gate_at, set_at, other_side}
 use Rattle.sdl_parts.specs.Rules.{IsBlockGate}
-use Rattle.sdl_routes.specs.declared.parts.Hop.{Hop}
-use Rattle.sdl_routes.specs.declared.parts.Row.{Row}
-use Rattle.sdl_routes.specs.declared.parts.EndPoint.{EndPoint}
-use Rattle.sdl_routes.specs.declared.parts.EndPoint.TheVariants as ends
-use Rattle.sdl_routes.specs.declared.parts.Station.{Station}
-use Rattle.sdl_routes.specs.declared.parts.Station.TheVariants as stations
-use Rattle.sdl_routes.specs.declared.parts.Source.{Source}
-use Rattle.sdl_routes.specs.declared.parts.Source.TheVariants as source
+use Rattle.sdl_routes.specs.declared.route.Hop.{Hop}
+use Rattle.sdl_routes.specs.declared.route.TableRow.{TableRow}
+use Rattle.sdl_routes.specs.declared.route.EndPoint.{EndPoint}
+use Rattle.sdl_routes.specs.declared.route.EndPoint.TheVariants as ends
+use Rattle.sdl_routes.specs.declared.route.Station.{Station}
+use Rattle.sdl_routes.specs.declared.route.Station.TheVariants as stations
+use Rattle.sdl_routes.specs.declared.route.Source.{Source}
+use Rattle.sdl_routes.specs.declared.route.Source.TheVariants as source
 use Rattle.sdl_routes.specs.Routes.{hop_path, Joins, last_hop, IsWalk, IsRoute, StartsAtGate, EndsAtGate, IsEndPoint, IsSource, IsLastStation, delaying, hop_number, row_place}
 use Rattle.sdl_routes.specs.Found.{Begins}
 use Rattle.sdl_routes.proofs.Walks.{hop_from_number, signal_from_number}
@@ -55,18 +55,18 @@ last_unique : (s : Structure) (e : EndPoint) (a b : Station) → IsLastStation s
 last_unique s (ends.Set t) a b p q = last_in (set_at s t) a b p q
 last_unique s (ends.Environment g) a b p q = p ∙ sym q
 
-row_of : SignalId → GateId → List Hop → EndPoint → GateId → List Station → Source → Row
+row_of : SignalId → GateId → List Hop → EndPoint → GateId → List Station → Source → TableRow
 row_of signal start hops end end_gate stations source = record {
   route = record { signal = signal; start = start; hops = record { items = hops }; end = end; end_gate = end_gate; stations = record { items = stations } };
   source = source;
 }
 
-row_is : (row : Row) → row_of row.route.signal row.route.start row.route.hops.items row.route.end row.route.end_gate row.route.stations.items row.source ≡ row
+row_is : (row : TableRow) → row_of row.route.signal row.route.start row.route.hops.items row.route.end row.route.end_gate row.route.stations.items row.source ≡ row
 unfolding row_of
 row_is row = refl
 
 -- a route is known by its signal and its hops
-pub route_same : (s : Structure) (a b : Row) → IsRoute s a → IsRoute s b → a.route.signal ≡ b.route.signal → a.route.hops.items ≡ b.route.hops.items → a ≡ b
+pub route_same : (s : Structure) (a b : TableRow) → IsRoute s a → IsRoute s b → a.route.signal ≡ b.route.signal → a.route.hops.items ≡ b.route.hops.items → a ≡ b
 route_same s a b ra rb signal hops =
     let start : a.route.start ≡ b.route.start =
     start_unique s b.route.hops.items a.route.start b.route.start (subst (λ (hs : List Hop). StartsAtGate s hs a.route.start) hops ra.start) rb.start in
@@ -124,7 +124,7 @@ hops_only s x (h ∷ hops) walk gate e is at end begins =
     (λ k joins. ends_outside s gate e end (block_at s (hop_path s (last_hop h hops)) (hop_path s k) gate at joins)) begins
 
 -- the only route that begins as this one does
-pub route_only : (s : Structure) (row : Row) → IsRoute s row → (other : Row) → IsRoute s other → Begins (row_place row) (row_place other) → other ≡ row
+pub route_only : (s : Structure) (row : TableRow) → IsRoute s row → (other : TableRow) → IsRoute s other → Begins (row_place row) (row_place other) → other ≡ row
 route_only s row route other is begins =
     let signal : other.route.signal ≡ row.route.signal = signal_from_number other.route.signal row.route.signal begins.0 in
     let hops : other.route.hops.items ≡ row.route.hops.items =

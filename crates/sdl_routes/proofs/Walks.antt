@@ -8,10 +8,10 @@ use Rattle.sdl_parts.specs.declared.parts.Direction.{Direction}
 use Rattle.sdl_parts.specs.declared.parts.Direction.TheVariants.{Forth, Back}
 use Rattle.sdl_parts.specs.Structure.{Structure, IsStructure, path_of, channel_at, SignalsExist}
 use Rattle.sdl_parts.specs.Rules.{IsWellFormed}
-use Rattle.sdl_routes.specs.declared.parts.Hop.{Hop}
-use Rattle.sdl_routes.specs.declared.parts.Row.{Row}
+use Rattle.sdl_routes.specs.declared.route.Hop.{Hop}
+use Rattle.sdl_routes.specs.declared.route.TableRow.{TableRow}
 use Rattle.sdl_routes.specs.Routes.{hop_direction, Carries, Joins, JoinsLast, IsWalk, IsRoute, AreRoutesOf, HasTooMany, hop_number, place, row_place}
-use Rattle.sdl_routes.specs.Found.{after, Begins, HasFound}
+use Rattle.sdl_routes.specs.Found.{place_behind, Begins, HasFound}
 use Rattle.sdl_routes.proofs.Places.{after_one}
 use Rattle.sdl_routes.proofs.Found.{each_of, found_skip, found_push}
 use Rattle.sdl_routes.proofs.Ranks.{short_walk, all_at}
@@ -72,7 +72,7 @@ walk_begins_at s x k (r ∷ rest) is begins =
 
 -- no route begins so
 none_begins : (s : Structure) (x : SignalId) (k : Hop) (hops : List Hop) → IsWalk s x hops → ¬ (Carries s k x × JoinsLast s hops k)
-    → (row : Row) → IsRoute s row → ¬ Begins (place x hops ++ hop_number k ∷ []) (row_place row)
+    → (row : TableRow) → IsRoute s row → ¬ Begins (place x hops ++ hop_number k ∷ []) (row_place row)
 none_begins s x k [] known refused row route begins = absurd known
 none_begins s x k (h ∷ hops) known refused row route begins =
     let same : row.route.signal ≡ x = signal_from_number row.route.signal x begins.0 in
@@ -80,7 +80,7 @@ none_begins s x k (h ∷ hops) known refused row route begins =
     refused (walk_begins s x k h hops row.route.hops.items walk begins.1)
 
 none_begins_at : (s : Structure) (x : SignalId) (k : Hop) → ¬ Carries s k x
-    → (row : Row) → IsRoute s row → ¬ Begins (x.0 ∷ hop_number k ∷ []) (row_place row)
+    → (row : TableRow) → IsRoute s row → ¬ Begins (x.0 ∷ hop_number k ∷ []) (row_place row)
 none_begins_at s x k refused row route begins =
     let same : row.route.signal ≡ x = signal_from_number row.route.signal x begins.0 in
     let walk : IsWalk s x row.route.hops.items = subst (λ (y : SignalId). IsWalk s y row.route.hops.items) same route.walk in
@@ -91,7 +91,7 @@ no_empty_walk s x m n [] walk e = absurd walk
 no_empty_walk s x m n (h ∷ hops) walk e = cc
 
 -- no route has no hops
-pub no_empty : (s : Structure) (n : ℕ) (row : Row) → IsRoute s row → row_place row ≢ n ∷ []
+pub no_empty : (s : Structure) (n : ℕ) (row : TableRow) → IsRoute s row → row_place row ≢ n ∷ []
 no_empty s n row route e = no_empty_walk s row.route.signal row.route.signal.0 n row.route.hops.items route.walk e
 
 -- the channel of a hop that carries a signal exists
@@ -119,7 +119,7 @@ inside P (x ∷ xs) ys n h = inside P xs ys n h.1
 tail_same : (m y : ℕ) (hs ys rest : List ℕ) → m ∷ hs ≡ y ∷ (ys ++ rest) → hs ≡ ys ++ rest
 tail_same m y hs ys rest e = cc
 
-pub numbers_below : (s : Structure) (y : ℕ) (ys : List ℕ) (row : Row) (n : ℕ) (rest : List ℕ) → IsRoute s row → row_place row ≡ (y ∷ ys) ++ n ∷ rest → n < 2 * length s.channels
+pub numbers_below : (s : Structure) (y : ℕ) (ys : List ℕ) (row : TableRow) (n : ℕ) (rest : List ℕ) → IsRoute s row → row_place row ≡ (y ∷ ys) ++ n ∷ rest → n < 2 * length s.channels
 numbers_below s y ys row n rest route e =
     let P : ℕ → Type 0 = λ m. m < 2 * length s.channels in
     let all : AllByRecursion P (map hop_number row.route.hops.items) = walk_below_end s row.route.signal row.route.hops.items route.walk in
@@ -130,52 +130,52 @@ numbers_below s y ys row n rest route e =
 pub place_more : (x : SignalId) (hops : List Hop) (k : Hop) → place x (hops ++ k ∷ []) ≡ place x hops ++ hop_number k ∷ []
 place_more x hops k = ap (λ ns. x.0 ∷ ns) (map-append hop_number hops (k ∷ []))
 
-pub step_begun : (s : Structure) (x : SignalId) (hops longer : List Hop) (k : Hop) (n : ℕ) (rows : List Row)
+pub step_begun : (s : Structure) (x : SignalId) (hops longer : List Hop) (k : Hop) (n : ℕ) (rows : List TableRow)
     → longer ≡ hops ++ k ∷ [] → hop_number k ≡ n → HasFound s (place x hops ++ n ∷ []) rows → HasFound s (place x longer) rows
 step_begun s x hops longer k n rows e number found =
     let at : place x hops ++ n ∷ [] ≡ place x longer =
     ap (λ m. place x hops ++ m ∷ []) (sym number) ∙ sym (place_more x hops k) ∙ ap (λ l. place x l) (sym e) in
     subst (λ (p : List ℕ). HasFound s p rows) at found
 
-pub step_taken : (s : Structure) (x : SignalId) (hops longer : List Hop) (k : Hop) (n : ℕ) (rows : List Row)
-    → longer ≡ hops ++ k ∷ [] → hop_number k ≡ n → HasFound s (after (place x longer)) rows → HasFound s (place x hops ++ (n + 1) ∷ []) rows
+pub step_taken : (s : Structure) (x : SignalId) (hops longer : List Hop) (k : Hop) (n : ℕ) (rows : List TableRow)
+    → longer ≡ hops ++ k ∷ [] → hop_number k ≡ n → HasFound s (place_behind (place x longer)) rows → HasFound s (place x hops ++ (n + 1) ∷ []) rows
 step_taken s x hops longer k n rows e number found =
-    let at : after (place x longer) ≡ place x hops ++ (n + 1) ∷ [] =
-    ap (λ l. after (place x l)) e ∙ ap after (place_more x hops k) ∙ after_one (place x hops) (hop_number k)
+    let at : place_behind (place x longer) ≡ place x hops ++ (n + 1) ∷ [] =
+    ap (λ l. place_behind (place x l)) e ∙ ap place_behind (place_more x hops k) ∙ after_one (place x hops) (hop_number k)
     ∙ ap (λ m. place x hops ++ suc m ∷ []) number ∙ ap (λ m. place x hops ++ m ∷ []) (sym (add-one n)) in
     subst (λ (p : List ℕ). HasFound s p rows) at found
 
-pub step_skipped : (s : Structure) (x : SignalId) (hops : List Hop) (k : Hop) (n : ℕ) (rows : List Row) → IsWalk s x hops
+pub step_skipped : (s : Structure) (x : SignalId) (hops : List Hop) (k : Hop) (n : ℕ) (rows : List TableRow) → IsWalk s x hops
     → ¬ (Carries s k x × JoinsLast s hops k) → hop_number k ≡ n → HasFound s (place x hops ++ n ∷ []) rows → HasFound s (place x hops ++ (n + 1) ∷ []) rows
 step_skipped s x hops k n rows walk refused number found =
     let P : ℕ → Type 0 = λ m. HasFound s (place x hops ++ m ∷ []) rows in
-    let at : after (place x hops ++ hop_number k ∷ []) ≡ place x hops ++ (n + 1) ∷ [] =
+    let at : place_behind (place x hops ++ hop_number k ∷ []) ≡ place x hops ++ (n + 1) ∷ [] =
     after_one (place x hops) (hop_number k) ∙ ap (λ m. place x hops ++ suc m ∷ []) number ∙ ap (λ m. place x hops ++ m ∷ []) (sym (add-one n)) in
     subst (λ (p : List ℕ). HasFound s p rows) at
     (found_skip s (place x hops ++ hop_number k ∷ []) rows (none_begins s x k hops walk refused) (subst P (sym number) found))
 
-pub first_skipped : (s : Structure) (x : SignalId) (k : Hop) (n : ℕ) (rows : List Row)
+pub first_skipped : (s : Structure) (x : SignalId) (k : Hop) (n : ℕ) (rows : List TableRow)
     → ¬ Carries s k x → hop_number k ≡ n → HasFound s (x.0 ∷ n ∷ []) rows → HasFound s (x.0 ∷ (n + 1) ∷ []) rows
 first_skipped s x k n rows refused number found =
     let P : ℕ → Type 0 = λ m. HasFound s (x.0 ∷ m ∷ []) rows in
-    let at : after (x.0 ∷ hop_number k ∷ []) ≡ x.0 ∷ (n + 1) ∷ [] =
+    let at : place_behind (x.0 ∷ hop_number k ∷ []) ≡ x.0 ∷ (n + 1) ∷ [] =
     ap (λ m. x.0 ∷ suc m ∷ []) number ∙ ap (λ m. x.0 ∷ m ∷ []) (sym (add-one n)) in
     subst (λ (p : List ℕ). HasFound s p rows) at
     (found_skip s (x.0 ∷ hop_number k ∷ []) rows (none_begins_at s x k refused) (subst P (sym number) found))
 
 -- too many routes: those found and one more
-pub too_many : (s : Structure) (x : SignalId) (hops : List Hop) (row : Row) (rows : List Row) → IsRoute s row → row_place row ≡ place x hops
-    → ((other : Row) → IsRoute s other → Begins (place x hops) (row_place other) → other ≡ row)
+pub too_many : (s : Structure) (x : SignalId) (hops : List Hop) (row : TableRow) (rows : List TableRow) → IsRoute s row → row_place row ≡ place x hops
+    → ((other : TableRow) → IsRoute s other → Begins (place x hops) (row_place other) → other ≡ row)
     → HasFound s (place x hops) rows → length rows ≡ 4096 → HasTooMany s
 too_many s x hops row rows route at only found full =
     let more = found_push s x.0 (map hop_number hops) row rows route at only found in
     let e : length (rows ++ row ∷ []) ≡ length rows + 1 = length-append rows (row ∷ []) in
     (rows ++ row ∷ [], omega arith, each_of _ (IsRoute s) (rows ++ row ∷ []) (λ r h. h.0) more.sound, more.order)
 
-pub first_taken : (s : Structure) (x : SignalId) (k : Hop) (n : ℕ) (rows : List Row)
-    → hop_number k ≡ n → HasFound s (after (place x (k ∷ []))) rows → HasFound s (x.0 ∷ (n + 1) ∷ []) rows
+pub first_taken : (s : Structure) (x : SignalId) (k : Hop) (n : ℕ) (rows : List TableRow)
+    → hop_number k ≡ n → HasFound s (place_behind (place x (k ∷ []))) rows → HasFound s (x.0 ∷ (n + 1) ∷ []) rows
 first_taken s x k n rows number found =
-    let at : after (place x (k ∷ [])) ≡ x.0 ∷ (n + 1) ∷ [] =
+    let at : place_behind (place x (k ∷ [])) ≡ x.0 ∷ (n + 1) ∷ [] =
     ap (λ m. x.0 ∷ suc m ∷ []) number ∙ ap (λ m. x.0 ∷ m ∷ []) (sym (add-one n)) in
     subst (λ (p : List ℕ). HasFound s p rows) at found
 
@@ -206,7 +206,7 @@ signal_exists s is x (h ∷ hops) walk =
     (walk_head s x h hops walk)
 
 -- the routes of all signals are all routes
-pub all_found : (s : Structure) → IsStructure s → (rows : List Row) → HasFound s (length s.signals ∷ []) rows → AreRoutesOf s rows
+pub all_found : (s : Structure) → IsStructure s → (rows : List TableRow) → HasFound s (length s.signals ∷ []) rows → AreRoutesOf s rows
 all_found s is rows found = record {
   sound = each_of _ (IsRoute s) rows (λ r h. h.0) found.sound;
   complete = λ row route. found.complete row route (inl (signal_exists s is row.route.signal row.route.hops.items route.walk));

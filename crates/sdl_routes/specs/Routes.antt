@@ -10,20 +10,21 @@ use Rattle.sdl_parts.specs.declared.parts.Direction.{Direction}
 use Rattle.sdl_parts.specs.declared.parts.Direction.TheVariants.{Forth, Back}
 use Rattle.sdl_parts.specs.Structure.{Structure, Path, path_at, set_at, gate_at, channel_at, other_side}
 use Rattle.sdl_parts.specs.Rules.{IsBlockGate}
-use Rattle.sdl_routes.specs.declared.parts.Hop.{Hop}
-use Rattle.sdl_routes.specs.declared.parts.Route.{Route}
-use Rattle.sdl_routes.specs.declared.parts.Row.{Row}
-use Rattle.sdl_routes.specs.declared.parts.EndPoint.{EndPoint}
-use Rattle.sdl_routes.specs.declared.parts.EndPoint.TheVariants as ends
-use Rattle.sdl_routes.specs.declared.parts.Station.{Station}
-use Rattle.sdl_routes.specs.declared.parts.Station.TheVariants as stations
-use Rattle.sdl_routes.specs.declared.parts.Wish.{Wish}
-use Rattle.sdl_routes.specs.declared.parts.Source.{Source}
-use Rattle.sdl_routes.specs.declared.parts.Source.TheVariants as source
-use Rattle.sdl_routes.specs.declared.parts.Goal.{Goal}
-use Rattle.sdl_routes.specs.declared.parts.Goal.TheVariants as goal
-use Rattle.sdl_routes.specs.declared.parts.Via.{Via}
-use Rattle.sdl_routes.specs.declared.parts.Via.TheVariants as via
+use Rattle.sdl_parts.specs.Order.{IsBefore}
+use Rattle.sdl_routes.specs.declared.route.Hop.{Hop}
+use Rattle.sdl_routes.specs.declared.route.Route.{Route}
+use Rattle.sdl_routes.specs.declared.route.TableRow.{TableRow}
+use Rattle.sdl_routes.specs.declared.route.EndPoint.{EndPoint}
+use Rattle.sdl_routes.specs.declared.route.EndPoint.TheVariants as ends
+use Rattle.sdl_routes.specs.declared.route.Station.{Station}
+use Rattle.sdl_routes.specs.declared.route.Station.TheVariants as stations
+use Rattle.sdl_routes.specs.declared.route.Wish.{Wish}
+use Rattle.sdl_routes.specs.declared.route.Source.{Source}
+use Rattle.sdl_routes.specs.declared.route.Source.TheVariants as source
+use Rattle.sdl_routes.specs.declared.route.Goal.{Goal}
+use Rattle.sdl_routes.specs.declared.route.Goal.TheVariants as goal
+use Rattle.sdl_routes.specs.declared.route.Via.{Via}
+use Rattle.sdl_routes.specs.declared.route.Via.TheVariants as via
 
 -- a hop is a channel with a direction: its path
 abbrev pub hop_direction : Hop → Direction
@@ -92,7 +93,7 @@ IsSource s gate (source.Gate e) = (e ≡ gate) × IsSomeAnd (gate_at s gate) (λ
 
 -- A route of the structure: a signal with hops, of which each carries it and joins the next, from a gate of a set or of the
 -- system to such a gate. Its stations are its delaying hops in order, and then the inlet of the last set's block, or the outlet.
-pub record IsRoute (s : Structure) (row : Row) : Type 0 where
+pub record IsRoute (s : Structure) (row : TableRow) : Type 0 where
   pub walk : IsWalk s row.route.signal row.route.hops.items
   pub start : StartsAtGate s row.route.hops.items row.route.start
   pub source : IsSource s row.route.start row.source
@@ -107,7 +108,7 @@ EachOnce (x ∷ xs) = AllByRecursion (λ y. x ≢ y) xs × EachOnce xs
 
 -- a route has at most three hops and four stations, and each station stands in it once
 abbrev pub AreRoutesShort : Structure → Type 0
-AreRoutesShort s = (row : Row) → IsRoute s row →
+AreRoutesShort s = (row : TableRow) → IsRoute s row →
     (length row.route.hops.items ≤ 3) × (length row.route.stations.items ≤ 4) × EachOnce row.route.hops.items × EachOnce row.route.stations.items
 
 -- routes stand by signal number, then by the list of hops, a hop by its channel and forth before back
@@ -117,31 +118,25 @@ hop_number h = 2 * h.channel.0 + (if h.back then 1 else 0)
 abbrev pub place : SignalId → List Hop → List ℕ
 place signal hops = signal.0 ∷ map hop_number hops
 
-abbrev pub row_place : Row → List ℕ
+abbrev pub row_place : TableRow → List ℕ
 row_place row = place row.route.signal row.route.hops.items
 
--- a list of numbers is before another where it is less at the first place where they differ, or is its beginning
-abbrev pub IsBefore : List ℕ → List ℕ → Type 0
-IsBefore xs [] = ⊥
-IsBefore [] (y ∷ ys) = ⊤
-IsBefore (x ∷ xs) (y ∷ ys) = (x < y) ⊎ ((x ≡ y) × IsBefore xs ys)
-
-abbrev pub StandsBefore : Row → Row → Type 0
+abbrev pub StandsBefore : TableRow → TableRow → Type 0
 StandsBefore a b = IsBefore (row_place a) (row_place b)
 
-abbrev pub AreInOrder : List Row → Type 0
+abbrev pub AreInOrder : List TableRow → Type 0
 AreInOrder [] = ⊤
 AreInOrder (row ∷ rows) = AllByRecursion (StandsBefore row) rows × AreInOrder rows
 
 -- exactly the routes of the structure, each once, in their order
-pub record AreRoutesOf (s : Structure) (rows : List Row) : Type 0 where
+pub record AreRoutesOf (s : Structure) (rows : List TableRow) : Type 0 where
   pub sound : AllByRecursion (IsRoute s) rows
-  pub complete : (row : Row) → IsRoute s row → Contains rows row
+  pub complete : (row : TableRow) → IsRoute s row → Contains rows row
   pub order : AreInOrder rows
 
 -- the structure has over 4,096 routes
 abbrev pub HasTooMany : Structure → Type 0
-HasTooMany s = (rows : List Row) × (4096 < length rows) × AllByRecursion (IsRoute s) rows × AreInOrder rows
+HasTooMany s = (rows : List TableRow) × (4096 < length rows) × AllByRecursion (IsRoute s) rows × AreInOrder rows
 
 -- what follows at a station: the first for none, else the one after it, and nothing after the last
 abbrev pub FollowsIn : List Station → Option Station → Option Station → Type 0
@@ -163,14 +158,14 @@ GoesBy r (via.Gate gate) = r.start ≡ gate
 GoesBy r (via.Channel c) = Any (λ h. h.channel ≡ c) r.hops.items
 
 -- the route fits the wish
-pub record Fits (row : Row) (w : Wish) : Type 0 where
+pub record Fits (row : TableRow) (w : Wish) : Type 0 where
   pub signal : row.route.signal ≡ w.signal
   pub start : row.source ≡ w.source
   pub end : EndsAs row.route w.goal
   pub via : GoesBy row.route w.via
 
 -- the rows that fit, by their numbers, from the one given on
-abbrev pub AreFitting : Wish → ℕ → List Row → List ℕ → Type 0
+abbrev pub AreFitting : Wish → ℕ → List TableRow → List ℕ → Type 0
 AreFitting w n [] fitting = fitting ≡ []
 AreFitting w n (row ∷ rows) fitting =
     (Fits row w × ((more : List ℕ) × (fitting ≡ n ∷ more) × AreFitting w (suc n) rows more))
@@ -180,6 +175,6 @@ AreFitting w n (row ∷ rows) fitting =
 abbrev pub picked : List ℕ → ℕ → Option ℕ
 picked fitting pick = slice_get fitting (pick % length fitting)
 
-abbrev pub IsChoice : List Row → Wish → ℕ → Option RouteId → Type 0
+abbrev pub IsChoice : List TableRow → Wish → ℕ → Option RouteId → Type 0
 IsChoice rows w pick choice =
     (fitting : List ℕ) × AreFitting w 0 rows fitting × (option_map (λ r. r.0) choice ≡ picked fitting pick)

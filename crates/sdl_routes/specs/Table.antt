@@ -3,15 +3,15 @@ use Rattle.std.specs.Prelude.{◌≡◌, ℕ, ◌+◌, ◌<◌, ◌≤◌, Bool,
 use Rattle.std.specs.List.{AllByRecursion}
 use Rattle.sdl_signal.specs.declared.ids.BlockId.{BlockId}
 use Rattle.sdl_signal.specs.declared.ids.GateId.{GateId}
-use Rattle.sdl_routes.specs.declared.parts.Hop.{Hop}
-use Rattle.sdl_routes.specs.declared.parts.Route.{Route}
-use Rattle.sdl_routes.specs.declared.parts.Row.{Row}
-use Rattle.sdl_routes.specs.declared.parts.EndPoint.{EndPoint}
-use Rattle.sdl_routes.specs.declared.parts.EndPoint.TheVariants as ends
-use Rattle.sdl_routes.specs.declared.parts.Station.{Station}
-use Rattle.sdl_routes.specs.declared.parts.Station.TheVariants as stations
-use Rattle.sdl_routes.specs.declared.parts.Source.{Source}
-use Rattle.sdl_routes.specs.declared.parts.Source.TheVariants as source
+use Rattle.sdl_routes.specs.declared.route.Hop.{Hop}
+use Rattle.sdl_routes.specs.declared.route.Route.{Route}
+use Rattle.sdl_routes.specs.declared.route.TableRow.{TableRow}
+use Rattle.sdl_routes.specs.declared.route.EndPoint.{EndPoint}
+use Rattle.sdl_routes.specs.declared.route.EndPoint.TheVariants as ends
+use Rattle.sdl_routes.specs.declared.route.Station.{Station}
+use Rattle.sdl_routes.specs.declared.route.Station.TheVariants as stations
+use Rattle.sdl_routes.specs.declared.route.Source.{Source}
+use Rattle.sdl_routes.specs.declared.route.Source.TheVariants as source
 use Rattle.sdl_routes.specs.Routes.{EachOnce, AreInOrder}
 
 -- the environment starts at the very gate of its source, and a route to the environment ends at the very gate of its end
@@ -34,7 +34,7 @@ AreStationsOf r =
     (delays : Hop → Bool) × (last : Station) × IsArrival r.end last × (r.stations.items ≡ map stations.Line (filter delays r.hops.items) ++ last ∷ [])
 
 -- what each route of a table shows without the structure
-pub record IsPlain (row : Row) : Type 0 where
+pub record IsTableRoute (row : TableRow) : Type 0 where
   pub signal : row.route.signal.0 < 64
   pub some_hops : 0 < length row.route.hops.items
   pub few_hops : length row.route.hops.items ≤ 3
@@ -45,23 +45,23 @@ pub record IsPlain (row : Row) : Type 0 where
   pub source : IsSourceGate row.source row.route.start
   pub end : IsEndGate row.route.end row.route.end_gate
 
-pub record IsTable (rows : List Row) : Type 0 where
+pub record IsTable (rows : List TableRow) : Type 0 where
   pub few : length rows ≤ 4096
-  pub plain : AllByRecursion IsPlain rows
+  pub shown : AllByRecursion IsTableRoute rows
   pub order : AreInOrder rows
 
 -- the rows of a signal stand from low to high
-pub record IsRange (rows : List Row) (signal low high : ℕ) : Type 0 where
+pub record IsRange (rows : List TableRow) (signal low high : ℕ) : Type 0 where
   pub ordered : low ≤ high
   pub within : high ≤ length rows
-  pub all : (k : ℕ) (row : Row) → slice_get rows k ≡ Some row → row.route.signal.0 ≡ signal → (low ≤ k) × (k < high)
+  pub all : (k : ℕ) (row : TableRow) → slice_get rows k ≡ Some row → row.route.signal.0 ≡ signal → (low ≤ k) × (k < high)
 
 -- the rows of each signal stand from its start to that of the next
-abbrev pub AreStarts : List Row → List ℕ → Type 0
+abbrev pub AreStarts : List TableRow → List ℕ → Type 0
 AreStarts rows starts = (signal : ℕ) → signal < 64 → IsRange rows signal (get_or starts signal 0) (get_or starts (signal + 1) 0)
 
 -- the rows of signals below this one stand below the bound, and the others not
-pub record IsBorder (rows : List Row) (signal bound : ℕ) : Type 0 where
+pub record IsBorder (rows : List TableRow) (signal bound : ℕ) : Type 0 where
   pub within : bound ≤ length rows
-  pub below : (k : ℕ) (row : Row) → slice_get rows k ≡ Some row → row.route.signal.0 < signal → k < bound
-  pub above : (k : ℕ) (row : Row) → slice_get rows k ≡ Some row → signal ≤ row.route.signal.0 → bound ≤ k
+  pub below : (k : ℕ) (row : TableRow) → slice_get rows k ≡ Some row → row.route.signal.0 < signal → k < bound
+  pub above : (k : ℕ) (row : TableRow) → slice_get rows k ≡ Some row → signal ≤ row.route.signal.0 → bound ≤ k

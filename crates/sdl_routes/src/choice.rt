@@ -2,7 +2,7 @@
 ghost use Rattle.std.specs.Prelude.{◌≡◌, ℕ, ◌<◌, ◌≤◌, length, slice_get, IsTrue, ◌↔◌};
 ghost use Rattle.sdl_routes.specs.Routes.{Fits, EndsAs, GoesBy, FollowsIn, EachOnce, IsChoice};
 
-use crate::parts::{EndPoint, Goal, Route, Row, Station, Via, Wish};
+use crate::route::{EndPoint, Goal, Route, Station, TableRow, Via, Wish};
 use sdl_signal::RouteId;
 
 /// Whether the route ends as the goal says.
@@ -29,7 +29,7 @@ fn goes_by(route: &Route, via: Via) -> bool
 }
 
 /// Whether the route fits the wish.
-fn fits(row: &Row, wish: &Wish) -> bool
+fn fits(row: &TableRow, wish: &Wish) -> bool
     ensures { IsTrue result ↔ Fits row.now wish.now }
 {
     row.route.signal == wish.signal
@@ -70,7 +70,7 @@ pub fn station_after(stations: &[Station], after: Option<Station>) -> Option<Sta
 
 /// The route at `pick` among those that fit, of which all stand from `low` to `high`.
 pub fn choose_among(
-    rows: &[Row],
+    rows: &[TableRow],
     low: usize,
     high: usize,
     wish: &Wish,
@@ -79,7 +79,7 @@ pub fn choose_among(
     requires within { high ≤ length rows.now }
     requires ordered { low ≤ high }
     requires few { length rows.now ≤ 4096 }
-    requires others { (k : ℕ) (row : Row) → slice_get rows.now k ≡ Some row → Fits row wish.now → (low ≤ k) × (k < high) }
+    requires others { (k : ℕ) (row : TableRow) → slice_get rows.now k ≡ Some row → Fits row wish.now → (low ≤ k) × (k < high) }
     ensures { IsChoice rows.now wish.now pick result }
 {
     let mut count: u32 = 0;

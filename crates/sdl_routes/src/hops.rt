@@ -1,12 +1,11 @@
 //! One hop: its path, what it carries, and which hop it joins.
 ghost use Rattle.std.specs.Prelude.{◌≡◌, IsTrue, ◌↔◌, option_map};
 ghost use Rattle.sdl_parts.specs.Structure.{other_side};
-ghost use Rattle.sdl_parts.specs.Rules.{IsBlockGate};
 ghost use Rattle.sdl_routes.specs.Routes.{hop_path, last_of, Carries, Joins, JoinsLast, is_delaying as is_delaying_hop};
 
-use crate::parts::Hop;
-use sdl_parts::{End, Owner, Side, Structure};
-use sdl_signal::{GateId, SignalId};
+use crate::route::Hop;
+use sdl_parts::{End, Side, Structure};
+use sdl_signal::SignalId;
 
 /// Whether the path of the hop carries the signal.
 pub fn carries(structure: &Structure, signal: SignalId, hop: Hop) -> bool
@@ -63,16 +62,6 @@ pub fn is_delaying(structure: &Structure, hop: Hop) -> bool
     }
 }
 
-/// Whether the gate is one of a block.
-fn is_block_gate(structure: &Structure, gate: GateId) -> bool
-    ensures { IsTrue result ↔ IsBlockGate structure.now gate }
-{
-    match structure.gates().get(gate.0 as usize) {
-        Some(gate) => matches!(gate.owner, Owner::Block(_)),
-        None => false,
-    }
-}
-
 /// The other side of the same gate.
 fn beyond(end: End) -> End
     ensures { result ≡ record { gate = end.gate; side = other_side end.side } }
@@ -93,7 +82,7 @@ pub fn joins(structure: &Structure, hop: Hop, next: Hop) -> bool
 {
     match (finish_of(structure, hop), start_of(structure, next)) {
         (Some(finish), Some(start)) => start == beyond(finish)
-            && is_block_gate(structure, finish.gate),
+            && structure.is_block_gate(finish.gate),
         _ => false,
     }
 }

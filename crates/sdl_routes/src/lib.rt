@@ -4,11 +4,11 @@
 mod choice;
 mod hops;
 pub mod laws;
-pub mod parts;
+pub mod route;
 mod rows;
 mod search;
 mod starts;
 pub mod table;
 
-pub use parts::{EndPoint, Goal, Hop, Route, Source, Station, Via, Wish};
+pub use route::{EndPoint, Goal, Hop, Route, Source, Station, Via, Wish};
 pub use table::{RouteFault, Routes};

@@ -4,7 +4,7 @@ ghost use Rattle.sdl_routes.specs.Routes.{IsRoute, IsWalk, StartsAtGate, EndsAtG
 ghost use Rattle.sdl_routes.specs.Finding.{Finds};
 
 use crate::hops::{finish_of, is_delaying, last_hop, start_of};
-use crate::parts::{EndPoint, Hop, Route, Row, Source, Station};
+use crate::route::{EndPoint, Hop, Route, Source, Station, TableRow};
 use arrayvec::ArrayVec;
 use sdl_parts::{Owner, Structure};
 use sdl_signal::{GateId, SignalId};
@@ -104,11 +104,11 @@ pub fn copied(hops: &[Hop]) -> ArrayVec<Hop, 3>
 }
 
 /// The route of this walk, where it begins and ends at gates of sets or of the system.
-pub fn row_of(structure: &Structure, signal: SignalId, hops: &[Hop]) -> Option<Row>
+pub fn row_of(structure: &Structure, signal: SignalId, hops: &[Hop]) -> Option<TableRow>
     requires walk { IsWalk structure.now signal hops.now }
     requires few { length hops.now ≤ 3 }
     ensures route { IfSome result (λ row. IsRoute structure.now row × (row.route.signal ≡ signal) × (row.route.hops.items ≡ hops.now)) }
-    ensures none { IfNone result ((other : Row) → IsRoute structure.now other → other.route.hops.items ≢ hops.now) }
+    ensures none { IfNone result ((other : TableRow) → IsRoute structure.now other → other.route.hops.items ≢ hops.now) }
 {
     let start = start_gate(structure, hops)?;
     let source = source_at(structure, start)?;
@@ -123,5 +123,5 @@ pub fn row_of(structure: &Structure, signal: SignalId, hops: &[Hop]) -> Option<R
         end_gate,
         stations: stations_of(structure, hops, last),
     };
-    Some(Row { route, source })
+    Some(TableRow { route, source })
 }

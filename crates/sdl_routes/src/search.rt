@@ -3,11 +3,11 @@ ghost use Rattle.std.specs.Prelude.{◌≡◌, ℕ, ◌+◌, ◌*◌, ◌^◌, �
 ghost use Rattle.sdl_parts.specs.Structure.{IsStructure};
 ghost use Rattle.sdl_parts.specs.Rules.{IsWellFormed};
 ghost use Rattle.sdl_routes.specs.Routes.{HasTooMany, IsWalk, hop_number, place, AreRoutesOf};
-ghost use Rattle.sdl_routes.specs.Found.{after};
-ghost use Rattle.sdl_routes.specs.Collected.{HasCollected, Adds};
+ghost use Rattle.sdl_routes.specs.Found.{place_behind};
+ghost use Rattle.sdl_routes.specs.Collected.{HasCollected, AddsRoute};
 
 use crate::hops::{carries, last_joins};
-use crate::parts::{Hop, Row};
+use crate::route::{Hop, TableRow};
 use crate::rows::{copied, row_of};
 use crate::table::RouteFault;
 use arrayvec::ArrayVec;
@@ -21,15 +21,15 @@ pub const MOST_ROUTES: usize = 4096;
 /// The routes found so far. Each is counted, also where memory for it was refused.
 #[derive(Drop)]
 pub struct Collected {
-    rows: Vec<Row>,
+    rows: Vec<TableRow>,
     count: usize,
     refused: bool,
 }
 
 impl Collected {
-    /// Adds a route. From the first refusal on routes are only counted.
-    fn add(&mut self, row: Row) -> Result<(), RouteFault>
-        ensures ok { OnOk result (Adds self.old row self.new × (self.old.count < 4096)) }
+    /// AddsRoute a route. From the first refusal on routes are only counted.
+    fn add(&mut self, row: TableRow) -> Result<(), RouteFault>
+        ensures ok { OnOk result (AddsRoute self.old row self.new × (self.old.count < 4096)) }
         ensures full { IfErr result (λ fault. (fault ≡ RouteFault.TooMany) × (4096 ≤ self.old.count)) }
     {
         if self.count >= MOST_ROUTES {
@@ -69,7 +69,7 @@ fn with_hop(hops: &[Hop], hop: Hop) -> ArrayVec<Hop, 3>
     longer
 }
 
-/// Adds the routes that begin with these hops to the routes before them.
+/// AddsRoute the routes that begin with these hops to the routes before them.
 fn extend(
     structure: &Structure,
     signal: SignalId,
@@ -80,7 +80,7 @@ fn extend(
     requires well_formed { IsWellFormed structure.now }
     requires walk { IsWalk structure.now signal hops.now }
     requires found { HasCollected structure.now (place signal hops.now) collected.old }
-    ensures found { OnOk result (HasCollected structure.now (after (place signal hops.now)) collected.new) }
+    ensures found { OnOk result (HasCollected structure.now (place_behind (place signal hops.now)) collected.new) }
     ensures too_many { IfErr result (λ fault. (fault ≡ RouteFault.TooMany) × HasTooMany structure.now) }
 {
     if let Some(row) = row_of(structure, signal, hops) {
@@ -98,7 +98,7 @@ fn extend(
 }
 
 /// All routes of the structure, in their order.
-pub fn all_routes(alloc: Global, structure: &Structure) -> Result<Vec<Row>, RouteFault>
+pub fn all_routes(alloc: Global, structure: &Structure) -> Result<Vec<TableRow>, RouteFault>
     requires structure { IsStructure structure.now }
     requires well_formed { IsWellFormed structure.now }
     ensures ok { IfOk result (λ rows. AreRoutesOf structure.now rows.items × (length rows.items ≤ 4096)) }

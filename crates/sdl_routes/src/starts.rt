@@ -3,10 +3,10 @@ ghost use Rattle.std.specs.Prelude.{◌≡◌, ℕ, ◌+◌, ◌<◌, ◌≤◌,
 ghost use Rattle.sdl_routes.specs.Routes.{AreInOrder};
 ghost use Rattle.sdl_routes.specs.Table.{AreStarts, IsBorder, IsRange};
 
-use crate::parts::Row;
+use crate::route::TableRow;
 
 /// Where the rows of a signal end that start at this place.
-fn end_of(rows: &[Row], start: usize, signal: usize) -> usize
+fn end_of(rows: &[TableRow], start: usize, signal: usize) -> usize
     requires order { AreInOrder rows.now }
     requires start { IsBorder rows.now signal start }
     ensures range { IsRange rows.now signal start result }
@@ -21,7 +21,7 @@ fn end_of(rows: &[Row], start: usize, signal: usize) -> usize
 }
 
 /// Where the rows of each signal start, and behind the last signal where they end.
-pub fn starts_of(rows: &[Row]) -> [usize; 65]
+pub fn starts_of(rows: &[TableRow]) -> [usize; 65]
     requires { AreInOrder rows.now }
     ensures { AreStarts rows.now result }
 {

@@ -4,17 +4,15 @@ ghost use Rattle.sdl_routes.specs.Routes.{AreRoutesOf, HasTooMany, FollowsIn, Is
 ghost use Rattle.sdl_routes.specs.Table.{IsTable};
 
 use crate::choice::{choose_among, station_after};
-use crate::parts::{Route, Row, Station, Wish};
+use crate::route::{Route, Station, TableRow, Wish};
 use crate::search::all_routes;
 use crate::starts::starts_of;
 use sdl_parts::Checked;
+use sdl_parts::limits::MOST_SIGNALS;
 use sdl_signal::RouteId;
 use std::alloc::Global;
 use std::marker::Model;
 use thiserror::Error;
-
-/// The most signals of a structure.
-const MOST_SIGNALS: usize = 64;
 
 /// Why there is no table.
 #[derive(Clone, Copy, Debug, PartialEq, Eq, Error)]
@@ -30,17 +28,17 @@ pub enum RouteFault {
 /// All routes of a structure, by signal number and then by their hops. A route's number is its place.
 #[derive(Drop)]
 pub struct Routes {
-    rows: Vec<Row>,
+    rows: Vec<TableRow>,
     /// Where the routes of each signal start, and behind the last signal where they end.
     starts: [usize; 65],
 }
 
 impl Model for Routes {
     ghost use Rattle.std.specs.Prelude.{List};
-    ghost use Rattle.sdl_routes.specs.declared.parts.Row.{Row};
+    ghost use Rattle.sdl_routes.specs.declared.route.TableRow.{TableRow};
     ghost use Rattle.sdl_routes.specs.Table.{IsTable, AreStarts};
 
-    ghost Value = { List Row };
+    ghost Value = { List TableRow };
 
     ghost view = { λ t. t.rows.items };
 

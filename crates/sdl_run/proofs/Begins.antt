@@ -3,14 +3,14 @@ use Rattle.std.proofs.Common.{ℕ, suc, ◌+◌, ◌≤◌, List, [], ◌∷◌,
 use Rattle.std.proofs.lemmas.List.{append-nil}
 use Rattle.std.specs.List.{AllByRecursion}
 use Rattle.sdl_parts.specs.Structure.{Structure}
-use Rattle.sdl_routes.specs.declared.parts.Row.{Row}
+use Rattle.sdl_routes.specs.declared.route.TableRow.{TableRow}
 use Rattle.sdl_behaviour.specs.declared.step.Frame.{Frame}
 use Rattle.sdl_behaviour.specs.declared.step.Step.{Step}
-use Rattle.sdl_transition.specs.declared.parts.BlockParts.{BlockParts}
+use Rattle.sdl_transition.specs.declared.block_parts.BlockParts.{BlockParts}
 use Rattle.sdl_transition.specs.Rules.{block_rules}
 use Rattle.sdl_instances.specs.declared.block.BlockCore.{BlockCore}
 use Rattle.sdl_instances.specs.Core.{Core, IsSound, system_of}
-use Rattle.sdl_instances.specs.Cores.{core_of, parts_of, system_in}
+use Rattle.sdl_instances.specs.CoreOf.{core_of, parts_of, system_in}
 use Rattle.sdl_block.specs.declared.worker.BlockWorker.{BlockWorker}
 use Rattle.sdl_hand.specs.Work.{Working, with_core}
 use Rattle.sdl_block.specs.Workers.{worker_of, behaviours_of}
@@ -63,7 +63,7 @@ module _ {S I : Type 0} {F : I → Type 0} {g : _} (may : ℕ → Frame → Step
   pub new_parts : behaviours_of w ≡ parts_of c → parts_of c ≡ p → behaviours_of w ≡ p
   new_parts e h = e ∙ h
 
-  pub new_worker : worker_of w ≡ with_core (core_of c) → behaviours_of w ≡ parts_of c → core_of c ≡ first_core s budget p → parts_of c ≡ p → ((routes : List Row) → IsSound may (system_in c routes) (core_of c)) → IsNew may s budget w
+  pub new_worker : worker_of w ≡ with_core (core_of c) → behaviours_of w ≡ parts_of c → core_of c ≡ first_core s budget p → parts_of c ≡ p → ((routes : List TableRow) → IsSound may (system_in c routes) (core_of c)) → IsNew may s budget w
   new_worker is mine first own sound =
       record {
         worker = is ∙ (ap with_core first ∙ ap (λ (q : BlockParts S I F g). with_core (first_core s budget q)) (sym (mine ∙ own)));

@@ -4,13 +4,13 @@ use Rattle.std.proofs.lemmas.List.{length-map, length-append}
 use Rattle.std.proofs.lemmas.Option.{none-some, same_Some}
 use Rattle.std.specs.List.{AllByRecursion}
 use Rattle.sdl_parts.specs.Structure.{Structure, IsStructure}
-use Rattle.sdl_routes.specs.declared.parts.Hop.{Hop}
-use Rattle.sdl_routes.specs.declared.parts.Row.{Row}
-use Rattle.sdl_routes.specs.declared.parts.Station.{Station}
+use Rattle.sdl_routes.specs.declared.route.Hop.{Hop}
+use Rattle.sdl_routes.specs.declared.route.TableRow.{TableRow}
+use Rattle.sdl_routes.specs.declared.route.Station.{Station}
 use Rattle.sdl_routes.specs.Table.{IsTable}
 use Rattle.sdl_behaviour.specs.declared.step.Frame.{Frame}
 use Rattle.sdl_behaviour.specs.declared.step.Step.{Step}
-use Rattle.sdl_transition.specs.declared.parts.BlockParts.{BlockParts}
+use Rattle.sdl_transition.specs.declared.block_parts.BlockParts.{BlockParts}
 use Rattle.sdl_transition.specs.declared.binding.Bound.{Bound}
 use Rattle.sdl_transition.specs.Bound.{AreOneSystem, structure_of, routes_of, blocks_of}
 use Rattle.sdl_transition.specs.Index.{IsIndexed}
@@ -99,7 +99,7 @@ module _ {S I : Type 0} {F : I → Type 0} {g : _} (may : ℕ → Frame → Step
   unfolding block
   core_new n w found is =
       let here : get_or (map behaviours_of d.blocks.items) n (behaviours_of w) ≡ behaviours_of w = place_read behaviours_of d.blocks.items n w found in
-      let own = system.dealt.each n (behaviours_of w) (place_within behaviours_of d.blocks.items n w found) in
+      let own = system.distributed.each n (behaviours_of w) (place_within behaviours_of d.blocks.items n w found) in
       let numbered : (behaviours_of w).block.0 ≡ n = subst (λ (p : BlockParts S I F g). p.block.0 ≡ n) here own.block in
       let rules : unwrap_or (slice_get (map (λ v. block_rules (behaviours_of v)) d.blocks.items) n) [] ≡ block_rules (behaviours_of w) =
       ap (λ (o : Option (List Rules)). unwrap_or o []) (place_get (λ v. block_rules (behaviours_of v)) d.blocks.items n w found) in
@@ -123,7 +123,7 @@ module _ {S I : Type 0} {F : I → Type 0} {g : _} (may : ℕ → Frame → Step
     pub fresh : IsFresh may (plan_of d) (site_of d)
     fresh =
         record {
-          blocks = length-map d.blocks.items worker_of ∙ (sym (length-map d.blocks.items behaviours_of) ∙ system.dealt.blocks_are);
+          blocks = length-map d.blocks.items worker_of ∙ (sym (length-map d.blocks.items behaviours_of) ∙ system.distributed.blocks_are);
           cores = cores_new;
           environment = environment;
           forwarders = ap (map (λ (f : Forwarding). f.hop)) forwarders ∙ hops_of (lines_from 0 d.checked.channels);
@@ -148,7 +148,7 @@ module _ {S I : Type 0} {F : I → Type 0} {g : _} (may : ℕ → Frame → Step
   pub system_same : (old new : Driver S I F g) → IsSameSystem old new → AreOneSystem may old.checked old.routes (map behaviours_of old.blocks.items) → AreOneSystem may new.checked new.routes (map behaviours_of new.blocks.items)
   system_same old new same h =
       subst (λ (s : Structure). AreOneSystem may s new.routes (map behaviours_of new.blocks.items)) (sym same.checked)
-      (subst (λ (r : List Row). AreOneSystem may old.checked r (map behaviours_of new.blocks.items)) (sym same.routes)
+      (subst (λ (r : List TableRow). AreOneSystem may old.checked r (map behaviours_of new.blocks.items)) (sym same.routes)
       (subst (λ (ps : List (BlockParts S I F g)). AreOneSystem may old.checked old.routes ps) (sym same.behaviours) h))
 
   pub room_same : (old new : Driver S I F g) (r : Room S I F g) → IsSameSystem old new → IsDriving may old → IsDriving may new
@@ -176,17 +176,17 @@ module _ {S I : Type 0} {F : I → Type 0} {g : _} (may : ℕ → Frame → Step
       let rules : map (λ w. block_rules (behaviours_of w)) d.blocks.items ≡ map block_rules ps = sym (map_map block_rules behaviours_of d.blocks.items) ∙ ap (map block_rules) e in
       subst (λ (r : List (List Rules)). IsRunOf may (record { structure = d.checked; routes = d.routes; rules = r; budget = d.budget }) schedule c) rules h
 
-  pub run_bound : (b : Bound S I F g) (s : Structure) (rows : List Row) (ps : List (BlockParts S I F g)) (budget : ℕ) (schedule : List ℕ) (c : Closing S I F g) → s ≡ structure_of b → rows ≡ routes_of b → ps ≡ blocks_of b
+  pub run_bound : (b : Bound S I F g) (s : Structure) (rows : List TableRow) (ps : List (BlockParts S I F g)) (budget : ℕ) (schedule : List ℕ) (c : Closing S I F g) → s ≡ structure_of b → rows ≡ routes_of b → ps ≡ blocks_of b
       → IsRunOf may (plan_of_parts s rows ps budget) schedule c → IsRunOf may (plan_of_bound b budget) schedule c
   run_bound b s rows ps budget schedule c e f h run =
       subst (λ (x : Structure). IsRunOf may (plan_of_parts x (routes_of b) (blocks_of b) budget) schedule c) e
-      (subst (λ (x : List Row). IsRunOf may (plan_of_parts s x (blocks_of b) budget) schedule c) f (subst (λ (x : List (BlockParts S I F g)). IsRunOf may (plan_of_parts s rows x budget) schedule c) h run))
+      (subst (λ (x : List TableRow). IsRunOf may (plan_of_parts s x (blocks_of b) budget) schedule c) f (subst (λ (x : List (BlockParts S I F g)). IsRunOf may (plan_of_parts s rows x budget) schedule c) h run))
 
-  pub ended_bound : (b : Bound S I F g) (s : Structure) (rows : List Row) (ps : List (BlockParts S I F g)) (budget : ℕ) (o : Outcome) (end : RunEnd) (l : Ledger) → s ≡ structure_of b → rows ≡ routes_of b → ps ≡ blocks_of b
+  pub ended_bound : (b : Bound S I F g) (s : Structure) (rows : List TableRow) (ps : List (BlockParts S I F g)) (budget : ℕ) (o : Outcome) (end : RunEnd) (l : Ledger) → s ≡ structure_of b → rows ≡ routes_of b → ps ≡ blocks_of b
       → HasEnded may (plan_of_parts s rows ps budget) o end l → HasEnded may (plan_of_bound b budget) o end l
   ended_bound b s rows ps budget o end l e f h ended =
       subst (λ (x : Structure). HasEnded may (plan_of_parts x (routes_of b) (blocks_of b) budget) o end l) e
-      (subst (λ (x : List Row). HasEnded may (plan_of_parts s x (blocks_of b) budget) o end l) f (subst (λ (x : List (BlockParts S I F g)). HasEnded may (plan_of_parts s rows x budget) o end l) h ended))
+      (subst (λ (x : List TableRow). HasEnded may (plan_of_parts s x (blocks_of b) budget) o end l) f (subst (λ (x : List (BlockParts S I F g)). HasEnded may (plan_of_parts s rows x budget) o end l) h ended))
 
   -- a driver that has read nothing reads, in a run, all that its closing shows
   module _ (old new : Driver S I F g) (same : IsSameSystem old new) (fresh : IsEnvFresh (blocks_in (plan_of old)) old.environment) (c : Closing S I F g) (x y : Option (List ℕ)) where
@@ -203,13 +203,13 @@ module _ {S I : Type 0} {F : I → Type 0} {g : _} (may : ℕ → Frame → Step
         (ends x y (subst (λ (p : Plan). HasWrittenSoFar p.structure p.routes (blocks_in p) x y new.environment) (sym (same_plan old new same)) (over x (writes_none old.checked old.routes (blocks_in (plan_of old)) old.environment fresh x))))
 
   -- the same of a bound system
-  module _ (b : Bound S I F g) (s : Structure) (rows : List Row) (ps : List (BlockParts S I F g)) (budget : ℕ) (c : Closing S I F g) (x y : Option (List ℕ)) (e : s ≡ structure_of b) (f : rows ≡ routes_of b) where
+  module _ (b : Bound S I F g) (s : Structure) (rows : List TableRow) (ps : List (BlockParts S I F g)) (budget : ℕ) (c : Closing S I F g) (x y : Option (List ℕ)) (e : s ≡ structure_of b) (f : rows ≡ routes_of b) where
     pub reading_bound : HasReadIn (plan_of_parts s rows ps budget) x y c → HasReadIn (plan_of_bound b budget) x y c
     reading_bound h =
         subst (λ (t : Structure). HasReadIn (plan_of_parts t (routes_of b) (blocks_of b) budget) x y c) e
-        (subst (λ (r : List Row). HasReadIn (plan_of_parts s r (blocks_of b) budget) x y c) f h)
+        (subst (λ (r : List TableRow). HasReadIn (plan_of_parts s r (blocks_of b) budget) x y c) f h)
 
     pub writing_bound : HasWrittenIn (plan_of_parts s rows ps budget) x y c → HasWrittenIn (plan_of_bound b budget) x y c
     writing_bound h =
         subst (λ (t : Structure). HasWrittenIn (plan_of_parts t (routes_of b) (blocks_of b) budget) x y c) e
-        (subst (λ (r : List Row). HasWrittenIn (plan_of_parts s r (blocks_of b) budget) x y c) f h)
+        (subst (λ (r : List TableRow). HasWrittenIn (plan_of_parts s r (blocks_of b) budget) x y c) f h)

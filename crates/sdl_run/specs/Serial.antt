@@ -1,11 +1,11 @@
 -- What stands before the first step of a run, and what comes back where it did not start.
 use Rattle.std.specs.Prelude.{◌≡◌, ℕ, ◌+◌, ◌≤◌, List, [], map, length, vec_len, vec_capacity}
 use Rattle.sdl_parts.specs.Structure.{Structure}
-use Rattle.sdl_routes.specs.declared.parts.Row.{Row}
-use Rattle.sdl_routes.specs.declared.parts.Station.{Station}
+use Rattle.sdl_routes.specs.declared.route.TableRow.{TableRow}
+use Rattle.sdl_routes.specs.declared.route.Station.{Station}
 use Rattle.sdl_behaviour.specs.declared.step.Frame.{Frame}
 use Rattle.sdl_behaviour.specs.declared.step.Step.{Step}
-use Rattle.sdl_transition.specs.declared.parts.BlockParts.{BlockParts}
+use Rattle.sdl_transition.specs.declared.block_parts.BlockParts.{BlockParts}
 use Rattle.sdl_transition.specs.declared.binding.Bound.{Bound}
 use Rattle.sdl_transition.specs.Bound.{structure_of, routes_of, blocks_of, IsBound}
 use Rattle.sdl_transition.specs.Rules.{block_rules}
@@ -17,7 +17,7 @@ use Rattle.sdl_hand.specs.Work.{with_core}
 use Rattle.sdl_block.specs.Workers.{worker_of, behaviours_of, system_around}
 use Rattle.sdl_driver.specs.declared.closing.StartFault.{StartFault}
 use Rattle.sdl_driver.specs.declared.closing.StartFault.TheVariants as fault
-use Rattle.sdl_run.specs.declared.start.Space.{Space}
+use Rattle.sdl_run.specs.declared.start.StartRoom.{StartRoom}
 use Rattle.sdl_driver.specs.Closings.{IsSameBound, HasRoom}
 use Rattle.sdl_outcome.specs.Plan.{Plan, lines_from}
 use Rattle.sdl_run.specs.Starting.{idle_at}
@@ -37,24 +37,24 @@ first_core s budget p =
 -- a worker that has done nothing
 pub record IsNew {S I : Type 0} {F : I → Type 0} {g : _} (may : ℕ → Frame → Step → Type 0) (s : Structure) (budget : ℕ) (w : BlockWorker S I F g) : Type 0 where
   pub worker : worker_of w ≡ with_core (first_core s budget (behaviours_of w))
-  pub sound : (routes : List Row) → IsSound may (system_around w routes) (worker_of w).core
+  pub sound : (routes : List TableRow) → IsSound may (system_around w routes) (worker_of w).core
 
 -- there is all that a run of so many blocks needs beside them
-pub record IsSpace {S I : Type 0} {F : I → Type 0} {g : _} (s : Structure) (routes : List Row) (blocks : ℕ) (space : Space S I F g) : Type 0 where
-  pub board : IsBoardOf routes space.board
-  pub empty : (t : Station) → waiting space.board t ≡ []
-  pub forwarders : space.forwarders.items ≡ map idle_at (lines_from 0 s.channels)
-  pub room : HasRoom blocks (blocks + (length space.forwarders.items + 1)) space.room
-  pub room_empty : (space.room.parts.items ≡ []) × (space.room.logs.items ≡ []) × (space.room.hands.items ≡ [])
-  pub workers : space.workers.items ≡ []
-  pub workers_room : vec_len space.workers + blocks ≤ vec_capacity space.workers
+pub record IsStartRoom {S I : Type 0} {F : I → Type 0} {g : _} (s : Structure) (routes : List TableRow) (blocks : ℕ) (start_room : StartRoom S I F g) : Type 0 where
+  pub board : IsBoardOf routes start_room.board
+  pub empty : (t : Station) → waiting start_room.board t ≡ []
+  pub forwarders : start_room.forwarders.items ≡ map idle_at (lines_from 0 s.channels)
+  pub room : HasRoom blocks (blocks + (length start_room.forwarders.items + 1)) start_room.room
+  pub room_empty : (start_room.room.parts.items ≡ []) × (start_room.room.logs.items ≡ []) × (start_room.room.hands.items ≡ [])
+  pub workers : start_room.workers.items ≡ []
+  pub workers_room : vec_len start_room.workers + blocks ≤ vec_capacity start_room.workers
 
 -- the plan of a system of these parts
-abbrev pub plan_of_parts : {S I : Type 0} {F : I → Type 0} {g : _} → Structure → List Row → List (BlockParts S I F g) → ℕ → Plan
+abbrev pub plan_of_parts : {S I : Type 0} {F : I → Type 0} {g : _} → Structure → List TableRow → List (BlockParts S I F g) → ℕ → Plan
 plan_of_parts s routes blocks budget = record { structure = s; routes = routes; rules = map block_rules blocks; budget = budget }
 
 -- it is the system of these parts
-abbrev pub IsBoundOf : {S I : Type 0} {F : I → Type 0} {g : _} → Structure → List Row → List (BlockParts S I F g) → Bound S I F g → Type 0
+abbrev pub IsBoundOf : {S I : Type 0} {F : I → Type 0} {g : _} → Structure → List TableRow → List (BlockParts S I F g) → Bound S I F g → Type 0
 IsBoundOf s routes blocks b = (structure_of b ≡ s) × (routes_of b ≡ routes) × (blocks_of b ≡ blocks)
 
 -- where a run did not start, the system comes back as it was handed in

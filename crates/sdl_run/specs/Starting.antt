@@ -1,6 +1,6 @@
 -- What stands at the start of a run.
 use Rattle.std.specs.Prelude.{None}
-use Rattle.sdl_routes.specs.declared.parts.Hop.{Hop}
+use Rattle.sdl_routes.specs.declared.route.Hop.{Hop}
 use Rattle.sdl_forward.specs.Forwards.{Forwarding}
 
 -- the forwarder of the path, which holds nothing

@@ -6,10 +6,10 @@ ghost use Rattle.sdl_driver.specs.Closings.{HasRoom, HasReadIn, HasWrittenIn, St
 ghost use Rattle.sdl_driver.specs.Drivers.{site_of, plan_of, IsDriving};
 ghost use Rattle.sdl_driver.specs.Ended.{HasEnded};
 ghost use Rattle.sdl_order.specs.Driver.{IsFresh};
-ghost use Rattle.sdl_run.specs.Serial.{IsSpace, IsBoundOf, IsBackIn, plan_of_parts};
+ghost use Rattle.sdl_run.specs.Serial.{IsStartRoom, IsBoundOf, IsBackIn, plan_of_parts};
 
 use crate::blocks::{gather, start_blocks};
-use crate::start::{Space, make_space};
+use crate::start::{StartRoom, make_start_room};
 use sdl_driver::Driver;
 use sdl_driver::closing::{Closing, Room, StartFault};
 use sdl_environment::EnvWorker;
@@ -53,11 +53,11 @@ fn drive<S: Agents, R: Read, W: Write>(
     driver.close(room, refused)
 }
 
-/// Runs the blocks in their space, where they all start.
+/// Runs the blocks in their start_room, where they all start.
 fn run_in<S: Agents, R: Read, W: Write>(
     alloc: Global,
     system: System<S>,
-    space: Space<S>,
+    start_room: StartRoom<S>,
     budget: u32,
     schedule: &[u32],
     input: &mut R,
@@ -65,7 +65,7 @@ fn run_in<S: Agents, R: Read, W: Write>(
 ) -> Result<Closing<S>, Bound<S>>
     requires budget { (1 ≤ budget) × (budget ≤ 1000000) }
     requires system { AreOneSystem S.may system.checked system.routes system.blocks.items }
-    requires space { IsSpace system.checked system.routes (length system.blocks.items) space }
+    requires start_room { IsStartRoom system.checked system.routes (length system.blocks.items) start_room }
     ensures ended { IfOk result (λ c. HasEnded S.may (plan_of_parts system.checked system.routes system.blocks.items budget) (outcome_in c) c.end c.ledger) }
     ensures run { IfOk result (IsRunOf S.may (plan_of_parts system.checked system.routes system.blocks.items budget) schedule.now) }
     ensures reading { IfOk result (λ c. HasReadIn (plan_of_parts system.checked system.routes system.blocks.items budget) (R.remaining input.old) (R.remaining input.new) c) }
@@ -83,12 +83,12 @@ fn run_in<S: Agents, R: Read, W: Write>(
     checked.structure();
     parts_are_bound(&checked, &routes, blocks.as_slice());
     routes.len();
-    let Space {
+    let StartRoom {
         board,
         forwarders,
         room,
         workers,
-    } = space;
+    } = start_room;
     let environment = EnvWorker::new(alloc, blocks.len() as u32);
     match start_blocks(alloc, &checked, budget, blocks, workers) {
         Ok(blocks) => Ok(drive(
@@ -141,14 +141,14 @@ pub fn run_serial<S: Agents, R: Read, W: Write>(
     ensures untouched { IfErr result (λ f. (input.new ≡ input.old) × (output.new ≡ output.old)) }
 {
     let (checked, routes, blocks) = bound.into_blocks();
-    match make_space(alloc, &checked, &routes, blocks.len()) {
-        Ok(space) => {
+    match make_start_room(alloc, &checked, &routes, blocks.len()) {
+        Ok(start_room) => {
             let system = System {
                 checked,
                 routes,
                 blocks,
             };
-            match run_in(alloc, system, space, budget, schedule, input, output) {
+            match run_in(alloc, system, start_room, budget, schedule, input, output) {
                 Ok(closing) => Ok(closing),
                 Err(bound) => Err(StartFault::Memory(bound)),
             }

@@ -2,7 +2,7 @@
 ghost use Rattle.std.specs.Prelude.{◌≡◌, ◌++◌, ◌≤◌, [], map, length, OnOk, IfOk};
 ghost use Rattle.sdl_driver.specs.Closings.{HasRoom};
 ghost use Rattle.sdl_outcome.specs.Plan.{path_line, lines_from};
-ghost use Rattle.sdl_run.specs.Serial.{IsSpace};
+ghost use Rattle.sdl_run.specs.Serial.{IsStartRoom};
 ghost use Rattle.sdl_run.specs.Starting.{idle_at};
 
 use sdl_block::BlockWorker;
@@ -16,7 +16,7 @@ use std::alloc::{AllocError, Global};
 
 /// What a run takes before its blocks: the board, the forwarders, the lists of its closing, and room for the blocks.
 #[derive(Drop)]
-pub struct Space<S> {
+pub struct StartRoom<S> {
     pub board: Board,
     pub forwarders: Vec<Forwarder>,
     pub room: Room<S>,
@@ -35,21 +35,21 @@ fn make_room<S: Agents>(alloc: Global, blocks: usize, workers: usize) -> Result<
 }
 
 /// Takes what a run of so many blocks needs, before any block starts.
-pub fn make_space<S: Agents>(
+pub fn make_start_room<S: Agents>(
     alloc: Global,
     checked: &Checked,
     routes: &Routes,
     blocks: usize,
-) -> Result<Space<S>, AllocError>
+) -> Result<StartRoom<S>, AllocError>
     requires { blocks ≤ 16 }
-    ensures { IfOk result (IsSpace checked.now routes.now blocks) }
+    ensures { IfOk result (IsStartRoom checked.now routes.now blocks) }
 {
     let structure = checked.structure();
     let board = Board::new(alloc, routes)?;
     let forwarders = forwarders_of(alloc, structure.channels())?;
     let room = make_room(alloc, blocks, blocks + 1 + forwarders.len())?;
     let workers = Vec::with_capacity(alloc, blocks)?;
-    Ok(Space {
+    Ok(StartRoom {
         board,
         forwarders,
         room,

@@ -14,9 +14,9 @@ use Rattle.sdl_signal.specs.declared.ends.OutputEnd.TheVariants as output
 use Rattle.sdl_signal.specs.Bytes.{ended_line, IsFirstLine}
 use Rattle.sdl_signal.specs.Line.{line_text}
 use Rattle.sdl_parts.specs.Structure.{lexicon_of}
-use Rattle.sdl_routes.specs.declared.parts.Row.{Row}
-use Rattle.sdl_routes.specs.declared.parts.Source.{Source}
-use Rattle.sdl_routes.specs.declared.parts.Source.TheVariants as source
+use Rattle.sdl_routes.specs.declared.route.TableRow.{TableRow}
+use Rattle.sdl_routes.specs.declared.route.Source.{Source}
+use Rattle.sdl_routes.specs.declared.route.Source.TheVariants as source
 use Rattle.sdl_outcome.specs.declared.environment_output.EnvOut.TheVariants as env_out
 use Rattle.sdl_outcome.specs.declared.end.RunEnd.{RunEnd}
 use Rattle.sdl_outcome.specs.declared.end.RunEnd.TheVariants as run_end
@@ -55,10 +55,10 @@ not_eight line after same (clean, inl begins) =
     let n : 55 ≡ 56 = ap (λ (l : List ℕ). get_or l 10 0) (subst (λ (l : List ℕ). input_text ≡ ended_line l ++ after) (sym same) begins) in omega (arith, n)
 not_eight line after same (clean, inr (is, some, none)) = let n : 55 ≡ 56 = ap (λ (l : List ℕ). get_or l 10 0) (is ∙ sym same) in omega (arith, n)
 
-line_is : (line : EnvLine) (row : Row) → ping 8 ≡ record (ping 8) { signal = line.signal; to = line.to } → Some to_e ≡ Some row → row.source ≡ source.Gate line.gate
+line_is : (line : EnvLine) (row : TableRow) → ping 8 ≡ record (ping 8) { signal = line.signal; to = line.to } → Some to_e ≡ Some row → row.source ≡ source.Gate line.gate
     → line_text (lexicon_of echo) line ≡ Some (codes "line ping 8")
 line_is line row same at from =
-    let gate : line.gate ≡ record { 0 = 0 } = sym (ap gate_in (ap (λ (r : Row). r.source) (same_Some to_e row at) ∙ from)) in
+    let gate : line.gate ≡ record { 0 = 0 } = sym (ap gate_in (ap (λ (r : TableRow). r.source) (same_Some to_e row at) ∙ from)) in
     let consumed : line.signal ≡ signal 0 8 = sym (ap (λ (i : Item). i.signal) same) in
     let to : line.to ≡ None = sym (ap (λ (i : Item). i.to) same) in
     ap (λ g. text_of g line.signal line.to) gate ∙ ap (λ s. text_of (record { 0 = 0 }) s line.to) consumed ∙ ap (λ t. text_of (record { 0 = 0 }) (signal 0 8) t) to ∙ text_eight

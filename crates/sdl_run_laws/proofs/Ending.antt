@@ -7,9 +7,9 @@ use Rattle.sdl_signal.specs.declared.values.Pid.{Pid}
 use Rattle.sdl_signal.specs.declared.values.Pid.TheVariants as pid
 use Rattle.sdl_signal.specs.declared.values.Item.{Item}
 use Rattle.sdl_signal.specs.declared.values.Origin.{Origin}
-use Rattle.sdl_routes.specs.declared.parts.Row.{Row}
-use Rattle.sdl_routes.specs.declared.parts.Station.{Station}
-use Rattle.sdl_routes.specs.declared.parts.Station.TheVariants as station
+use Rattle.sdl_routes.specs.declared.route.TableRow.{TableRow}
+use Rattle.sdl_routes.specs.declared.route.Station.{Station}
+use Rattle.sdl_routes.specs.declared.route.Station.TheVariants as station
 use Rattle.sdl_agents.specs.Tables.{EchoMay}
 use Rattle.sdl_instances.specs.Record.{Record}
 use Rattle.sdl_instances.specs.Machine.{State}
@@ -48,8 +48,8 @@ of_line s (suc (suc zero), less, at) = (5, lit< tt, at)
 of_line s (suc (suc (suc n)), less, at) = absurd (omega (arith, less))
 
 every : (s : Station) → IsStationOf routes s → Contains (stations_of (rests [])) s
-every s (zero, row, less, at, there) = of_e s (subst (λ (r : Row). Contains r.route.stations.items s) (sym at) there)
-every s (suc zero, row, less, at, there) = of_line s (subst (λ (r : Row). Contains r.route.stations.items s) (sym at) there)
+every s (zero, row, less, at, there) = of_e s (subst (λ (r : TableRow). Contains r.route.stations.items s) (sym at) there)
+every s (suc zero, row, less, at, there) = of_line s (subst (λ (r : TableRow). Contains r.route.stations.items s) (sym at) there)
 every s (suc (suc n), row, less, at, there) = absurd (omega (arith, less))
 
 only : (s : Station) → Contains (stations_of (rests [])) s → IsStationOf routes s

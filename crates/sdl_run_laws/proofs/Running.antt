@@ -2,7 +2,7 @@
 use Rattle.std.proofs.Common.{[], ◌∷◌, None, Some, refl, lit<, true≢false, ap, sym, is_some, All}
 use Rattle.std.proofs.lemmas.List.Elements.{All-nil, All-cons}
 use Rattle.sdl_signal.specs.declared.values.Pid.TheVariants as pid
-use Rattle.sdl_routes.specs.declared.parts.Via.TheVariants as via
+use Rattle.sdl_routes.specs.declared.route.Via.TheVariants as via
 use Rattle.sdl_behaviour.specs.declared.step.Action.TheVariants as action
 use Rattle.sdl_behaviour.specs.declared.step.Dest.TheVariants as dest
 use Rattle.sdl_transition.specs.Offers.{Conforms, IsActionOf, IsLegalValue}

@@ -11,10 +11,10 @@ use Rattle.sdl_parts.specs.declared.parts.Scope.{Scope}
 use Rattle.sdl_parts.specs.declared.parts.Scope.TheVariants as scope
 use Rattle.sdl_parts.specs.declared.parts.Side.TheVariants.{Outer, Inner}
 use Rattle.sdl_parts.specs.Structure.{Structure}
-use Rattle.sdl_routes.specs.declared.parts.Row.{Row}
-use Rattle.sdl_routes.specs.declared.parts.Source.TheVariants as source
-use Rattle.sdl_routes.specs.declared.parts.EndPoint.TheVariants as ends
-use Rattle.sdl_routes.specs.declared.parts.Station.TheVariants as station
+use Rattle.sdl_routes.specs.declared.route.TableRow.{TableRow}
+use Rattle.sdl_routes.specs.declared.route.Source.TheVariants as source
+use Rattle.sdl_routes.specs.declared.route.EndPoint.TheVariants as ends
+use Rattle.sdl_routes.specs.declared.route.Station.TheVariants as station
 use Rattle.sdl_behaviour.specs.declared.offer.Offer.{Offer}
 use Rattle.sdl_transition.specs.Rules.{Rules}
 use Rattle.sdl_agents.specs.Offered.{sorted, offered}
@@ -55,7 +55,7 @@ echo =
     }
 
 -- from the environment to E, and back
-abbrev pub to_e : Row
+abbrev pub to_e : TableRow
 to_e =
     record {
       route = record {
@@ -69,7 +69,7 @@ to_e =
       source = source.Gate (record { 0 = 0 });
     }
 
-abbrev pub to_line : Row
+abbrev pub to_line : TableRow
 to_line =
     record {
       route = record {
@@ -83,7 +83,7 @@ to_line =
       source = source.Set (record { 0 = 0 });
     }
 
-abbrev pub routes : List Row
+abbrev pub routes : List TableRow
 routes = to_e ∷ to_line ∷ []
 
 -- the rules of E: its start, and its row for ping

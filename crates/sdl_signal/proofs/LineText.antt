@@ -6,7 +6,7 @@ use Rattle.std.proofs.lemmas.List.Splits.{slice_split_none, slice_split_at}
 use Rattle.std.proofs.lemmas.Option.{same_Some, none-some, option_and_then_some}
 use Rattle.sdl_signal.specs.declared.values.Pid.{Pid}
 use Rattle.sdl_signal.specs.declared.values.EnvLine.{EnvLine}
-use Rattle.sdl_signal.specs.Names.{Lexicon, Declared, IsLexicon, IsName}
+use Rattle.sdl_signal.specs.Names.{Lexicon, DeclaredSignal, IsLexicon, IsName}
 use Rattle.sdl_signal.specs.Line.{space, LineFits, PidFits, pid_text, value_texts, to_part, to_texts, line_fields, line_text, ◌>>=◌}
 use Rattle.sdl_signal.specs.Writing.{spaced}
 use Rattle.sdl_signal.specs.Reading.{fields, value_fields, to_field}
@@ -64,7 +64,7 @@ IsToText names (Some p) text = (t : List ℕ) × (text ≡ Some t) × (pid_text 
 -- the parts of a line's text
 pub record AreParts (names : Lexicon) (l : EnvLine) (line : List ℕ) : Type 0 where
   pub gate : List ℕ
-  pub signal : Declared
+  pub signal : DeclaredSignal
   pub values : List (List ℕ)
   pub to : Option (List ℕ)
   pub gate_at : slice_get names.gates l.gate.0 ≡ Some gate
@@ -82,7 +82,7 @@ to_of names (Some p) ts e =
 pub parts_of : (names : Lexicon) (l : EnvLine) (line : List ℕ) → line_text names l ≡ Some line → AreParts names l line
 parts_of names l line e =
     let j = map_is (join_with_byte space) (line_fields names l) line e in
-    let rest = λ (g : List ℕ) (d : Declared) (vs : List (List ℕ)). option_map (λ to. g ∷ d.name ∷ vs ++ to) (to_texts names l.to) in
+    let rest = λ (g : List ℕ) (d : DeclaredSignal) (vs : List (List ℕ)). option_map (λ to. g ∷ d.name ∷ vs ++ to) (to_texts names l.to) in
     let goal : Type 0 = AreParts names l line in
     option_and_then_some (λ g. slice_get names.signals l.signal.id.0 >>= λ d. value_texts names d.sorts l.signal.params.items >>= λ vs. rest g d vs) (slice_get names.gates l.gate.0) j.0 j.1 (λ g at f.
     option_and_then_some (λ d. value_texts names d.sorts l.signal.params.items >>= λ vs. rest g d vs) (slice_get names.signals l.signal.id.0) j.0 f (λ d dat h.

@@ -8,7 +8,7 @@ use Rattle.sdl_signal.specs.declared.values.Value.{Value}
 use Rattle.sdl_signal.specs.declared.values.EnvLine.{EnvLine}
 use Rattle.sdl_signal.specs.declared.reading.LineFault.{LineFault}
 use Rattle.sdl_signal.specs.declared.reading.LineFault.TheVariants.{TooLong, NotAscii, Missing, UnknownGate, UnknownSignal, WrongCount, BadValue, BadTo}
-use Rattle.sdl_signal.specs.Names.{Lexicon, Declared, IsLexicon}
+use Rattle.sdl_signal.specs.Names.{Lexicon, DeclaredSignal, IsLexicon}
 use Rattle.sdl_signal.specs.Line.{LineFits, PidFits, pid_text, to_part, value_text, value_texts, line_text}
 use Rattle.sdl_signal.specs.Writing.{spaced}
 use Rattle.sdl_signal.specs.Reading.{IsReading, fields, line_signal, Fails, IsFirstFault, NamesFirst, PidNamesFirst, ValueNamesFirst, HasDistinctNames, IsPidText, HasBadValue}
@@ -118,8 +118,8 @@ one_line names l m line lex fl fm hl hm el em =
     let g : p.gate ≡ q.gate = ap (λ k. get_or k 0 []) fs in
     let n : p.signal.name ≡ q.signal.name = ap (λ k. get_or k 1 []) fs in
     let gate : l.gate.0 ≡ m.gate.0 = first_is_one (λ (k : List ℕ). k) names.gates l.gate.0 m.gate.0 (ap (option_map (λ (k : List ℕ). k)) (p.gate_at ∙ ap Some g ∙ sym q.gate_at)) hl.0 hm.0 in
-    let names_same : option_map (λ (s : Declared). s.name) (slice_get names.signals l.signal.id.0) ≡ option_map (λ (s : Declared). s.name) (slice_get names.signals m.signal.id.0) = ap (option_map (λ (s : Declared). s.name)) p.signal_at ∙ ap Some n ∙ sym (ap (option_map (λ (s : Declared). s.name)) q.signal_at) in
-    let id : l.signal.id.0 ≡ m.signal.id.0 = first_is_one (λ (s : Declared). s.name) names.signals l.signal.id.0 m.signal.id.0 names_same hl.1 hm.1 in
+    let names_same : option_map (λ (s : DeclaredSignal). s.name) (slice_get names.signals l.signal.id.0) ≡ option_map (λ (s : DeclaredSignal). s.name) (slice_get names.signals m.signal.id.0) = ap (option_map (λ (s : DeclaredSignal). s.name)) p.signal_at ∙ ap Some n ∙ sym (ap (option_map (λ (s : DeclaredSignal). s.name)) q.signal_at) in
+    let id : l.signal.id.0 ≡ m.signal.id.0 = first_is_one (λ (s : DeclaredSignal). s.name) names.signals l.signal.id.0 m.signal.id.0 names_same hl.1 hm.1 in
     let d : p.signal ≡ q.signal = same_Some p.signal q.signal (sym p.signal_at ∙ ap (slice_get names.signals) id ∙ q.signal_at) in
     let vs : p.values ≡ q.values = sym a.values ∙ b.values in
     let to : p.to ≡ q.to = sym a.to ∙ b.to in
@@ -164,7 +164,7 @@ module _ (names : Lexicon) (h : HasDistinctNames names) where
   names_are_first l line e =
       let p = parts_of names l line e in (
         first_if_distinct (λ (n : List ℕ). n) names.gates l.gate.0 p.gate h.0 p.gate_at,
-        first_if_distinct (λ (s : Declared). s.name) names.signals l.signal.id.0 p.signal h.1 p.signal_at,
+        first_if_distinct (λ (s : DeclaredSignal). s.name) names.signals l.signal.id.0 p.signal h.1 p.signal_at,
         values_are_first p.signal.sorts l.signal.params.items p.values p.values_are,
         to_is_first l.to p.to p.to_is,
       )

@@ -9,7 +9,7 @@ use Rattle.std.proofs.lemmas.List.Splits.{join_with_byte-slice_split}
 use Rattle.std.proofs.lemmas.Option.{slice_get-get_or, get_or_from_slice_get, none-some}
 use Rattle.sdl_signal.specs.declared.reading.LineFault.{LineFault}
 use Rattle.sdl_signal.specs.declared.reading.LineFault.TheVariants.{TooLong, NotAscii, Missing, UnknownGate, UnknownSignal, WrongCount, BadValue, BadTo}
-use Rattle.sdl_signal.specs.Names.{Lexicon, Declared}
+use Rattle.sdl_signal.specs.Names.{Lexicon, DeclaredSignal}
 use Rattle.sdl_signal.specs.Reading.{Fails, Passes, IsNamedAt, IsNowhere, HasBadValue, fields, line_signal, signal_named, value_fields, to_field, rule_number}
 use Rattle.sdl_signal.proofs.Named.{find_named, find_nowhere, nowhere_not_in, contains_at}
 use Rattle.sdl_signal.proofs.LineParts.{nine_are_many, parts_are_whole}
@@ -127,35 +127,35 @@ module _ (names : Lexicon) (line : List ℕ) where
   pub signal_known : (text : List ℕ) (i : ℕ) → slice_get (fields line) 1 ≡ Some text → IsNamedAt (λ s. s.name) names.signals text i → line_signal names line ≡ slice_get names.signals i
   signal_known text i e h = signal_of text e ∙ find_named (λ s. s.name) names.signals text i h
 
-  pub signal_is_known : (d : Declared) → line_signal names line ≡ Some d → ¬ Fails names line UnknownSignal
+  pub signal_is_known : (d : DeclaredSignal) → line_signal names line ≡ Some d → ¬ Fails names line UnknownSignal
   signal_is_known d e fails = none-some d (sym fails ∙ e)
 
-  pub count_wrong : (d : Declared) → line_signal names line ≡ Some d → length (value_fields (fields line)) ≢ length d.sorts → Fails names line WrongCount
+  pub count_wrong : (d : DeclaredSignal) → line_signal names line ≡ Some d → length (value_fields (fields line)) ≢ length d.sorts → Fails names line WrongCount
   count_wrong d e h = and_at (λ s. length (value_fields (fields line)) ≢ length s.sorts) (line_signal names line) d e h
 
-  pub count_right : (d : Declared) → line_signal names line ≡ Some d → length (value_fields (fields line)) ≡ length d.sorts → ¬ Fails names line WrongCount
+  pub count_right : (d : DeclaredSignal) → line_signal names line ≡ Some d → length (value_fields (fields line)) ≡ length d.sorts → ¬ Fails names line WrongCount
   count_right d e h fails = at_and (λ s. length (value_fields (fields line)) ≢ length s.sorts) (line_signal names line) d e fails h
 
-  pub value_bad : (d : Declared) → line_signal names line ≡ Some d → HasBadValue names d.sorts (value_fields (fields line)) → Fails names line BadValue
+  pub value_bad : (d : DeclaredSignal) → line_signal names line ≡ Some d → HasBadValue names d.sorts (value_fields (fields line)) → Fails names line BadValue
   value_bad d e h = and_at (λ s. HasBadValue names s.sorts (value_fields (fields line))) (line_signal names line) d e h
 
-  pub value_good : (d : Declared) → line_signal names line ≡ Some d → ¬ HasBadValue names d.sorts (value_fields (fields line)) → ¬ Fails names line BadValue
+  pub value_good : (d : DeclaredSignal) → line_signal names line ≡ Some d → ¬ HasBadValue names d.sorts (value_fields (fields line)) → ¬ Fails names line BadValue
   value_good d e h fails = h (at_and (λ s. HasBadValue names s.sorts (value_fields (fields line))) (line_signal names line) d e fails)
 
   pub passes_to_signals : (text : List ℕ) (i : ℕ) → Passes names line 4 → slice_get (fields line) 0 ≡ Some text → slice_get names.gates i ≡ Some text → Passes names line 5
   passes_to_signals text i p e h = passes_more names line UnknownGate p (gate_known text i e h)
 
-  pub passes_to_counts : (d : Declared) → Passes names line 5 → line_signal names line ≡ Some d → Passes names line 6
+  pub passes_to_counts : (d : DeclaredSignal) → Passes names line 5 → line_signal names line ≡ Some d → Passes names line 6
   passes_to_counts d p e = passes_more names line UnknownSignal p (signal_is_known d e)
 
-  pub passes_to_values : (d : Declared) → Passes names line 6 → line_signal names line ≡ Some d → length (value_fields (fields line)) ≡ length d.sorts → Passes names line 7
+  pub passes_to_values : (d : DeclaredSignal) → Passes names line 6 → line_signal names line ≡ Some d → length (value_fields (fields line)) ≡ length d.sorts → Passes names line 7
   passes_to_values d p e h = passes_more names line WrongCount p (count_right d e h)
 
-  pub passes_to_to : (d : Declared) → Passes names line 7 → line_signal names line ≡ Some d → ¬ HasBadValue names d.sorts (value_fields (fields line)) → Passes names line 8
+  pub passes_to_to : (d : DeclaredSignal) → Passes names line 7 → line_signal names line ≡ Some d → ¬ HasBadValue names d.sorts (value_fields (fields line)) → Passes names line 8
   passes_to_to d p e h = passes_more names line BadValue p (value_good d e h)
 
 -- the text of a line from its fields
-pub text_of_fields : (names : Lexicon) (l : EnvLine) (g : List ℕ) (d : Declared) (vs ts : List (List ℕ)) → slice_get names.gates l.gate.0 ≡ Some g → slice_get names.signals l.signal.id.0 ≡ Some d → value_texts names d.sorts l.signal.params.items ≡ Some vs → to_texts names l.to ≡ Some ts → line_text names l ≡ Some (join_with_byte space (g ∷ d.name ∷ vs ++ ts))
+pub text_of_fields : (names : Lexicon) (l : EnvLine) (g : List ℕ) (d : DeclaredSignal) (vs ts : List (List ℕ)) → slice_get names.gates l.gate.0 ≡ Some g → slice_get names.signals l.signal.id.0 ≡ Some d → value_texts names d.sorts l.signal.params.items ≡ Some vs → to_texts names l.to ≡ Some ts → line_text names l ≡ Some (join_with_byte space (g ∷ d.name ∷ vs ++ ts))
 text_of_fields names l g d vs ts ge se ve te =
     ap (option_map (join_with_byte space))
     (ap (λ o. o >>= λ gate. slice_get names.signals l.signal.id.0 >>= λ signal. value_texts names signal.sorts l.signal.params.items >>= λ values. option_map (λ to. gate ∷ signal.name ∷ values ++ to) (to_texts names l.to)) ge
@@ -164,7 +164,7 @@ text_of_fields names l g d vs ts ge se ve te =
     ∙ ap (option_map (λ to. g ∷ d.name ∷ vs ++ to)) te)
 
 -- the text of a line from the parts of its fields
-pub text_from_parts : (names : Lexicon) (line : List ℕ) (l : EnvLine) (d : Declared) → 2 ≤ length (fields line) → slice_get names.gates l.gate.0 ≡ slice_get (fields line) 0 → slice_get names.signals l.signal.id.0 ≡ Some d → slice_get (fields line) 1 ≡ Some d.name → value_texts names d.sorts l.signal.params.items ≡ Some (value_fields (fields line)) → to_texts names l.to ≡ Some (to_part (to_field (fields line))) → line_text names l ≡ Some line
+pub text_from_parts : (names : Lexicon) (line : List ℕ) (l : EnvLine) (d : DeclaredSignal) → 2 ≤ length (fields line) → slice_get names.gates l.gate.0 ≡ slice_get (fields line) 0 → slice_get names.signals l.signal.id.0 ≡ Some d → slice_get (fields line) 1 ≡ Some d.name → value_texts names d.sorts l.signal.params.items ≡ Some (value_fields (fields line)) → to_texts names l.to ≡ Some (to_part (to_field (fields line))) → line_text names l ≡ Some line
 text_from_parts names line l d two g s n v t =
     let fs = fields line in
     let gate : slice_get names.gates l.gate.0 ≡ Some (get_or fs 0 []) = g ∙ slice_get-get_or fs 0 [] (omega (arith, two)) in

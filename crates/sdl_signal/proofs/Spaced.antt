@@ -10,7 +10,8 @@ use Rattle.sdl_signal.specs.declared.values.Value.{Value}
 use Rattle.sdl_signal.specs.declared.values.Value.TheVariants as value
 use Rattle.sdl_signal.specs.Names.{Lexicon}
 use Rattle.sdl_signal.specs.Line.{space, value_text, value_texts}
-use Rattle.sdl_signal.specs.Writing.{sort_of, spaced}
+use Rattle.sdl_signal.specs.Sorts.{sort_of}
+use Rattle.sdl_signal.specs.Writing.{spaced}
 use Rattle.sdl_signal.proofs.ValueTexts.{texts_of_cons}
 use Rattle.sdl_signal.proofs.LineText.{spaced-append, join-spaced}
 

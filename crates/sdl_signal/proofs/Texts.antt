@@ -24,8 +24,8 @@ abbrev pub IsGraphic : ℕ → Type 0
 IsGraphic b = (32 < b) × (b < 127)
 
 -- a byte of a name or a number
-abbrev pub IsPlain : ℕ → Type 0
-IsPlain b = (32 < b) × (b < 127) × (b ≢ 58)
+abbrev pub IsNoColon : ℕ → Type 0
+IsNoColon b = (32 < b) × (b < 127) × (b ≢ 58)
 
 -- a text that can be a field: one to n bytes that can be seen
 pub record IsWord (n : ℕ) (bs : List ℕ) : Type 0 where
@@ -55,49 +55,49 @@ and_true true true e = (refl, refl)
 and_true true false e = absurd (false≢true e)
 and_true false b e = absurd (false≢true e)
 
-plain_byte : (b : ℕ) → is_name_byte b ≡ true → IsPlain b
-plain_byte b e = (grind (arith, nat_tests), grind (arith, nat_tests), λ h. grind (arith, nat_tests))
+no_colon_byte : (b : ℕ) → is_name_byte b ≡ true → IsNoColon b
+no_colon_byte b e = (grind (arith, nat_tests), grind (arith, nat_tests), λ h. grind (arith, nat_tests))
 
-plain_bytes : (bs : List ℕ) → list_all is_name_byte bs ≡ true → AllByRecursion IsPlain bs
-plain_bytes [] e = tt
-plain_bytes (b ∷ bs) e = let p = and_true (is_name_byte b) (list_all is_name_byte bs) e in (plain_byte b p.0, plain_bytes bs p.1)
+no_colon_bytes : (bs : List ℕ) → list_all is_name_byte bs ≡ true → AllByRecursion IsNoColon bs
+no_colon_bytes [] e = tt
+no_colon_bytes (b ∷ bs) e = let p = and_true (is_name_byte b) (list_all is_name_byte bs) e in (no_colon_byte b p.0, no_colon_bytes bs p.1)
 
-pub plain_digits : (ds : List ℕ) → AllDigits 10 ds → AllByRecursion IsPlain ds
-plain_digits [] h = tt
-plain_digits (d ∷ ds) h =
+pub no_colon_digits : (ds : List ℕ) → AllDigits 10 ds → AllByRecursion IsNoColon ds
+no_colon_digits [] h = tt
+no_colon_digits (d ∷ ds) h =
     let r = digit_from_value d h.0 in
-    ((omega arith, omega arith, λ e. omega arith), plain_digits ds h.1)
+    ((omega arith, omega arith, λ e. omega arith), no_colon_digits ds h.1)
 
-pub seen_of_plain : (bs : List ℕ) → AllByRecursion IsPlain bs → AllByRecursion IsGraphic bs
-seen_of_plain [] h = tt
-seen_of_plain (b ∷ bs) h = ((h.0.0, h.0.1), seen_of_plain bs h.1)
+pub seen_without_colon : (bs : List ℕ) → AllByRecursion IsNoColon bs → AllByRecursion IsGraphic bs
+seen_without_colon [] h = tt
+seen_without_colon (b ∷ bs) h = ((h.0.0, h.0.1), seen_without_colon bs h.1)
 
-pub record IsPlainWord (n : ℕ) (bs : List ℕ) : Type 0 where
+pub record IsWordWithoutColon (n : ℕ) (bs : List ℕ) : Type 0 where
   pub some : 0 < length bs
   pub few : length bs ≤ n
-  pub plain : AllByRecursion IsPlain bs
+  pub no_colon : AllByRecursion IsNoColon bs
 
-plain_name : (bs : List ℕ) → IsName bs → IsPlainWord 32 bs
-plain_name bs h =
+name_without_colon : (bs : List ℕ) → IsName bs → IsWordWithoutColon 32 bs
+name_without_colon bs h =
     let p = and_true (is_spelled bs && leb (length bs) 32) (not (bytes_eq bs (codes "env"))) h in
     let q = and_true (is_spelled bs) (leb (length bs) 32) p.0 in
     let r = and_true (ltb 0 (length bs) && is_letter (get_or bs 0 0)) (list_all is_name_byte bs) q.0 in
     let s = and_true (ltb 0 (length bs)) (is_letter (get_or bs 0 0)) r.0 in
-    record { some = grind (arith, nat_tests, s.0); few = grind (arith, nat_tests, q.1); plain = plain_bytes bs r.1 }
+    record { some = grind (arith, nat_tests, s.0); few = grind (arith, nat_tests, q.1); no_colon = no_colon_bytes bs r.1 }
 
-pub plain_decimal : (k n : ℕ) → 0 < k → n < 10 ^ k → n < 2 ^ 64 → IsPlainWord k (decimal n)
-plain_decimal k n z h l =
+pub no_colon_decimal : (k n : ℕ) → 0 < k → n < 10 ^ k → n < 2 ^ 64 → IsWordWithoutColon k (decimal n)
+no_colon_decimal k n z h l =
     let m = decimal_is_IsNumeral n l in
-    record { some = m.0.0; few = length-decimal-le k n z h l; plain = plain_digits (decimal n) m.0.1 }
+    record { some = m.0.0; few = length-decimal-le k n z h l; no_colon = no_colon_digits (decimal n) m.0.1 }
 
-pub word_of_plain : (n : ℕ) (bs : List ℕ) → IsPlainWord n bs → IsWord n bs
-word_of_plain n bs w = record { some = w.some; few = w.few; seen = seen_of_plain bs w.plain }
+pub word_without_colon : (n : ℕ) (bs : List ℕ) → IsWordWithoutColon n bs → IsWord n bs
+word_without_colon n bs w = record { some = w.some; few = w.few; seen = seen_without_colon bs w.no_colon }
 
 pub name_word : (bs : List ℕ) → IsName bs → IsWord 32 bs
-name_word bs h = word_of_plain 32 bs (plain_name bs h)
+name_word bs h = word_without_colon 32 bs (name_without_colon bs h)
 
 -- what stands on the two sides of the first colon
-colon_free : (a b : List ℕ) → AllByRecursion IsPlain (a ++ colon ∷ b) → ⊥
+colon_free : (a b : List ℕ) → AllByRecursion IsNoColon (a ++ colon ∷ b) → ⊥
 colon_free [] b h = h.0.2 refl
 colon_free (x ∷ a) b h = colon_free a b h.1
 
@@ -109,7 +109,7 @@ tail_of : List ℕ → List ℕ
 tail_of [] = []
 tail_of (x ∷ xs) = xs
 
-pub one_colon : (a b x y : List ℕ) → AllByRecursion IsPlain a → AllByRecursion IsPlain b → a ++ colon ∷ x ≡ b ++ colon ∷ y → (a ≡ b) × (x ≡ y)
+pub one_colon : (a b x y : List ℕ) → AllByRecursion IsNoColon a → AllByRecursion IsNoColon b → a ++ colon ∷ x ≡ b ++ colon ∷ y → (a ≡ b) × (x ≡ y)
 one_colon [] [] x y ha hb e = (refl, cc)
 one_colon [] (q ∷ b) x y ha hb e = let h : 58 ≡ q = cc in absurd (hb.0.2 (sym h))
 one_colon (p ∷ a) [] x y ha hb e = let h : p ≡ 58 = cc in absurd (ha.0.2 h)
@@ -132,24 +132,24 @@ inst_text names set serial t e =
     let m = map_is (λ (name : List ℕ). name ++ colon ∷ decimal serial) (slice_get names.sets set.0) t g.1 in
     record { low = grind (arith, nat_tests, g.0); name = m.0; at = m.1; is = sym m.2 }
 
-pub set_is_plain : (names : Lexicon) (i : ℕ) (name : List ℕ) → IsLexicon names → slice_get names.sets i ≡ Some name → IsPlainWord 32 name
-set_is_plain names i name l e = plain_name name (all_at IsName names.sets i name l.sets.0 e)
+pub set_has_no_colon : (names : Lexicon) (i : ℕ) (name : List ℕ) → IsLexicon names → slice_get names.sets i ≡ Some name → IsWordWithoutColon 32 name
+set_has_no_colon names i name l e = name_without_colon name (all_at IsName names.sets i name l.sets.0 e)
 
--- a name with a colon isn't plain
-pub inst_is_not_plain : (names : Lexicon) (set serial : ℕ) (t : List ℕ) → IsInstText names set serial t → AllByRecursion IsPlain t → ⊥
-inst_is_not_plain names set serial t h p = colon_free h.name (decimal serial) (subst (AllByRecursion IsPlain) h.is p)
+-- a text with a colon is none of a name
+pub inst_has_colon : (names : Lexicon) (set serial : ℕ) (t : List ℕ) → IsInstText names set serial t → AllByRecursion IsNoColon t → ⊥
+inst_has_colon names set serial t h p = colon_free h.name (decimal serial) (subst (AllByRecursion IsNoColon) h.is p)
 
-pub null_is_plain : AllByRecursion IsPlain (codes "null")
-null_is_plain = search arith
+pub null_has_no_colon : AllByRecursion IsNoColon (codes "null")
+null_has_no_colon = search arith
 
-pub env_is_plain : AllByRecursion IsPlain (codes "env")
-env_is_plain = search arith
+pub env_has_no_colon : AllByRecursion IsNoColon (codes "env")
+env_has_no_colon = search arith
 
-pub to_is_plain : AllByRecursion IsPlain (codes "to")
-to_is_plain = search arith
+pub to_has_no_colon : AllByRecursion IsNoColon (codes "to")
+to_has_no_colon = search arith
 
 -- where the first colon stands
-position_of_colon : (name ds : List ℕ) (i : ℕ) → AllByRecursion IsPlain name → position_from (λ b. b == colon) i (name ++ colon ∷ ds) ≡ Some (i + length name)
+position_of_colon : (name ds : List ℕ) (i : ℕ) → AllByRecursion IsNoColon name → position_from (λ b. b == colon) i (name ++ colon ∷ ds) ≡ Some (i + length name)
 position_of_colon [] ds i h = ap Some (omega arith)
 position_of_colon (x ∷ xs) ds i h =
     let other : eqb x 58 ≡ false = grind (arith, nat_tests, h.0.2) in
@@ -159,7 +159,7 @@ colon_is_at : (names : Lexicon) (set serial : ℕ) (t : List ℕ) → IsLexicon 
 colon_is_at names set serial t l h =
     ap (position (λ b. b == colon)) h.is
     ∙ position_from-zero (λ b. b == colon) (h.name ++ colon ∷ decimal serial)
-    ∙ position_of_colon h.name (decimal serial) 0 (set_is_plain names set h.name l h.at).plain
+    ∙ position_of_colon h.name (decimal serial) 0 (set_has_no_colon names set h.name l h.at).no_colon
     ∙ ap Some (omega arith)
 
 -- what has the text of a Pid, and isn't `null` or `env`, has that of an instance, whose name and number stand beside the first colon

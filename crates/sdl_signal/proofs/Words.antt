@@ -18,7 +18,7 @@ use Rattle.sdl_signal.specs.Line.{colon, PidFits, ValueFits, IsInteger, pid_text
 use Rattle.sdl_signal.specs.Reading.{PidNamesFirst, ValueNamesFirst}
 use Rattle.sdl_signal.proofs.Named.{first_is_one}
 use Rattle.sdl_signal.proofs.Numbers.{mag_of_integer}
-use Rattle.sdl_signal.proofs.Texts.{IsGraphic, IsPlain, IsWord, IsPlainWord, IsInstText, inst_text, inst_is_not_plain, set_is_plain, plain_decimal, seen_of_plain, word_of_plain, one_colon, null_is_plain, env_is_plain, to_is_plain, all_append}
+use Rattle.sdl_signal.proofs.Texts.{IsGraphic, IsNoColon, IsWord, IsWordWithoutColon, IsInstText, inst_text, inst_has_colon, set_has_no_colon, no_colon_decimal, seen_without_colon, word_without_colon, one_colon, null_has_no_colon, env_has_no_colon, to_has_no_colon, all_append}
 use Rattle.sdl_signal.proofs.ValueTexts.{texts_of_cons}
 
 -- a field of a value: 1 to 43 bytes that can be seen, and not `to`
@@ -35,18 +35,18 @@ digits_are_not_to ds h e =
     let r = digit_from_value 116 t.0 in
     omega (arith, r.1)
 
-decimal_word : (n : ℕ) → n < 2 ^ 64 → IsPlainWord 20 (decimal n)
-decimal_word n h = plain_decimal 20 n (omega arith) (omega arith) h
+decimal_word : (n : ℕ) → n < 2 ^ 64 → IsWordWithoutColon 20 (decimal n)
+decimal_word n h = no_colon_decimal 20 n (omega arith) (omega arith) h
 
 integer_word : (n : ℤ) → IsInteger n → IsValueWord (signed_decimal n)
 integer_word (pos n) h =
     let m = mag_of_integer (pos n) h in
-    record { word = longer 20 43 (decimal n) (omega arith) (word_of_plain 20 (decimal n) (decimal_word n (omega arith))); other = digits_are_not_to (decimal n) (decimal_is_IsNumeral n (omega arith)).0.1 }
+    record { word = longer 20 43 (decimal n) (omega arith) (word_without_colon 20 (decimal n) (decimal_word n (omega arith))); other = digits_are_not_to (decimal n) (decimal_is_IsNumeral n (omega arith)).0.1 }
 integer_word (negsuc n) h =
     let m = mag_of_integer (negsuc n) h in
     let w = decimal_word (suc n) (omega arith) in
     record {
-      word = record { some = omega arith; few = omega (arith, w.few); seen = ((omega arith, omega arith), seen_of_plain (decimal (suc n)) w.plain) };
+      word = record { some = omega arith; few = omega (arith, w.few); seen = ((omega arith, omega arith), seen_without_colon (decimal (suc n)) w.no_colon) };
       other = λ e. let x = ap (λ l. get_or l 0 0) e in omega (arith, x);
     }
 
@@ -64,15 +64,15 @@ false_word = record { word = record { some = omega arith; few = omega arith; see
 
 inst_word : (names : Lexicon) (set serial : ℕ) (t : List ℕ) → IsLexicon names → serial < 2 ^ 32 → IsInstText names set serial t → IsValueWord t
 inst_word names set serial t l fits h =
-    let name = set_is_plain names set h.name l h.at in
-    let number = plain_decimal 10 serial (omega arith) (omega arith) (omega arith) in
+    let name = set_has_no_colon names set h.name l h.at in
+    let number = no_colon_decimal 10 serial (omega arith) (omega arith) (omega arith) in
     let size = length-append h.name (colon ∷ decimal serial) in
     let long : length (h.name ++ colon ∷ decimal serial) ≤ 43 = omega (arith, size, name.few, number.few) in
     let some : 0 < length (h.name ++ colon ∷ decimal serial) = omega (arith, size) in
-    let seen : AllByRecursion IsGraphic (h.name ++ colon ∷ decimal serial) = all_append IsGraphic h.name (colon ∷ decimal serial) (seen_of_plain h.name name.plain) ((omega arith, omega arith), seen_of_plain (decimal serial) number.plain) in
+    let seen : AllByRecursion IsGraphic (h.name ++ colon ∷ decimal serial) = all_append IsGraphic h.name (colon ∷ decimal serial) (seen_without_colon h.name name.no_colon) ((omega arith, omega arith), seen_without_colon (decimal serial) number.no_colon) in
     record {
       word = subst (IsWord 43) (sym h.is) (record { some = some; few = long; seen = seen });
-      other = λ e. inst_is_not_plain names set serial t h (subst (AllByRecursion IsPlain) (sym e) to_is_plain);
+      other = λ e. inst_has_colon names set serial t h (subst (AllByRecursion IsNoColon) (sym e) to_has_no_colon);
     }
 
 pub pid_word : (names : Lexicon) (p : Pid) (t : List ℕ) → IsLexicon names → PidFits p → pid_text names p ≡ Some t → IsValueWord t
@@ -98,7 +98,7 @@ value_words names (s ∷ sorts) (v ∷ values) texts l fits e =
 -- each text tells its value
 inst_one : (names : Lexicon) (a b : SetId) (m n : ℕ) (t : List ℕ) → IsLexicon names → m < 2 ^ 32 → n < 2 ^ 32 → PidNamesFirst names (pid.Inst a m) → PidNamesFirst names (pid.Inst b n) → IsInstText names a.0 m t → IsInstText names b.0 n t → pid.Inst a m ≡ pid.Inst b n
 inst_one names a b m n t l fm fn ha hb p q =
-    let r = one_colon p.name q.name (decimal m) (decimal n) (set_is_plain names a.0 p.name l p.at).plain (set_is_plain names b.0 q.name l q.at).plain (sym p.is ∙ q.is) in
+    let r = one_colon p.name q.name (decimal m) (decimal n) (set_has_no_colon names a.0 p.name l p.at).no_colon (set_has_no_colon names b.0 q.name l q.at).no_colon (sym p.is ∙ q.is) in
     let number : m ≡ n = decimal_injective m n (omega arith) (omega arith) r.1 in
     let named = ap (option_map (λ (k : List ℕ). k)) (p.at ∙ ap Some r.0 ∙ sym q.at) in
     let set : a.0 ≡ b.0 = first_is_one (λ (k : List ℕ). k) names.sets a.0 b.0 named ha hb in
@@ -109,10 +109,10 @@ pid_one names pid.Null pid.Null t l fp fq hp hq e f = refl
 pid_one names pid.Null pid.Env t l fp fq hp hq e f = let x = ap length (same_Some (codes "null") t e ∙ sym (same_Some (codes "env") t f)) in absurd (omega (arith, x))
 pid_one names pid.Env pid.Null t l fp fq hp hq e f = let x = ap length (same_Some (codes "env") t e ∙ sym (same_Some (codes "null") t f)) in absurd (omega (arith, x))
 pid_one names pid.Env pid.Env t l fp fq hp hq e f = refl
-pid_one names pid.Null (pid.Inst b n) t l fp fq hp hq e f = absurd (inst_is_not_plain names b.0 n t (inst_text names b n t f) (subst (AllByRecursion IsPlain) (same_Some (codes "null") t e) null_is_plain))
-pid_one names pid.Env (pid.Inst b n) t l fp fq hp hq e f = absurd (inst_is_not_plain names b.0 n t (inst_text names b n t f) (subst (AllByRecursion IsPlain) (same_Some (codes "env") t e) env_is_plain))
-pid_one names (pid.Inst a m) pid.Null t l fp fq hp hq e f = absurd (inst_is_not_plain names a.0 m t (inst_text names a m t e) (subst (AllByRecursion IsPlain) (same_Some (codes "null") t f) null_is_plain))
-pid_one names (pid.Inst a m) pid.Env t l fp fq hp hq e f = absurd (inst_is_not_plain names a.0 m t (inst_text names a m t e) (subst (AllByRecursion IsPlain) (same_Some (codes "env") t f) env_is_plain))
+pid_one names pid.Null (pid.Inst b n) t l fp fq hp hq e f = absurd (inst_has_colon names b.0 n t (inst_text names b n t f) (subst (AllByRecursion IsNoColon) (same_Some (codes "null") t e) null_has_no_colon))
+pid_one names pid.Env (pid.Inst b n) t l fp fq hp hq e f = absurd (inst_has_colon names b.0 n t (inst_text names b n t f) (subst (AllByRecursion IsNoColon) (same_Some (codes "env") t e) env_has_no_colon))
+pid_one names (pid.Inst a m) pid.Null t l fp fq hp hq e f = absurd (inst_has_colon names a.0 m t (inst_text names a m t e) (subst (AllByRecursion IsNoColon) (same_Some (codes "null") t f) null_has_no_colon))
+pid_one names (pid.Inst a m) pid.Env t l fp fq hp hq e f = absurd (inst_has_colon names a.0 m t (inst_text names a m t e) (subst (AllByRecursion IsNoColon) (same_Some (codes "env") t f) env_has_no_colon))
 pid_one names (pid.Inst a m) (pid.Inst b n) t l fp fq hp hq e f = inst_one names a b m n t l fp fq hp hq (inst_text names a m t e) (inst_text names b n t f)
 
 boolean_one : (names : Lexicon) (a b : Bool) (t : List ℕ) → value_text names sort.Boolean (value.Boolean a) ≡ Some t → value_text names sort.Boolean (value.Boolean b) ≡ Some t → a ≡ b

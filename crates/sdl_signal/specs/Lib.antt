@@ -1,6 +1,7 @@
 pub mod Names
 pub mod Line
 pub mod Reading
+pub mod Sorts
 pub mod Writing
 pub mod Bytes
 pub mod Source

@@ -11,7 +11,7 @@ use Rattle.sdl_signal.specs.declared.values.Signal.{Signal}
 use Rattle.sdl_signal.specs.declared.values.EnvLine.{EnvLine}
 use Rattle.sdl_signal.specs.declared.reading.LineFault.{LineFault}
 use Rattle.sdl_signal.specs.declared.reading.LineFault.TheVariants.{TooLong, NotAscii, Missing, UnknownGate, UnknownSignal, WrongCount, BadValue, BadTo}
-use Rattle.sdl_signal.specs.Names.{Lexicon, Declared}
+use Rattle.sdl_signal.specs.Names.{Lexicon, DeclaredSignal}
 use Rattle.sdl_signal.specs.Line.{space, PidFits, ValueFits, LineFits, pid_text, value_text, line_text, ◌>>=◌}
 
 -- the line, cut at each space
@@ -31,11 +31,11 @@ abbrev pub value_fields : List (List ℕ) → List (List ℕ)
 value_fields fs = drop 2 (if has_to fs then take (length fs - 2) fs else fs)
 
 -- the first signal of this name
-abbrev pub signal_named : Lexicon → List ℕ → Option Declared
+abbrev pub signal_named : Lexicon → List ℕ → Option DeclaredSignal
 signal_named names text = find (λ s. bytes_eq s.name text) names.signals
 
 -- the signal that the line names
-abbrev pub line_signal : Lexicon → List ℕ → Option Declared
+abbrev pub line_signal : Lexicon → List ℕ → Option DeclaredSignal
 line_signal names line = slice_get (fields line) 1 >>= signal_named names
 
 -- a value of the sort has this text, and a Pid has
@@ -123,5 +123,5 @@ IsReading names text read =
     IfOk read (λ l. (line_text names l ≡ Some text) × NamesFirst names l × LineFits l) × IfErr read (IsFirstFault names text)
 
 -- a signal at a gate, without a TO part
-abbrev pub plain_line : GateId → Signal → EnvLine
-plain_line gate signal = record { gate = gate; signal = signal; to = None }
+abbrev pub line_without_to : GateId → Signal → EnvLine
+line_without_to gate signal = record { gate = gate; signal = signal; to = None }

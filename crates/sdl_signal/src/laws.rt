@@ -6,7 +6,7 @@ ghost use Rattle.sdl_signal.specs.declared.values.Signal.{Signal};
 ghost use Rattle.sdl_signal.specs.declared.reading.LineFault.{LineFault};
 ghost use Rattle.sdl_signal.specs.Line.{LineFits, line_text};
 ghost use Rattle.sdl_signal.specs.Names.{Lexicon, IsLexicon};
-ghost use Rattle.sdl_signal.specs.Reading.{HasDistinctNames, IsFirstFault, IsReading, plain_line};
+ghost use Rattle.sdl_signal.specs.Reading.{HasDistinctNames, IsFirstFault, IsReading, line_without_to};
 
 /// Where the names of each kind differ, a text is that of one line at most, and the text of a line breaks no rule. So what
 /// `read_line` answers to a text that `line_of` wrote is the same gate and the same signal, without a TO part.
@@ -16,5 +16,5 @@ pub fn reading_gives_back_what_was_written()
     ensures no_fault { (names : Lexicon) (l : EnvLine) (text : List ℕ) (fault : LineFault) → IsLexicon names → HasDistinctNames names → LineFits l
         → line_text names l ≡ Some text → ¬ IsFirstFault names text fault }
     ensures back { (names : Lexicon) (gate : GateId) (signal : Signal) (text : List ℕ) (read : Result EnvLine LineFault) → IsLexicon names → HasDistinctNames names
-        → LineFits (plain_line gate signal) → line_text names (plain_line gate signal) ≡ Some text → IsReading names text read → read ≡ Ok (plain_line gate signal) }
+        → LineFits (line_without_to gate signal) → line_text names (line_without_to gate signal) ≡ Some text → IsReading names text read → read ≡ Ok (line_without_to gate signal) }
 {}

@@ -1,5 +1,6 @@
 //! Values, Pids, signals and items.
-ghost use Rattle.std.specs.Prelude.{◌≡◌, pos};
+ghost use Rattle.std.specs.Prelude.{◌≡◌, pos, IsTrue, ◌↔◌};
+ghost use Rattle.sdl_signal.specs.Sorts.{sort_of, AreOfSorts};
 ghost use Rattle.sdl_signal.specs.declared.values.Sort.TheVariants as sort;
 ghost use Rattle.sdl_signal.specs.declared.values.Pid.TheVariants as pid;
 ghost use Rattle.sdl_signal.specs.declared.values.Value.TheVariants as value;
@@ -57,6 +58,31 @@ impl Default for Value {
         ensures { result ≡ value.Integer (pos 0) }
     {
         Value::Integer(0)
+    }
+}
+
+impl Value {
+    /// The sort that it is of.
+    pub fn sort(&self) -> Sort
+        ensures { result ≡ sort_of self.now }
+    {
+        match self {
+            Value::Integer(_) => Sort::Integer,
+            Value::Boolean(_) => Sort::Boolean,
+            Value::Pid(_) => Sort::Pid,
+        }
+    }
+
+    /// Whether the values are of these sorts, one by one.
+    pub fn are_of_sorts(values: &[Value], sorts: &[Sort]) -> bool
+        ensures { IsTrue result ↔ AreOfSorts values.now sorts.now }
+    {
+        match (values, sorts) {
+            ([], []) => true,
+            ([value, values @ ..], [sort, sorts @ ..]) => value.sort() == *sort
+                && Value::are_of_sorts(values, sorts),
+            _ => false,
+        }
     }
 }
 

@@ -1,7 +1,8 @@
 //! A line of the environment, written. (This project's own.)
 ghost use Rattle.std.specs.Prelude.{◌≡◌, ◌≤◌, ◌+◌, ◌*◌, ◌++◌, length, map, IfSome, IsSome};
 ghost use Rattle.sdl_signal.specs.Line.{pid_text, value_text, value_texts, line_text};
-ghost use Rattle.sdl_signal.specs.Writing.{sort_of, spaced};
+ghost use Rattle.sdl_signal.specs.Sorts.{sort_of};
+ghost use Rattle.sdl_signal.specs.Writing.{spaced};
 
 use crate::ids::GateId;
 use crate::naming::Names;

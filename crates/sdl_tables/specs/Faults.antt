@@ -73,8 +73,8 @@ IsDuplicate root p ms = ((p.key ≡ key.Name) × IsTaken root p ms) ⊎ ((kind_o
 abbrev pub NamesUnknown : Members → Place → Members → Type 0
 NamesUnknown root p ms = (name : List ℕ) × (i : ℕ) × HoldsText p.key ms i name × ¬ IsKnown root p (kind_of p.key) name
 
-abbrev pub HasTooMany : Members → Place → Members → Type 0
-HasTooMany root p ms =
+abbrev pub HasTooManyElements : Members → Place → Members → Type 0
+HasTooManyElements root p ms =
     (is_over p.key (length (elements_at p.key ms)) ≡ true)
     ⊎ (((p.key ≡ key.Set) ⊎ (p.key ≡ key.Channel)) × (64 < so_far root p.part p.key p.block))
 
@@ -106,6 +106,6 @@ IsBroken root (faults.UnknownKey p) = HasUnknownKey root p
 IsBroken root (faults.BadName p) = BreaksAt root p HasBadName
 IsBroken root (faults.Duplicate p) = BreaksAt root p (IsDuplicate root)
 IsBroken root (faults.UnknownName p) = BreaksAt root p (NamesUnknown root)
-IsBroken root (faults.TooMany p) = BreaksAt root p (HasTooMany root)
+IsBroken root (faults.TooMany p) = BreaksAt root p (HasTooManyElements root)
 IsBroken root (faults.OutOfRange p) = BreaksAt root p IsOutOfRange
 IsBroken root faults.Memory = ⊤

@@ -4,6 +4,7 @@ ghost use Rattle.sdl_tables.specs.Keys.{part_text, key_text, keys_of, gate_keys,
 ghost use Rattle.sdl_tables.specs.Places.{part_inside, inside};
 
 use crate::place::{Key, Part, Place};
+use sdl_parts::limits::{MOST_BLOCKS, MOST_GATES, MOST_INSTANCES, MOST_PARAMETERS, MOST_SIGNALS};
 
 impl Part {
     /// The part as the text of a fault names it, as `block-gate`.
@@ -153,7 +154,7 @@ impl Key {
         match self {
             Key::Version => 1,
             Key::Budget => 1_000_000,
-            Key::Initial | Key::Maximum => 1024,
+            Key::Initial | Key::Maximum => MOST_INSTANCES,
             _ => 0,
         }
     }
@@ -170,10 +171,10 @@ impl Key {
         ensures { result ≡ is_over self len }
     {
         match self {
-            Key::Signal => len > 64,
-            Key::Block => len > 16,
-            Key::Gate => len > 8,
-            Key::Sorts => len > 4,
+            Key::Signal => len > MOST_SIGNALS,
+            Key::Block => len > MOST_BLOCKS,
+            Key::Gate => len > MOST_GATES,
+            Key::Sorts => len > MOST_PARAMETERS,
             _ => false,
         }
     }

@@ -76,7 +76,7 @@ fn read_sorts(walk: &Walk) -> Result<ArrayVec<Sort, 4>, FileFault>
     let texts = walk.texts(Key::Sorts)?;
     let mut sorts = ArrayVec::new();
     for value in texts {
-        match sort_of(text_of(value)) {
+        match sort_named(text_of(value)) {
             Some(sort) => sorts.push(sort),
             None => return Err(FileFault::UnknownName(walk.at(Key::Sorts))),
         }
@@ -85,7 +85,7 @@ fn read_sorts(walk: &Walk) -> Result<ArrayVec<Sort, 4>, FileFault>
 }
 
 /// The sort that the text names.
-fn sort_of(text: &str) -> Option<Sort>
+fn sort_named(text: &str) -> Option<Sort>
     ensures found { IfSome result (λ s. sort_text s ≡ text.now) }
     ensures none { IfNone result ((s : Sort) → sort_text s ≢ text.now) }
 {

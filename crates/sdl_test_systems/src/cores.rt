@@ -3,7 +3,7 @@ ghost use Rattle.std.specs.Prelude.{◌≡◌, ◌<◌, ◌∷◌, length, IfOk}
 ghost use Rattle.sdl_transition.specs.Bound.{AreOneSystem, IsBound};
 ghost use Rattle.sdl_transition.specs.Rules.{block_rules};
 ghost use Rattle.sdl_instances.specs.Core.{IsBoundIn, IsSound, signals_of, sets_of};
-ghost use Rattle.sdl_instances.specs.Cores.{CanFire, core_of, parts_of, system_in};
+ghost use Rattle.sdl_instances.specs.CoreOf.{CanFire, core_of, parts_of, system_in};
 
 use crate::stop::Stop;
 use sdl_instances::BlockCore;

@@ -11,7 +11,7 @@ use Rattle.sdl_parts.specs.Structure.{Structure, IsStructure}
 use Rattle.sdl_behaviour.specs.declared.behaviour.Kind.TheVariants as kinds
 use Rattle.sdl_behaviour.specs.declared.behaviour.Behaviour.{Behaviour}
 use Rattle.sdl_transition.specs.declared.faults.BindFault.TheVariants.{WrongName, UnknownState}
-use Rattle.sdl_behaviour.specs.Declarations.{Declared, DeclaredRow, declared, declared_row, HasOne}
+use Rattle.sdl_behaviour.specs.Declarations.{DeclaredBehaviour, DeclaredRow, declared_behaviour, declared_row, HasOne}
 use Rattle.sdl_transition.specs.Faults.{FitTogether, HasWrongName, HasUnusedSet, HasUnusedRow, HasUnknownState, HasUnknownRow, IsUsed, IsForRow, name_at}
 use Rattle.sdl_transition.specs.Rules.{RowRule, row_rule}
 use Rattle.sdl_transition.specs.Index.{HasPlace, HasPlaces}
@@ -34,7 +34,7 @@ named_is_within s structure set bytes named =
     ]
 
 -- a behaviour without a wrong name cannot be of another set
-not_outside : (s : Structure) → IsStructure s → (b : Declared) → ¬ HasWrongName s b → ¬ ¬ (block_number s b.set < length s.blocks)
+not_outside : (s : Structure) → IsStructure s → (b : DeclaredBehaviour) → ¬ HasWrongName s b → ¬ ¬ (block_number s b.set < length s.blocks)
 unfolding HasUnusedSet
 not_outside s structure b right outside =
     right (inr (inl (λ used.
@@ -48,19 +48,19 @@ not_outside s structure b right outside =
           (ap (λ n. name_at s kinds.Set n) (sym used.4.1) ∙ ap (λ k. name_at s k used.1.number) (sym used.4.0) ∙ named)),
     )))))
 
-is_within : (s : Structure) → IsStructure s → (b : Declared) → ¬ HasWrongName s b → block_number s b.set < length s.blocks
+is_within : (s : Structure) → IsStructure s → (b : DeclaredBehaviour) → ¬ HasWrongName s b → block_number s b.set < length s.blocks
 is_within s structure b right =
     elim (cases_order (block_number s b.set) (length s.blocks)) [
       | inl same ↦ absurd (not_outside s structure b right (λ lt. omega (arith, same, lt)))
       | inr other ↦ elim other [ inl less ↦ less | inr more ↦ absurd (not_outside s structure b right (λ lt. omega (arith, more, lt))) ]
     ]
 
-pub all_within : {S I : Type 0} {F : I → Type 0} {g : _} (s : Structure) (behaviours : List (Behaviour S I F g)) → IsStructure s → FitTogether s (map declared behaviours)
+pub all_within : {S I : Type 0} {F : I → Type 0} {g : _} (s : Structure) (behaviours : List (Behaviour S I F g)) → IsStructure s → FitTogether s (map declared_behaviour behaviours)
     → All (λ b. block_number s b.set < length s.blocks) behaviours
 all_within s behaviours structure fit k d lt =
-    let b : Declared = declared (get_or behaviours k d) in
-    let at : slice_get (map declared behaviours) k ≡ Some b = slice_get-map declared behaviours k ∙ ap (option_map declared) (slice_get-get_or behaviours k d lt) in
-    is_within s structure b (λ wrong. fit.none (WrongName b.set) (3 ∷ k ∷ 3 ∷ []) (k, refl, own_fault s (map declared behaviours) k b (WrongName b.set) at (refl, wrong)))
+    let b : DeclaredBehaviour = declared_behaviour (get_or behaviours k d) in
+    let at : slice_get (map declared_behaviour behaviours) k ≡ Some b = slice_get-map declared_behaviour behaviours k ∙ ap (option_map declared_behaviour) (slice_get-get_or behaviours k d lt) in
+    is_within s structure b (λ wrong. fit.none (WrongName b.set) (3 ∷ k ∷ 3 ∷ []) (k, refl, own_fault s (map declared_behaviour behaviours) k b (WrongName b.set) at (refl, wrong)))
 
 -- a set of a block is a set of the structure
 set_of_block : (s : Structure) (set : ℕ) → unwrap_or (option_map (λ (t : Set). t.block.0) (slice_get s.sets set)) (length s.blocks) < length s.blocks → set < length s.sets
@@ -91,7 +91,7 @@ signal_within s number bytes named =
     ]
 
 -- the signal of a row of a behaviour without a wrong name
-row_signal : (s : Structure) (b : Declared) (k : ℕ) (d : DeclaredRow) → k < length b.rows → ¬ HasWrongName s b → (get_or b.rows k d).signal.0 < length s.signals
+row_signal : (s : Structure) (b : DeclaredBehaviour) (k : ℕ) (d : DeclaredRow) → k < length b.rows → ¬ HasWrongName s b → (get_or b.rows k d).signal.0 < length s.signals
 unfolding HasUnusedRow
 row_signal s b k d lt right =
     below (get_or b.rows k d).signal.0 (length s.signals) (λ outside.
@@ -106,7 +106,7 @@ row_signal s b k d lt right =
     ))))))))
 
 -- and its state
-row_state : (b : Declared) (k : ℕ) (d : DeclaredRow) → k < length b.rows → ¬ HasUnknownState b → (get_or b.rows k d).state.0 < b.states
+row_state : (b : DeclaredBehaviour) (k : ℕ) (d : DeclaredRow) → k < length b.rows → ¬ HasUnknownState b → (get_or b.rows k d).state.0 < b.states
 unfolding HasUnknownRow
 row_state b k d lt right =
     elim (cases_order (get_or b.rows k d).state.0 b.states) [
@@ -118,7 +118,7 @@ row_state b k d lt right =
     ]
 
 -- the rows as the index sees them
-rows_within : {S I : Type 0} {F : I → Type 0} {g : _} (s : Structure) → IsStructure s → (b : Behaviour S I F g) → ¬ HasWrongName s (declared b) → ¬ HasUnknownState (declared b)
+rows_within : {S I : Type 0} {F : I → Type 0} {g : _} (s : Structure) → IsStructure s → (b : Behaviour S I F g) → ¬ HasWrongName s (declared_behaviour b) → ¬ HasUnknownState (declared_behaviour b)
     → All (HasPlace (length b.states.items)) (map row_rule b.rows.items)
 rows_within {S = S} {I = I} {F = F} {g = g} s structure b right known k d lt =
     elim (slice_get_cases b.rows.items k).1 [
@@ -128,23 +128,23 @@ rows_within {S = S} {I = I} {F = F} {g = g} s structure b right known k d lt =
           = get_or-map declared_row b.rows.items k there.0 (declared_row there.0) there.1 in
           let long : k < length (map declared_row b.rows.items) = omega (arith, there.1, length-map b.rows.items (declared_row {S = S} {I = I} {F = F} {g = g})) in
           let state : (get_or (map declared_row b.rows.items) k (declared_row there.0)).state.0 < length b.states.items
-          = row_state (declared b) k (declared_row there.0) long known in
+          = row_state (declared_behaviour b) k (declared_row there.0) long known in
           let signal : (get_or (map declared_row b.rows.items) k (declared_row there.0)).signal.0 < length s.signals
-          = row_signal s (declared b) k (declared_row there.0) long right in (
+          = row_signal s (declared_behaviour b) k (declared_row there.0) long right in (
             omega (arith, ap (λ (r : RowRule). r.state.0) at, ap (λ (r : DeclaredRow). r.state.0) same, state),
             omega (arith, ap (λ (r : RowRule). r.signal.0) at, ap (λ (r : DeclaredRow). r.signal.0) same, signal, structure.few_signals),
           )
       | inr past ↦ absurd (omega (arith, past.0, lt, length-map b.rows.items (row_rule {S = S} {I = I} {F = F} {g = g})))
     ]
 
-pub all_have_places : {S I : Type 0} {F : I → Type 0} {g : _} (s : Structure) (behaviours : List (Behaviour S I F g)) → IsStructure s → FitTogether s (map declared behaviours)
+pub all_have_places : {S I : Type 0} {F : I → Type 0} {g : _} (s : Structure) (behaviours : List (Behaviour S I F g)) → IsStructure s → FitTogether s (map declared_behaviour behaviours)
     → All HasPlaces behaviours
 all_have_places s behaviours structure fit k d lt =
-    let b : Declared = declared (get_or behaviours k d) in
-    let at : slice_get (map declared behaviours) k ≡ Some b = slice_get-map declared behaviours k ∙ ap (option_map declared) (slice_get-get_or behaviours k d lt) in
+    let b : DeclaredBehaviour = declared_behaviour (get_or behaviours k d) in
+    let at : slice_get (map declared_behaviour behaviours) k ≡ Some b = slice_get-map declared_behaviour behaviours k ∙ ap (option_map declared_behaviour) (slice_get-get_or behaviours k d lt) in
     record {
       set = omega (arith, set_of_block s b.set.0 (all_within s behaviours structure fit k d lt), structure.few_sets);
       rows = rows_within s structure (get_or behaviours k d)
-          (λ wrong. fit.none (WrongName b.set) (3 ∷ k ∷ 3 ∷ []) (k, refl, own_fault s (map declared behaviours) k b (WrongName b.set) at (refl, wrong)))
-          (λ wrong. fit.none (UnknownState b.set) (3 ∷ k ∷ 6 ∷ []) (k, refl, own_fault s (map declared behaviours) k b (UnknownState b.set) at (refl, wrong)));
+          (λ wrong. fit.none (WrongName b.set) (3 ∷ k ∷ 3 ∷ []) (k, refl, own_fault s (map declared_behaviour behaviours) k b (WrongName b.set) at (refl, wrong)))
+          (λ wrong. fit.none (UnknownState b.set) (3 ∷ k ∷ 6 ∷ []) (k, refl, own_fault s (map declared_behaviour behaviours) k b (UnknownState b.set) at (refl, wrong)));
     }

@@ -6,11 +6,11 @@ use Rattle.sdl_signal.specs.declared.values.Sort.{Sort}
 use Rattle.sdl_parts.specs.declared.parts.Gate.{Gate}
 use Rattle.sdl_parts.specs.declared.parts.Owner.TheVariants as owner
 use Rattle.sdl_parts.specs.Structure.{Structure}
-use Rattle.sdl_routes.specs.declared.parts.Via.TheVariants as via
+use Rattle.sdl_routes.specs.declared.route.Via.TheVariants as via
 use Rattle.sdl_behaviour.specs.declared.behaviour.Kind.TheVariants as kind
 use Rattle.sdl_transition.specs.declared.faults.BindFault.TheVariants.{NoBehaviour, TwoBehaviours}
 use Rattle.sdl_behaviour.specs.declared.offer.Offer.{Offer}
-use Rattle.sdl_behaviour.specs.Declarations.{Declared, SomeOffer}
+use Rattle.sdl_behaviour.specs.Declarations.{DeclaredBehaviour, SomeOffer}
 use Rattle.sdl_transition.specs.Faults.{AppliesAt, IsFirstFault, HasWrongName, HasUnusedNumber, HasUnknownState, HasUnknownRow, HasWrongSorts, HasOtherSorts, HasTwoRows}
 use Rattle.sdl_transition.proofs.Firsts.{missing_first}
 
@@ -64,7 +64,7 @@ ping_offer state s = record {
   sets = 1;
 }
 
-abbrev pub echo_behaviour : ℕ → ℕ → Sort → Declared
+abbrev pub echo_behaviour : ℕ → ℕ → Sort → DeclaredBehaviour
 echo_behaviour sets state s = record {
   set = record { 0 = 0 };
   uses =
@@ -82,7 +82,7 @@ pub none_at_all : IsFirstFault echo [] (NoBehaviour (record { 0 = 0 }))
 none_at_all = missing_first echo [] (record { 0 = 0 }) (omega arith) (λ has. has) (λ set lt. absurd (omega arith))
 
 -- set 0 twice
-pub twice : (b : Declared) → b.set ≡ record { 0 = 0 } → AppliesAt echo (b ∷ b ∷ []) (TwoBehaviours (record { 0 = 0 })) (2 ∷ 0 ∷ [])
+pub twice : (b : DeclaredBehaviour) → b.set ≡ record { 0 = 0 } → AppliesAt echo (b ∷ b ∷ []) (TwoBehaviours (record { 0 = 0 })) (2 ∷ 0 ∷ [])
 twice b is = (refl, omega arith, inl (is, inl is))
 
 -- an offer with two sets
@@ -101,5 +101,5 @@ unfolding SomeOffer HasOtherSorts
 other_sort = inr (inr (inl (inr (inl (λ same. cc)))))
 
 -- the row for idle and `ping` twice
-pub row_twice : (b : Declared) → HasTwoRows (record b { rows = record { state = record { 0 = 0 }; signal = record { 0 = 0 }; offer = ping_offer 0 sort.Integer } ∷ record { state = record { 0 = 0 }; signal = record { 0 = 0 }; offer = ping_offer 0 sort.Integer } ∷ [] })
+pub row_twice : (b : DeclaredBehaviour) → HasTwoRows (record b { rows = record { state = record { 0 = 0 }; signal = record { 0 = 0 }; offer = ping_offer 0 sort.Integer } ∷ record { state = record { 0 = 0 }; signal = record { 0 = 0 }; offer = ping_offer 0 sort.Integer } ∷ [] })
 row_twice b = inl (inl (refl, refl))

@@ -11,8 +11,8 @@ use Rattle.sdl_parts.specs.declared.parts.Set.{Set}
 use Rattle.sdl_parts.specs.declared.parts.Channel.{Channel}
 use Rattle.sdl_parts.specs.declared.parts.SignalDecl.{SignalDecl}
 use Rattle.sdl_parts.specs.Structure.{Structure, set_at, gate_at}
-use Rattle.sdl_routes.specs.declared.parts.Via.{Via}
-use Rattle.sdl_routes.specs.declared.parts.Via.TheVariants as via
+use Rattle.sdl_routes.specs.declared.route.Via.{Via}
+use Rattle.sdl_routes.specs.declared.route.Via.TheVariants as via
 use Rattle.sdl_parts.specs.Order.{IsBefore}
 use Rattle.sdl_behaviour.specs.declared.behaviour.Kind.{Kind}
 use Rattle.sdl_behaviour.specs.declared.behaviour.Kind.TheVariants as kind
@@ -22,14 +22,14 @@ use Rattle.sdl_transition.specs.declared.faults.BindFault.TheVariants.{NoBehavio
 use Rattle.sdl_behaviour.specs.declared.offer.Offer.{Offer}
 use Rattle.sdl_behaviour.specs.declared.offer.OfferedOutput.{OfferedOutput}
 use Rattle.sdl_behaviour.specs.declared.offer.SignalSorts.{SignalSorts}
-use Rattle.sdl_behaviour.specs.Offers.{AreOfSorts}
-use Rattle.sdl_behaviour.specs.Declarations.{Declared, DeclaredRow, SomeOffer, HasOne, HasTwo}
+use Rattle.sdl_signal.specs.Sorts.{AreOfSorts}
+use Rattle.sdl_behaviour.specs.Declarations.{DeclaredBehaviour, DeclaredRow, SomeOffer, HasOne, HasTwo}
 
 -- B1 and B2: the behaviours of a set
-abbrev pub HasBehaviour : List Declared → SetId → Type 0
+abbrev pub HasBehaviour : List DeclaredBehaviour → SetId → Type 0
 HasBehaviour behaviours set = HasOne (λ b. b.set ≡ set) behaviours
 
-abbrev pub HasTwoBehaviours : List Declared → SetId → Type 0
+abbrev pub HasTwoBehaviours : List DeclaredBehaviour → SetId → Type 0
 HasTwoBehaviours [] set = ⊥
 HasTwoBehaviours (b ∷ behaviours) set = ((b.set ≡ set) × HasBehaviour behaviours set) ⊎ HasTwoBehaviours behaviours set
 
@@ -66,13 +66,13 @@ HasUnusedNumber s uses offer =
     ⊎ Any (IsUnusedOutput uses) offer.outputs.items
     ⊎ Any (λ set. ¬ IsUsed uses kind.Set set.0) offer.creates.items
 
-unfoldable pub HasUnusedSet : Declared → Type 0
+unfoldable pub HasUnusedSet : DeclaredBehaviour → Type 0
 HasUnusedSet b = ¬ IsUsed b.uses kind.Set b.set.0
 
-unfoldable pub HasUnusedRow : Declared → Type 0
+unfoldable pub HasUnusedRow : DeclaredBehaviour → Type 0
 HasUnusedRow b = HasOne (λ row. ¬ IsUsed b.uses kind.Signal row.signal.0) b.rows
 
-abbrev pub HasWrongName : Structure → Declared → Type 0
+abbrev pub HasWrongName : Structure → DeclaredBehaviour → Type 0
 HasWrongName s b =
     Any (λ named. ¬ IsNamedSo s named) b.uses
     ⊎ HasUnusedSet b
@@ -86,7 +86,7 @@ LetsOut set signal gate = (gate.owner ≡ owner.Set set) × Contains gate.outwar
 unfoldable pub OffersUndeclared : Structure → SetId → Offer → Type 0
 OffersUndeclared s set offer = Any (λ output. ¬ Any (LetsOut set output.signal.id) s.gates) offer.outputs.items
 
-abbrev pub HasUndeclaredOutput : Structure → Declared → Type 0
+abbrev pub HasUndeclaredOutput : Structure → DeclaredBehaviour → Type 0
 HasUndeclaredOutput s b = SomeOffer (OffersUndeclared s b.set) b
 
 -- B5: an output by way of a gate that is not the set's, or whose outward list lacks the signal
@@ -98,7 +98,7 @@ IsBadGate s set signal (via.Channel channel) = ⊥
 unfoldable pub OffersBadGate : Structure → SetId → Offer → Type 0
 OffersBadGate s set offer = Any (λ output. IsBadGate s set output.signal.id output.via) offer.outputs.items
 
-abbrev pub HasUndeclaredGate : Structure → Declared → Type 0
+abbrev pub HasUndeclaredGate : Structure → DeclaredBehaviour → Type 0
 HasUndeclaredGate s b = SomeOffer (OffersBadGate s b.set) b
 
 -- B6: a state past the list, a row with an offer for another state or signal, or a start with an offer for one
@@ -111,10 +111,10 @@ IsForRow row = (row.offer.state ≡ Some row.state) × IsSomeAnd row.offer.signa
 unfoldable pub OffersUnknownState : ℕ → Offer → Type 0
 OffersUnknownState states offer = Any (λ state. states ≤ state.0) offer.nexts.items
 
-unfoldable pub HasUnknownRow : Declared → Type 0
+unfoldable pub HasUnknownRow : DeclaredBehaviour → Type 0
 HasUnknownRow b = HasOne (λ row. (b.states ≤ row.state.0) ⊎ ¬ IsForRow row) b.rows
 
-abbrev pub HasUnknownState : Declared → Type 0
+abbrev pub HasUnknownState : DeclaredBehaviour → Type 0
 HasUnknownState b =
     ¬ IsForStart b.start
     ⊎ HasUnknownRow b
@@ -139,7 +139,7 @@ HasOtherSorts s vars offer =
     ⊎ HasOtherSignal s offer.signal
     ⊎ Any (λ output. ¬ HasItsSorts s output.signal) offer.outputs.items
 
-abbrev pub HasWrongSorts : Structure → Declared → Type 0
+abbrev pub HasWrongSorts : Structure → DeclaredBehaviour → Type 0
 HasWrongSorts s b = Any IsSetPid b.vars ⊎ SomeOffer (HasOtherSorts s b.vars) b
 
 -- B8: a create of a set of another block
@@ -149,18 +149,18 @@ IsInBlockOf s own set = IsSomeAnd (set_at s own) (λ t. IsSomeAnd (set_at s set)
 unfoldable pub OffersCreateElsewhere : Structure → SetId → Offer → Type 0
 OffersCreateElsewhere s own offer = Any (λ set. ¬ IsInBlockOf s own set) offer.creates.items
 
-abbrev pub HasCreateElsewhere : Structure → Declared → Type 0
+abbrev pub HasCreateElsewhere : Structure → DeclaredBehaviour → Type 0
 HasCreateElsewhere s b = SomeOffer (OffersCreateElsewhere s b.set) b
 
 -- B9: two rows for one state and signal
 abbrev pub IsSameRow : DeclaredRow → DeclaredRow → Type 0
 IsSameRow a b = (a.state ≡ b.state) × (a.signal ≡ b.signal)
 
-abbrev pub HasTwoRows : Declared → Type 0
+abbrev pub HasTwoRows : DeclaredBehaviour → Type 0
 HasTwoRows b = HasTwo IsSameRow b.rows
 
 -- the behaviour has the fault
-abbrev pub IsFaultOf : Structure → Declared → BindFault → Type 0
+abbrev pub IsFaultOf : Structure → DeclaredBehaviour → BindFault → Type 0
 IsFaultOf s b (NoBehaviour set) = ⊥
 IsFaultOf s b (TwoBehaviours set) = ⊥
 IsFaultOf s b (WrongName set) = (set ≡ b.set) × HasWrongName s b
@@ -186,16 +186,16 @@ fault_number Memory = 10
 
 -- The fault applies at the place. First come the sets without a behaviour, then those with two, and then the behaviours
 -- in the list's order, each with its faults by number.
-abbrev pub AppliesAt : Structure → List Declared → BindFault → List ℕ → Type 0
+abbrev pub AppliesAt : Structure → List DeclaredBehaviour → BindFault → List ℕ → Type 0
 AppliesAt s bs (NoBehaviour set) place = (place ≡ 1 ∷ set.0 ∷ []) × (set.0 < length s.sets) × ¬ HasBehaviour bs set
 AppliesAt s bs (TwoBehaviours set) place = (place ≡ 2 ∷ set.0 ∷ []) × (set.0 < length s.sets) × HasTwoBehaviours bs set
 AppliesAt s bs fault place =
     (k : ℕ) × (place ≡ 3 ∷ k ∷ fault_number fault ∷ []) × IsSomeAnd (slice_get bs k) (λ b. IsFaultOf s b fault)
 
 -- no fault applies
-pub record FitTogether (s : Structure) (bs : List Declared) : Type 0 where
+pub record FitTogether (s : Structure) (bs : List DeclaredBehaviour) : Type 0 where
   pub none : (fault : BindFault) (place : List ℕ) → ¬ AppliesAt s bs fault place
 
 -- the fault applies, and none before it does
-pub record IsFirstFault (s : Structure) (bs : List Declared) (fault : BindFault) : Type 0 where
+pub record IsFirstFault (s : Structure) (bs : List DeclaredBehaviour) (fault : BindFault) : Type 0 where
   pub applies : (place : List ℕ) × AppliesAt s bs fault place × ((other : BindFault) (there : List ℕ) → AppliesAt s bs other there → ¬ IsBefore there place)

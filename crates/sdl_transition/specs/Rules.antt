@@ -8,7 +8,7 @@ use Rattle.sdl_behaviour.specs.declared.offer.Offer.{Offer}
 use Rattle.sdl_behaviour.specs.declared.transition.Transition.{Transition}
 use Rattle.sdl_behaviour.specs.declared.behaviour.Row.{Row}
 use Rattle.sdl_behaviour.specs.declared.behaviour.Behaviour.{Behaviour}
-use Rattle.sdl_transition.specs.declared.parts.BlockParts.{BlockParts}
+use Rattle.sdl_transition.specs.declared.block_parts.BlockParts.{BlockParts}
 
 -- a transition by its number and its offer
 pub record Rule : Type 0 where

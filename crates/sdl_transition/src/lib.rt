@@ -2,17 +2,17 @@
 #![tactic(auto)]
 
 pub mod binding;
+pub mod block_parts;
 mod blocks;
 pub mod faults;
+mod first_fault;
 mod index;
-pub mod parts;
 mod probes;
 mod rules;
-mod stages;
 
 pub use binding::{Bound, Unbound, bind};
+pub use block_parts::BlockParts;
 pub use faults::BindFault;
-pub use parts::BlockParts;
 pub use sdl_behaviour::{
     Action, Agents, Behaviour, Dest, Frame, Kind, Named, Next, Offer, OfferedOutput, Row, Run,
     SignalSorts, Step, Transition, Via,

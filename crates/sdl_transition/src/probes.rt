@@ -1,7 +1,6 @@
 //! Whether an offer has a fault against a structure.
 ghost use Rattle.std.specs.Prelude.{◌≡◌, ◌≢◌, ◌<◌, ◌≤◌, IsTrue, ◌↔◌, Any, length, option_map, Contains, IsSomeAnd};
-ghost use Rattle.sdl_behaviour.specs.Offers.{AreOfSorts};
-ghost use Rattle.sdl_behaviour.specs.Offers as sorting;
+ghost use Rattle.sdl_signal.specs.Sorts.{AreOfSorts};
 ghost use Rattle.sdl_behaviour.specs.declared.behaviour.Kind.TheVariants as kinds;
 ghost use Rattle.sdl_transition.specs.Faults.{name_at, IsNamedSo, IsUsed, IsViaUsed, HasUnusedSignal, IsUnusedOutput, HasUnusedNumber, LetsOut, OffersUndeclared, IsBadGate, OffersBadGate, IsForStart, OffersUnknownState, IsSetPid, HasItsSorts, HasOtherSignal, HasOtherSorts, IsInBlockOf, OffersCreateElsewhere};
 
@@ -215,31 +214,9 @@ fn has_other_output(structure: &Structure, outputs: &[OfferedOutput]) -> bool
 pub fn has_other_sorts(structure: &Structure, vars: &[Value], offer: &Offer) -> bool
     ensures { IsTrue result ↔ HasOtherSorts structure.now vars.now offer.now }
 {
-    !are_of_sorts(vars, offer.vars.as_slice())
+    !Value::are_of_sorts(vars, offer.vars.as_slice())
         || has_other_signal(structure, &offer.signal)
         || has_other_output(structure, offer.outputs.as_slice())
-}
-
-fn sort_of(value: &Value) -> Sort
-    ensures { result ≡ sorting.sort_of value.now }
-{
-    match value {
-        Value::Integer(_) => Sort::Integer,
-        Value::Boolean(_) => Sort::Boolean,
-        Value::Pid(_) => Sort::Pid,
-    }
-}
-
-/// Whether the values are of these sorts, one by one.
-fn are_of_sorts(values: &[Value], sorts: &[Sort]) -> bool
-    ensures { IsTrue result ↔ AreOfSorts values.now sorts.now }
-{
-    match (values, sorts) {
-        ([], []) => true,
-        ([value, values @ ..], [sort, sorts @ ..]) => sort_of(value) == *sort
-            && are_of_sorts(values, sorts),
-        _ => false,
-    }
 }
 
 fn is_in_block_of(structure: &Structure, own: SetId, set: SetId) -> bool

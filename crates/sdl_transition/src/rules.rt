@@ -1,7 +1,7 @@
 //! Whether a behaviour has a fault against a structure.
 ghost use Rattle.std.specs.Prelude.{◌≡◌, ◌≤◌, IsTrue, ◌↔◌, ◌⊎◌, Any, map};
 ghost use Rattle.sdl_behaviour.specs.declared.behaviour.Kind.TheVariants as kinds;
-ghost use Rattle.sdl_behaviour.specs.Declarations.{declared, declared_row, HasOne, HasTwo, SomeOffer};
+ghost use Rattle.sdl_behaviour.specs.Declarations.{declared_behaviour, declared_row, HasOne, HasTwo, SomeOffer};
 ghost use Rattle.sdl_transition.specs.Faults.{IsNamedSo, IsUsed, HasUnusedNumber, HasUnusedSet, HasUnusedRow, HasWrongName, OffersUndeclared, HasUndeclaredOutput, OffersBadGate, HasUndeclaredGate, IsForRow, OffersUnknownState, HasUnknownRow, HasUnknownState, HasOtherSorts, HasWrongSorts, OffersCreateElsewhere, HasCreateElsewhere, IsSameRow, HasTwoRows};
 
 use crate::probes::{
@@ -141,7 +141,7 @@ fn has_two_rows<S>(rows: &[Row<S>]) -> bool
 /// Whether an offer has a number that is in no use.
 #[tactic(auto, unfolding(sdl_behaviour::specs::Declarations::SomeOffer))]
 fn some_numbers<S>(structure: &Structure, uses: &[Named], behaviour: &Behaviour<S>) -> bool
-    ensures { IsTrue result ↔ SomeOffer (HasUnusedNumber structure.now uses.now) (declared behaviour.now) }
+    ensures { IsTrue result ↔ SomeOffer (HasUnusedNumber structure.now uses.now) (declared_behaviour behaviour.now) }
 {
     has_unused_number(structure, uses, &behaviour.start.offer)
         || has_unused_row_number(structure, uses, behaviour.rows.as_slice())
@@ -150,7 +150,7 @@ fn some_numbers<S>(structure: &Structure, uses: &[Named], behaviour: &Behaviour<
 /// Whether an offer has an output that no gate of the set lets out.
 #[tactic(auto, unfolding(sdl_behaviour::specs::Declarations::SomeOffer))]
 fn some_outputs<S>(structure: &Structure, set: SetId, behaviour: &Behaviour<S>) -> bool
-    ensures { IsTrue result ↔ SomeOffer (OffersUndeclared structure.now set) (declared behaviour.now) }
+    ensures { IsTrue result ↔ SomeOffer (OffersUndeclared structure.now set) (declared_behaviour behaviour.now) }
 {
     has_undeclared_output(structure, set, &behaviour.start.offer)
         || has_undeclared_row_output(structure, set, behaviour.rows.as_slice())
@@ -159,7 +159,7 @@ fn some_outputs<S>(structure: &Structure, set: SetId, behaviour: &Behaviour<S>) 
 /// Whether an offer has an output by way of a gate that does not let it out.
 #[tactic(auto, unfolding(sdl_behaviour::specs::Declarations::SomeOffer))]
 fn some_gates<S>(structure: &Structure, set: SetId, behaviour: &Behaviour<S>) -> bool
-    ensures { IsTrue result ↔ SomeOffer (OffersBadGate structure.now set) (declared behaviour.now) }
+    ensures { IsTrue result ↔ SomeOffer (OffersBadGate structure.now set) (declared_behaviour behaviour.now) }
 {
     has_undeclared_gate(structure, set, &behaviour.start.offer)
         || has_undeclared_row_gate(structure, set, behaviour.rows.as_slice())
@@ -168,7 +168,7 @@ fn some_gates<S>(structure: &Structure, set: SetId, behaviour: &Behaviour<S>) ->
 /// Whether an offer has a next state past the list.
 #[tactic(auto, unfolding(sdl_behaviour::specs::Declarations::SomeOffer))]
 fn some_nexts<S>(states: usize, behaviour: &Behaviour<S>) -> bool
-    ensures { IsTrue result ↔ SomeOffer (OffersUnknownState states) (declared behaviour.now) }
+    ensures { IsTrue result ↔ SomeOffer (OffersUnknownState states) (declared_behaviour behaviour.now) }
 {
     has_unknown_next(states, &behaviour.start.offer)
         || has_unknown_row_next(states, behaviour.rows.as_slice())
@@ -177,7 +177,7 @@ fn some_nexts<S>(states: usize, behaviour: &Behaviour<S>) -> bool
 /// Whether an offer has other sorts than the structure or the variables.
 #[tactic(auto, unfolding(sdl_behaviour::specs::Declarations::SomeOffer))]
 fn some_sorts<S>(structure: &Structure, vars: &[Value], behaviour: &Behaviour<S>) -> bool
-    ensures { IsTrue result ↔ SomeOffer (HasOtherSorts structure.now vars.now) (declared behaviour.now) }
+    ensures { IsTrue result ↔ SomeOffer (HasOtherSorts structure.now vars.now) (declared_behaviour behaviour.now) }
 {
     has_other_sorts(structure, vars, &behaviour.start.offer)
         || has_other_row_sorts(structure, vars, behaviour.rows.as_slice())
@@ -186,7 +186,7 @@ fn some_sorts<S>(structure: &Structure, vars: &[Value], behaviour: &Behaviour<S>
 /// Whether an offer has a create of a set of another block.
 #[tactic(auto, unfolding(sdl_behaviour::specs::Declarations::SomeOffer))]
 fn some_creates<S>(structure: &Structure, set: SetId, behaviour: &Behaviour<S>) -> bool
-    ensures { IsTrue result ↔ SomeOffer (OffersCreateElsewhere structure.now set) (declared behaviour.now) }
+    ensures { IsTrue result ↔ SomeOffer (OffersCreateElsewhere structure.now set) (declared_behaviour behaviour.now) }
 {
     has_create_elsewhere(structure, set, &behaviour.start.offer)
         || has_row_create_elsewhere(structure, set, behaviour.rows.as_slice())
@@ -194,28 +194,28 @@ fn some_creates<S>(structure: &Structure, set: SetId, behaviour: &Behaviour<S>) 
 
 #[tactic(auto, unfolding(crate::specs::Faults::HasUnusedSet))]
 fn has_unused_set<S>(behaviour: &Behaviour<S>) -> bool
-    ensures { IsTrue result ↔ HasUnusedSet (declared behaviour.now) }
+    ensures { IsTrue result ↔ HasUnusedSet (declared_behaviour behaviour.now) }
 {
     !is_used(behaviour.uses.as_slice(), Kind::Set, behaviour.set.0)
 }
 
 #[tactic(auto, unfolding(crate::specs::Faults::HasUnusedRow))]
 fn has_unused_row<S>(behaviour: &Behaviour<S>) -> bool
-    ensures { IsTrue result ↔ HasUnusedRow (declared behaviour.now) }
+    ensures { IsTrue result ↔ HasUnusedRow (declared_behaviour behaviour.now) }
 {
     has_unused_row_signal(behaviour.uses.as_slice(), behaviour.rows.as_slice())
 }
 
 #[tactic(auto, unfolding(crate::specs::Faults::HasUnknownRow))]
 fn has_wrong_row<S>(behaviour: &Behaviour<S>) -> bool
-    ensures { IsTrue result ↔ HasUnknownRow (declared behaviour.now) }
+    ensures { IsTrue result ↔ HasUnknownRow (declared_behaviour behaviour.now) }
 {
     has_unknown_row(behaviour.states.len(), behaviour.rows.as_slice())
 }
 
 /// Whether a number is used under another name or none, or an offer has another number of sets than the structure.
 pub fn has_wrong_name<S>(structure: &Structure, behaviour: &Behaviour<S>) -> bool
-    ensures { IsTrue result ↔ HasWrongName structure.now (declared behaviour.now) }
+    ensures { IsTrue result ↔ HasWrongName structure.now (declared_behaviour behaviour.now) }
 {
     let uses = behaviour.uses.as_slice();
     has_misnamed_use(structure, uses)
@@ -226,21 +226,21 @@ pub fn has_wrong_name<S>(structure: &Structure, behaviour: &Behaviour<S>) -> boo
 
 /// Whether an offered signal is let out by no gate of the set.
 pub fn offers_undeclared<S>(structure: &Structure, behaviour: &Behaviour<S>) -> bool
-    ensures { IsTrue result ↔ HasUndeclaredOutput structure.now (declared behaviour.now) }
+    ensures { IsTrue result ↔ HasUndeclaredOutput structure.now (declared_behaviour behaviour.now) }
 {
     some_outputs(structure, behaviour.set, behaviour)
 }
 
 /// Whether an offered output goes by way of a gate that does not let it out for the set.
 pub fn offers_bad_gate<S>(structure: &Structure, behaviour: &Behaviour<S>) -> bool
-    ensures { IsTrue result ↔ HasUndeclaredGate structure.now (declared behaviour.now) }
+    ensures { IsTrue result ↔ HasUndeclaredGate structure.now (declared_behaviour behaviour.now) }
 {
     some_gates(structure, behaviour.set, behaviour)
 }
 
 /// Whether a state is past the list, or a start or a row has an offer for another state or signal.
 pub fn has_unknown_state<S>(behaviour: &Behaviour<S>) -> bool
-    ensures { IsTrue result ↔ HasUnknownState (declared behaviour.now) }
+    ensures { IsTrue result ↔ HasUnknownState (declared_behaviour behaviour.now) }
 {
     !is_for_start(&behaviour.start.offer)
         || has_wrong_row(behaviour)
@@ -249,7 +249,7 @@ pub fn has_unknown_state<S>(behaviour: &Behaviour<S>) -> bool
 
 /// Whether a signal or the variables have other sorts, or an initial Pid is not Null.
 pub fn has_wrong_sorts<S>(structure: &Structure, behaviour: &Behaviour<S>) -> bool
-    ensures { IsTrue result ↔ HasWrongSorts structure.now (declared behaviour.now) }
+    ensures { IsTrue result ↔ HasWrongSorts structure.now (declared_behaviour behaviour.now) }
 {
     let vars = behaviour.vars.as_slice();
     has_set_pid(vars) || some_sorts(structure, vars, behaviour)
@@ -257,14 +257,14 @@ pub fn has_wrong_sorts<S>(structure: &Structure, behaviour: &Behaviour<S>) -> bo
 
 /// Whether an offered create is of a set of another block.
 pub fn offers_create_elsewhere<S>(structure: &Structure, behaviour: &Behaviour<S>) -> bool
-    ensures { IsTrue result ↔ HasCreateElsewhere structure.now (declared behaviour.now) }
+    ensures { IsTrue result ↔ HasCreateElsewhere structure.now (declared_behaviour behaviour.now) }
 {
     some_creates(structure, behaviour.set, behaviour)
 }
 
 /// Whether two rows are for one state and signal.
 pub fn has_same_rows<S>(behaviour: &Behaviour<S>) -> bool
-    ensures { IsTrue result ↔ HasTwoRows (declared behaviour.now) }
+    ensures { IsTrue result ↔ HasTwoRows (declared_behaviour behaviour.now) }
 {
     has_two_rows(behaviour.rows.as_slice())
 }

@@ -29,7 +29,7 @@ pub fn kill_offer(sets: u32) -> Offer
 }
 
 /// The offer of the row for `hello`.
-pub fn birth_offer(sets: u32) -> Offer
+pub fn born_offer(sets: u32) -> Offer
     ensures offer { IsIdleOffer sets (Some (sorted 3 [])) (offered 7 (sort.Pid ∷ []) ∷ []) [] result }
     ensures outputs { OffersOne 7 (sort.Pid ∷ []) result }
 {

@@ -8,6 +8,7 @@ ghost use Rattle.sdl_structure.specs.Drafts.{HasSignals, HasBlocks, HasSets, IsS
 
 use super::draft::Draft;
 use super::gates::read_gates;
+use sdl_parts::limits::{MOST_INSTANCES, MOST_SETS};
 use sdl_parts::{Block, Owner, Scope, Set};
 use sdl_signal::{BlockId, SetId};
 use sdl_tables::{FileFault, Key, Part, Walk};
@@ -71,7 +72,7 @@ impl Draft {
         ensures fault { IfErr result (IsBroken (file_of walk.now)) }
     {
         let tables = walk.some_tables(Key::Set)?;
-        if self.sets.len() + tables.len() > 64 {
+        if self.sets.len() + tables.len() > MOST_SETS {
             return Err(FileFault::TooMany(walk.at(Key::Set)));
         }
         for (index, value) in tables.iter().enumerate() {
@@ -92,7 +93,7 @@ impl Draft {
     {
         let name = walk.new_name(&mut self.agent_names)?;
         let initial = walk.integer_or(Key::Initial, 1)? as u32;
-        let maximum = walk.integer_or(Key::Maximum, 1024)? as u32;
+        let maximum = walk.integer_or(Key::Maximum, MOST_INSTANCES)? as u32;
         let owner = Owner::Set(SetId(self.sets.len() as u32));
         let mut gates = read_gates(alloc, walk, owner, self.signals.as_slice())?;
         walk.only_known_keys()?;

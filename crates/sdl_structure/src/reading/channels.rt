@@ -14,6 +14,7 @@ ghost use Rattle.sdl_tables.specs.Walks.{file_of, own, IsHere, name_texts};
 ghost use Rattle.sdl_structure.specs.Drafts.{ServesChannels, IsScope, IsChannelScope, blocks_before, HasGateOf};
 
 use super::draft::Draft;
+use sdl_parts::limits::MOST_CHANNELS;
 use sdl_parts::{Channel, End, Gate, Owner, Scope, Set, Side};
 use sdl_signal::{GateId, Name};
 use sdl_tables::{FileFault, Key, Walk, count_dots, read_signal_list, text_of};
@@ -44,7 +45,7 @@ impl Draft {
         ensures fault { IfErr result (IsBroken (file_of walk.now)) }
     {
         let tables = walk.tables(Key::Channel)?;
-        if self.channels.len() + tables.len() > 64 {
+        if self.channels.len() + tables.len() > MOST_CHANNELS {
             return Err(FileFault::TooMany(walk.at(Key::Channel)));
         }
         let mut channels = Vec::new(alloc);

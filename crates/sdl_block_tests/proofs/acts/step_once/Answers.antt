@@ -1,5 +1,5 @@
 use Rattle.std.proofs.Common.{sym, subst}
-use Rattle.sdl_instances.specs.Cores.{CanFire}
+use Rattle.sdl_instances.specs.CoreOf.{CanFire}
 use Rattle.sdl_block_tests.proofs.acts.step_once.Goals as goal
 
 pub returns : goal.returns

@@ -3,7 +3,7 @@ use Rattle.std.specs.List.{All}
 use Rattle.std.proofs.lemmas.List.Elements.{All-nil}
 use Rattle.sdl_transition.specs.Rules.{block_rules}
 use Rattle.sdl_instances.specs.Core.{IsLegalIn}
-use Rattle.sdl_instances.specs.Cores.{CanFire}
+use Rattle.sdl_instances.specs.CoreOf.{CanFire}
 use Rattle.sdl_instances.proofs.Systems.{sound_there}
 use Rattle.sdl_block.specs.Workers.{system_around}
 use Rattle.sdl_block_tests.proofs.plan.carry_out.Goals as goal

@@ -1,7 +1,7 @@
 use Rattle.std.proofs.Common.{◌≡◌, [], ◌∷◌, ◌++◌, map, length, refl, ap, ◌∙◌, ◌+◌}
 use Rattle.sdl_outcome.specs.Lists.{held_in}
 use Rattle.sdl_order.specs.Driver.{forwarder_hand}
-use Rattle.sdl_outcome.specs.Outcome.{Held}
+use Rattle.sdl_outcome.specs.Outcome.{WorkerHand}
 use Rattle.sdl_driver.proofs.Rooms.{come_over, fewer_by_one, map_push, room_as, forwarder_left}
 use Rattle.sdl_driver.proofs.closing.take_forwarders.Goals as goal
 
@@ -17,5 +17,5 @@ loop-rest-preserved g c =
       parts = c.take_hand.ensures.parts ∙ inv.parts;
       logs = c.take_hand.ensures.logs ∙ inv.logs;
       hands = come_over forwarder_hand (map held_in c.loop-rest.room.hands.items) (map held_in c.take_hand.new.self.hands.items) _ f rest fewer c.take_first-forwarder.ensures
-          (ap (map held_in) c.take_hand.ensures.hands ∙ (map_push held_in c.loop-rest.room.hands.items _ ∙ ap (λ (h : Held). map held_in c.loop-rest.room.hands.items ++ h ∷ []) hand)) inv.hands;
+          (ap (map held_in) c.take_hand.ensures.hands ∙ (map_push held_in c.loop-rest.room.hands.items _ ∙ ap (λ (h : WorkerHand). map held_in c.loop-rest.room.hands.items ++ h ∷ []) hand)) inv.hands;
     }

@@ -1,7 +1,7 @@
 use Rattle.std.proofs.Common.{None, Some, refl, subst}
-use Rattle.sdl_routes.specs.declared.parts.Goal.{Goal}
-use Rattle.sdl_routes.specs.declared.parts.Source.TheVariants as source
-use Rattle.sdl_routes.specs.declared.parts.Via.TheVariants as via
+use Rattle.sdl_routes.specs.declared.route.Goal.{Goal}
+use Rattle.sdl_routes.specs.declared.route.Source.TheVariants as source
+use Rattle.sdl_routes.specs.declared.route.Via.TheVariants as via
 use Rattle.sdl_routes.specs.Routes.{IsChoice}
 use Rattle.sdl_instances.proofs.Choosing.{none_fits}
 use Rattle.sdl_instances.proofs.Takes.{at_pick_fits}

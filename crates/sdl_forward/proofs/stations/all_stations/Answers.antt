@@ -1,7 +1,7 @@
 use Rattle.std.proofs.Common.{◌∙◌, List, ◌++◌, take, ap, sym, arith}
 use Rattle.std.specs.List.{flat_map}
-use Rattle.sdl_routes.specs.declared.parts.Row.{Row}
-use Rattle.sdl_routes.specs.declared.parts.Station.{Station}
+use Rattle.sdl_routes.specs.declared.route.TableRow.{TableRow}
+use Rattle.sdl_routes.specs.declared.route.Station.{Station}
 use Rattle.sdl_forward.proofs.Collected.{stations_more, route_there}
 use Rattle.sdl_forward.proofs.stations.all_stations.Goals as goal
 
@@ -12,4 +12,4 @@ unreachable-requires c =
 pub loop-number-preserved : goal.loop-number-preserved
 loop-number-preserved c =
     let more = stations_more c.args.routes.now c.loop-number.number c.in-Some.route.now c.in-Some.ensures.value in
-    c.in_ok-extend_from_slice.ensures.items ∙ ap (λ (ss : List Station). ss ++ c.as_slice.result.now) c.loop-number.invariant ∙ (ap (λ (ss : List Station). flat_map (λ (row : Row). row.route.stations.items) (take c.loop-number.number c.args.routes.now) ++ ss) c.as_slice.ensures.value ∙ sym more)
+    c.in_ok-extend_from_slice.ensures.items ∙ ap (λ (ss : List Station). ss ++ c.as_slice.result.now) c.loop-number.invariant ∙ (ap (λ (ss : List Station). flat_map (λ (row : TableRow). row.route.stations.items) (take c.loop-number.number c.args.routes.now) ++ ss) c.as_slice.ensures.value ∙ sym more)

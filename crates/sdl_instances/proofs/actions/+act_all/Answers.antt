@@ -4,7 +4,7 @@ use Rattle.sdl_behaviour.specs.declared.step.Action.{Action}
 use Rattle.sdl_instances.specs.declared.event.Done.{Done}
 use Rattle.sdl_instances.specs.declared.outputs.Mark.{Mark}
 use Rattle.sdl_transition.specs.Rules.{block_rules}
-use Rattle.sdl_instances.specs.Living.{state_of, births_of, CanAct, CanCarryOut, CarriesOut, mark_after}
+use Rattle.sdl_instances.specs.Living.{state_of, creatable_of, CanAct, CanCarryOut, CarriesOut, mark_after}
 use Rattle.sdl_instances.proofs.Acting.{carries_none, carries_more, number_after, empty_is}
 use Rattle.sdl_instances.proofs.actions.+act_all.Goals as goal
 
@@ -21,7 +21,7 @@ act_all-requires g t c κs within =
         (
           c.requires.indexed,
           (
-            c.act-one.ensures.ready (length c.in-Some.rest.now) (subst (λ n. CanCarryOut c.args.sets.now c.args.place n (births_of c.args.living.now) (state_of c.args.living.now)) long c.requires.ready),
+            c.act-one.ensures.ready (length c.in-Some.rest.now) (subst (λ n. CanCarryOut c.args.sets.now c.args.place n (creatable_of c.args.living.now) (state_of c.args.living.now)) long c.requires.ready),
             (
               (subst (AllByRecursion (CanAct c.args.sets.now rules)) first.0 c.requires.creatable).1,
               (

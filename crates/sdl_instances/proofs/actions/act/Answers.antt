@@ -2,7 +2,7 @@ use Rattle.std.proofs.Common.{sym, ◌∷◌, ◌++◌, [], subst}
 use Rattle.sdl_behaviour.specs.declared.step.Action.{Action}
 use Rattle.sdl_instances.specs.declared.event.Done.TheVariants as done
 use Rattle.sdl_transition.specs.Rules.{block_rules}
-use Rattle.sdl_instances.specs.Living.{state_of, births_of, CanAct, CarriesOut}
+use Rattle.sdl_instances.specs.Living.{state_of, creatable_of, CanAct, CarriesOut}
 use Rattle.sdl_instances.proofs.Acting.{carries_output, carries_create, create_ready, some_rules}
 use Rattle.sdl_instances.proofs.actions.act.Goals as goal
 
@@ -29,4 +29,4 @@ returns-in-Create-clause-does g c d =
 pub returns-in-Create-clause-ready : goal.returns-in-Create-clause-ready
 returns-in-Create-clause-ready g c n h =
     let can = subst (CanAct c.args.sets.now (block_rules c.args.parts.now)) c.in-Create.is c.requires.creatable in
-    create_ready c.args.sets.now c.args.place c.in-Create.set c.variables.result.now.items can.0 c.create.result (state_of c.args.living.now) (state_of c.create.new.self) n (births_of c.args.living.now) (births_of c.create.new.self) h c.create.ensures.births c.create.ensures.creates
+    create_ready c.args.sets.now c.args.place c.in-Create.set c.variables.result.now.items can.0 c.create.result (state_of c.args.living.now) (state_of c.create.new.self) n (creatable_of c.args.living.now) (creatable_of c.create.new.self) h c.create.ensures.creatable c.create.ensures.creates

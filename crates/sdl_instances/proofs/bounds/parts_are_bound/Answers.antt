@@ -1,4 +1,4 @@
-use Rattle.sdl_instances.proofs.Dealt.{bound_in, each_indexed, each_allowed}
+use Rattle.sdl_instances.proofs.Distributed.{bound_in, each_indexed, each_allowed}
 use Rattle.sdl_instances.proofs.bounds.parts_are_bound.Goals as goal
 
 pub returns : goal.returns

@@ -1,5 +1,5 @@
 use Rattle.std.proofs.Common.{subst, refl, None}
-use Rattle.sdl_routes.specs.declared.parts.Source.TheVariants as source
+use Rattle.sdl_routes.specs.declared.route.Source.TheVariants as source
 use Rattle.sdl_routes.specs.Routes.{IsChoice}
 use Rattle.sdl_instances.proofs.Choosing.{none_fits}
 use Rattle.sdl_instances.proofs.outputs.output.Goals as goal

@@ -1,5 +1,5 @@
 use Rattle.sdl_instances.specs.Core.{IsSound}
-use Rattle.sdl_instances.specs.Cores.{CanFire, core_of, parts_of, system_in}
+use Rattle.sdl_instances.specs.CoreOf.{CanFire, core_of, parts_of, system_in}
 use Rattle.sdl_instances_tests.proofs.asking.ignore_each.Given as goal
 
 abbrev pub invariant-loop : goal.invariant-loop

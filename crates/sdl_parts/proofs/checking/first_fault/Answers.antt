@@ -1,5 +1,5 @@
 use Rattle.sdl_parts.specs.Rules.{IsWellFormed}
-use Rattle.sdl_parts.specs.Sentences.{IsKept, IsFirstOf}
+use Rattle.sdl_parts.specs.EachRule.{IsKept, IsFirstOf}
 use Rattle.sdl_parts.proofs.Whole.{all_kept, if_none}
 use Rattle.sdl_parts.proofs.checking.first_fault.Goals as goal
 

@@ -1,7 +1,7 @@
 use Rattle.std.proofs.Common.{true, false, ◌≡◌, ◌≢◌, ℕ, ◌+◌, ◌%◌, ◌<◌, ◌≤◌, [], ◌∷◌, ◌++◌, length, Some, slice_get, refl, ap, sym, ◌∙◌, arith, add-one, zero-add}
 use Rattle.std.proofs.lemmas.Option.{slice_get-get_or}
 use Rattle.std.proofs.lemmas.List.{length-append}
-use Rattle.sdl_routes.specs.declared.parts.Row.{Row}
+use Rattle.sdl_routes.specs.declared.route.TableRow.{TableRow}
 use Rattle.sdl_routes.specs.Routes.{Fits, AreFitting}
 use Rattle.sdl_routes.proofs.Fitting.{fit_more, fit_less, none_fit, fit_rest, fitting_unique, fitting_at, none_picked}
 use Rattle.sdl_routes.proofs.choice.choose_among.Goals as goal
@@ -17,7 +17,7 @@ loop-number-preserved c =
     let rows = c.args.rows.now in
     let i = c.loop-number.number in
     let (le, (fs, are, long)) = c.loop-number.invariant in
-    let row : Row = c.index-rows-number.result in
+    let row : TableRow = c.index-rows-number.result in
     let lt : i < length rows = let h : c.args.high ≤ length rows = c.requires.within in omega arith in
     let at : slice_get rows i ≡ Some row = slice_get-get_or rows i row lt ∙ ap Some (sym c.index-rows-number.is) in
     elim c.if-fits.branch [
@@ -42,7 +42,7 @@ loop-number-preserved c =
 pub returns-then-count-eq0 : goal.returns-then-count-eq0
 returns-then-count-eq0 c =
     let (le, (fs, are, long)) = c.loop-number.invariant in
-    let rest : (k : ℕ) (row : Row) → slice_get c.args.rows.now k ≡ Some row → c.loop-number.number ≤ k → ¬ Fits row c.args.wish.now =
+    let rest : (k : ℕ) (row : TableRow) → slice_get c.args.rows.now k ≡ Some row → c.loop-number.number ≤ k → ¬ Fits row c.args.wish.now =
     λ k row at from fits. let high : k < c.args.high = (c.requires.others k row at fits).1 in absurd (omega arith) in
     let zero : length fs ≡ 0 = omega arith in
     (fs, fit_rest c.args.wish.now 0 c.args.rows.now c.loop-number.number fs rest are, none_picked fs c.args.pick zero)
@@ -58,10 +58,10 @@ returns-then-left-eq0 c =
     let i = c.second.number in
     let (le, (gs, all, count)) = c.loop-number.invariant in
     let (fs, are, long) = c.second.invariant in
-    let row : Row = c.index-rows-number-in-second.result in
+    let row : TableRow = c.index-rows-number-in-second.result in
     let lt : i < length rows = let h : c.args.high ≤ length rows = c.requires.within in omega arith in
     let at : slice_get rows i ≡ Some row = slice_get-get_or rows i row lt ∙ ap Some (sym c.index-rows-number-in-second.is) in
-    let rest : (k : ℕ) (row : Row) → slice_get rows k ≡ Some row → c.loop-number.number ≤ k → ¬ Fits row w =
+    let rest : (k : ℕ) (row : TableRow) → slice_get rows k ≡ Some row → c.loop-number.number ≤ k → ¬ Fits row w =
     λ k row at from fits. let high : k < c.args.high = (c.requires.others k row at fits).1 in absurd (omega arith) in
     let whole : AreFitting w 0 rows gs = fit_rest w 0 rows c.loop-number.number gs rest all in
     let here : slice_get gs (length fs) ≡ Some i = fitting_at w 0 rows i row fs gs i at (c.if-fits-2.ensures.0 refl) (sym (zero-add i)) are whole in
@@ -74,7 +74,7 @@ second-preserved c =
     let rows = c.args.rows.now in
     let i = c.second.number in
     let (fs, are, long) = c.second.invariant in
-    let row : Row = c.index-rows-number-in-second.result in
+    let row : TableRow = c.index-rows-number-in-second.result in
     let lt : i < length rows = let h : c.args.high ≤ length rows = c.requires.within in omega arith in
     let at : slice_get rows i ≡ Some row = slice_get-get_or rows i row lt ∙ ap Some (sym c.index-rows-number-in-second.is) in
     elim c.if-fits-2.branch [
@@ -97,7 +97,7 @@ unreachable-requires c =
     let rows = c.args.rows.now in
     let (le, (gs, all, count)) = c.loop-number.invariant in
     let (fs, are, long) = c.second.invariant in
-    let rest : (k : ℕ) (row : Row) → slice_get rows k ≡ Some row → c.args.high ≤ k → ¬ Fits row w =
+    let rest : (k : ℕ) (row : TableRow) → slice_get rows k ≡ Some row → c.args.high ≤ k → ¬ Fits row w =
     λ k row at from fits. let high : k < c.args.high = (c.requires.others k row at fits).1 in absurd (omega arith) in
     let whole : AreFitting w 0 rows gs = fit_rest w 0 rows c.loop-number.number gs (λ k row at from. rest k row at (omega arith)) all in
     let too : AreFitting w 0 rows fs = fit_rest w 0 rows c.second.number fs (λ k row at from. rest k row at (omega arith)) are in

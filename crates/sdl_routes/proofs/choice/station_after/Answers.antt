@@ -1,6 +1,6 @@
 use Rattle.std.proofs.Common.{true, false, ◌≡◌, ◌≢◌, ℕ, suc, ◌<◌, List, length, Option, Some, None, slice_get, get_or, refl, ap, sym, ◌∙◌, subst, arith, add-one, below_more}
-use Rattle.sdl_routes.specs.declared.parts.Station.{Station}
-use Rattle.sdl_routes.specs.declared.parts.Station.TheVariants as stations
+use Rattle.sdl_routes.specs.declared.route.Station.{Station}
+use Rattle.sdl_routes.specs.declared.route.Station.TheVariants as stations
 use Rattle.sdl_routes.specs.Routes.{FollowsIn}
 use Rattle.std.proofs.lemmas.Option.{slice_get-get_or, slice_get_within}
 use Rattle.sdl_routes.proofs.Once.{follows, follows_none}

@@ -2,8 +2,8 @@ use Rattle.std.proofs.Common.{true, false, ◌≡◌, ℕ, ◌+◌, ◌*◌, ◌
 use Rattle.sdl_routes.specs.declared.table.RouteFault.{RouteFault}
 use Rattle.sdl_routes.specs.declared.table.RouteFault.TheVariants.{TooMany}
 use Rattle.sdl_routes.specs.Routes.{HasTooMany, hop_number, place}
-use Rattle.sdl_routes.specs.Found.{after, HasFound}
-use Rattle.sdl_routes.specs.Collected.{Adds, HasCollected}
+use Rattle.sdl_routes.specs.Found.{place_behind, HasFound}
+use Rattle.sdl_routes.specs.Collected.{AddsRoute, HasCollected}
 use Rattle.sdl_routes.proofs.Ranks.{short_walk}
 use Rattle.sdl_routes.proofs.Found.{found_enter, found_leave}
 use Rattle.sdl_routes.proofs.Walks.{room_for, numbers_below, step_taken, step_skipped}
@@ -19,8 +19,8 @@ pub returns-in-Some-clause-found : goal.returns-in-Some-clause-found
 returns-in-Some-clause-found t c =
     let s = c.args.structure.now in
     let (route, signal, hops) = c.in-Some.ensures.route in
-    on_ok c.add.result (Adds c.args.collected.now c.in-Some.row c.add.new.self × (c.args.collected.now.count < 4096))
-    (HasCollected s (after (place c.args.signal c.args.hops.now)) c.add.new.self)
+    on_ok c.add.result (AddsRoute c.args.collected.now c.in-Some.row c.add.new.self × (c.args.collected.now.count < 4096))
+    (HasCollected s (place_behind (place c.args.signal c.args.hops.now)) c.add.new.self)
     (λ h. collected_push s c.args.signal c.args.hops.now c.in-Some.row c.args.collected.now c.add.new.self route signal hops c.requires.found h.0 h.1)
     c.add.ensures.ok
 
@@ -55,7 +55,7 @@ loop-number-preserved t c =
     let p : List ℕ = place x hops in
     elim c.if-last_joins.branch [
       | then-last_joins+then-carries+in_ok-extend w ↦
-          rw w.collected-is (collected_moves s (after (place x w.as_slice.result.now)) (p ++ (n + 1) ∷ []) w.extend.new.collected
+          rw w.collected-is (collected_moves s (place_behind (place x w.as_slice.result.now)) (p ++ (n + 1) ∷ []) w.extend.new.collected
           (λ rows h. step_taken s x hops w.as_slice.result.now hop n rows (w.as_slice.ensures.value ∙ w.with_hop-longer.ensures) number h)
           w.in_ok-extend.ensures.found)
       | else-last_joins w ↦
@@ -80,7 +80,7 @@ returns-clause-found t c =
     let e : length c.channels.result.now ≡ length s.channels = ap length c.channels.ensures in
     let end : c.loop-number.number ≡ 2 * length s.channels = omega arith in
     let p : List ℕ = place x hops in
-    collected_moves s (p ++ c.loop-number.number ∷ []) (after p) c.loop-number.collected
+    collected_moves s (p ++ c.loop-number.number ∷ []) (place_behind p) c.loop-number.collected
     (λ rows h. found_leave s x.0 ns (2 * length s.channels) rows (none_placed s x hops c.in_default.ensures.none)
     (λ row n rest route e. numbers_below s x.0 ns row n rest route e)
     (subst (λ (n : ℕ). HasFound s (p ++ n ∷ []) rows) end h))

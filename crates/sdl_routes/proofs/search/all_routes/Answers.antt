@@ -1,7 +1,7 @@
 use Rattle.std.proofs.Common.{true, false, ◌≡◌, ◌≢◌, ℕ, ◌+◌, ◌*◌, ◌<◌, List, [], ◌∷◌, ◌++◌, length, ap, sym, subst, arith, add-one}
-use Rattle.sdl_routes.specs.declared.parts.Row.{Row}
+use Rattle.sdl_routes.specs.declared.route.TableRow.{TableRow}
 use Rattle.sdl_routes.specs.Routes.{place, row_place, IsRoute}
-use Rattle.sdl_routes.specs.Found.{after, HasFound}
+use Rattle.sdl_routes.specs.Found.{place_behind, HasFound}
 use Rattle.sdl_routes.proofs.Found.{found_enter, found_leave}
 use Rattle.sdl_routes.proofs.Walks.{no_empty, numbers_below, first_skipped, first_taken}
 use Rattle.sdl_routes.proofs.Collecting.{collected_moves, all_counted, all_kept}
@@ -23,7 +23,7 @@ loop-number-preserved c =
     let hop = c.numbered-hop.result in
     elim c.if-carries.branch [
       | then-carries+in_ok-extend w ↦
-          rw w.collected-is (collected_moves s (after (place (record { 0 = x }) (hop ∷ []))) (x ∷ (n + 1) ∷ []) w.extend.new.collected
+          rw w.collected-is (collected_moves s (place_behind (place (record { 0 = x }) (hop ∷ []))) (x ∷ (n + 1) ∷ []) w.extend.new.collected
           (λ rows h. first_taken s (record { 0 = x }) hop n rows c.numbered-hop.ensures h) w.in_ok-extend.ensures.found)
       | else-carries w ↦
           rw w.collected-is (collected_moves s (x ∷ n ∷ []) (x ∷ (n + 1) ∷ []) c.loop-number.collected
@@ -37,12 +37,12 @@ loop-signal_number-preserved c =
     let x : ℕ = c.loop-signal_number.signal_number in
     let e : length c.channels.result.now ≡ length s.channels = ap length c.channels.ensures in
     let end : c.loop-number.number ≡ 2 * length s.channels = omega arith in
-    let none : (row : Row) → IsRoute s row → row_place row ≢ x ∷ [] = λ row route. no_empty s x row route in
-    let below : (row : Row) (n : ℕ) (rest : List ℕ) → IsRoute s row → row_place row ≡ (x ∷ []) ++ n ∷ rest → n < 2 * length s.channels =
+    let none : (row : TableRow) → IsRoute s row → row_place row ≢ x ∷ [] = λ row route. no_empty s x row route in
+    let below : (row : TableRow) (n : ℕ) (rest : List ℕ) → IsRoute s row → row_place row ≡ (x ∷ []) ++ n ∷ rest → n < 2 * length s.channels =
     λ row n rest route e. numbers_below s x [] row n rest route e in
     collected_moves s (x ∷ c.loop-number.number ∷ []) ((x + 1) ∷ []) c.loop-number.collected
     (λ rows h.
-    let left : HasFound s (after (x ∷ [])) rows =
+    let left : HasFound s (place_behind (x ∷ [])) rows =
     found_leave s x [] (2 * length s.channels) rows none below (subst (λ (n : ℕ). HasFound s (x ∷ n ∷ []) rows) end h) in
     subst (λ (n : ℕ). HasFound s (n ∷ []) rows) (sym (add-one x)) left)
     c.loop-number.invariant

@@ -1,7 +1,7 @@
 use Rattle.std.proofs.Common.{◌≡◌, ◌≢◌, ℕ, ◌≤◌, List, [], length, get_or, map, take, Some, option_map, slice_get, sym, ap, ◌∙◌, subst, arith, Bor}
 use Rattle.std.proofs.lemmas.List.{length-map}
 use Rattle.std.proofs.lemmas.Iterator.Adapters.{option_map_id}
-use Rattle.sdl_signal.specs.Names.{Lexicon, Declared}
+use Rattle.sdl_signal.specs.Names.{Lexicon, DeclaredSignal}
 use Rattle.sdl_signal.specs.Line.{value_texts, to_texts, to_part}
 use Rattle.sdl_signal.specs.Reading.{fields, line_signal, value_fields, to_field, HasBadValue, IsPidText}
 use Rattle.sdl_signal.proofs.Rules.{field_is, gate_unknown, signal_unknown, signal_known, count_wrong, value_bad, passes_to_signals, passes_to_counts, passes_to_values, passes_to_to, kept_two, kept_all, kept_count, some_and_map, text_from_parts}
@@ -50,7 +50,7 @@ returns-then-values-len-clause-fault c =
     let p5 = passes_to_signals names line text0 c.in-Some.gate.0 (c.in-Ok.ensures.passes names) e0 g0 in
     let text1 = (get_or c.deref-2.result.now 1 (record { ref_ptr = (0, 0); now = [] })).now in
     let e1 : slice_get fs 1 ≡ Some text1 = field_is fs items c.deref-2.result.now 1 cut c.deref-2.ensures.0 (omega (arith, two)) in
-    let d : Declared = record { name = c.signal.result.now.name.bytes; sorts = c.signal.result.now.sorts.items } in
+    let d : DeclaredSignal = record { name = c.signal.result.now.name.bytes; sorts = c.signal.result.now.sorts.items } in
     let s1 : line_signal names line ≡ Some d = signal_known names line text1 c.in-Some-signal_named.id.0 e1 c.in-Some-signal_named.ensures.found ∙ c.signal.ensures in
     let p6 = passes_to_counts names line d p5 s1 in
     let now = λ (f : Bor (List ℕ)). f.now in
@@ -75,7 +75,7 @@ returns-in_default-read_values-clause-fault c =
     let p5 = passes_to_signals names line text0 c.in-Some.gate.0 (c.in-Ok.ensures.passes names) e0 g0 in
     let text1 = (get_or c.deref-2.result.now 1 (record { ref_ptr = (0, 0); now = [] })).now in
     let e1 : slice_get fs 1 ≡ Some text1 = field_is fs items c.deref-2.result.now 1 cut c.deref-2.ensures.0 (omega (arith, two)) in
-    let d : Declared = record { name = c.signal.result.now.name.bytes; sorts = c.signal.result.now.sorts.items } in
+    let d : DeclaredSignal = record { name = c.signal.result.now.name.bytes; sorts = c.signal.result.now.sorts.items } in
     let s1 : line_signal names line ≡ Some d = signal_known names line text1 c.in-Some-signal_named.id.0 e1 c.in-Some-signal_named.ensures.found ∙ c.signal.ensures in
     let p6 = passes_to_counts names line d p5 s1 in
     let now = λ (f : Bor (List ℕ)). f.now in
@@ -105,7 +105,7 @@ returns-in_default-read_to-clause-fault c =
     let p5 = passes_to_signals names line text0 c.in-Some.gate.0 (c.in-Ok.ensures.passes names) e0 g0 in
     let text1 = (get_or c.deref-2.result.now 1 (record { ref_ptr = (0, 0); now = [] })).now in
     let e1 : slice_get fs 1 ≡ Some text1 = field_is fs items c.deref-2.result.now 1 cut c.deref-2.ensures.0 (omega (arith, two)) in
-    let d : Declared = record { name = c.signal.result.now.name.bytes; sorts = c.signal.result.now.sorts.items } in
+    let d : DeclaredSignal = record { name = c.signal.result.now.name.bytes; sorts = c.signal.result.now.sorts.items } in
     let s1 : line_signal names line ≡ Some d = signal_known names line text1 c.in-Some-signal_named.id.0 e1 c.in-Some-signal_named.ensures.found ∙ c.signal.ensures in
     let p6 = passes_to_counts names line d p5 s1 in
     let now = λ (f : Bor (List ℕ)). f.now in
@@ -137,7 +137,7 @@ returns-clause-read c =
     let p5 = passes_to_signals names line text0 c.in-Some.gate.0 (c.in-Ok.ensures.passes names) e0 g0 in
     let text1 = (get_or c.deref-2.result.now 1 (record { ref_ptr = (0, 0); now = [] })).now in
     let e1 : slice_get fs 1 ≡ Some text1 = field_is fs items c.deref-2.result.now 1 cut c.deref-2.ensures.0 (omega (arith, two)) in
-    let d : Declared = record { name = c.signal.result.now.name.bytes; sorts = c.signal.result.now.sorts.items } in
+    let d : DeclaredSignal = record { name = c.signal.result.now.name.bytes; sorts = c.signal.result.now.sorts.items } in
     let s1 : line_signal names line ≡ Some d = signal_known names line text1 c.in-Some-signal_named.id.0 e1 c.in-Some-signal_named.ensures.found ∙ c.signal.ensures in
     let p6 = passes_to_counts names line d p5 s1 in
     let now = λ (f : Bor (List ℕ)). f.now in

@@ -2,7 +2,8 @@ use Rattle.std.proofs.Common.{◌≡◌, ◌<◌, ℕ, pos, List, [], ◌++◌, 
 use Rattle.std.proofs.lemmas.List.{take_all}
 use Rattle.sdl_signal.specs.declared.values.Value.TheVariants as value
 use Rattle.sdl_signal.specs.Line.{value_text, value_texts}
-use Rattle.sdl_signal.specs.Writing.{sort_of, spaced}
+use Rattle.sdl_signal.specs.Sorts.{sort_of}
+use Rattle.sdl_signal.specs.Writing.{spaced}
 use Rattle.sdl_signal.proofs.ValueTexts.{length-value_texts}
 use Rattle.sdl_signal.proofs.Spaced.{some_of, is_some_of, if_some_at, if_some_from, value_text_at, appended_more}
 use Rattle.sdl_signal.proofs.writing.append_values.Goals as goal

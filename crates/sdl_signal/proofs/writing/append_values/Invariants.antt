@@ -1,6 +1,7 @@
 use Rattle.std.proofs.Common.{◌≡◌, ◌≤◌, ◌+◌, ◌*◌, ◌++◌, [], length, map, take, unwrap_or}
 use Rattle.sdl_signal.specs.Line.{value_texts}
-use Rattle.sdl_signal.specs.Writing.{sort_of, spaced}
+use Rattle.sdl_signal.specs.Sorts.{sort_of}
+use Rattle.sdl_signal.specs.Writing.{spaced}
 use Rattle.sdl_signal.proofs.writing.append_values.Given as goal
 
 abbrev pub invariant-loop-value : goal.invariant-loop-value

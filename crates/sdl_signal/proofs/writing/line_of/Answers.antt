@@ -2,9 +2,10 @@ use Rattle.std.proofs.Common.{◌≡◌, ℕ, List, [], ◌++◌, map, Some, Non
 use Rattle.std.proofs.lemmas.Option.{same_Some}
 use Rattle.sdl_signal.specs.declared.values.EnvLine.{EnvLine}
 use Rattle.sdl_signal.specs.declared.values.Value.{Value}
-use Rattle.sdl_signal.specs.Names.{Lexicon, Declared}
+use Rattle.sdl_signal.specs.Names.{Lexicon, DeclaredSignal}
 use Rattle.sdl_signal.specs.Line.{value_texts, line_text}
-use Rattle.sdl_signal.specs.Writing.{sort_of, spaced}
+use Rattle.sdl_signal.specs.Sorts.{sort_of}
+use Rattle.sdl_signal.specs.Writing.{spaced}
 use Rattle.sdl_signal.proofs.Spaced.{some_of, is_some_of, if_some_at, sorts_are, line_joined}
 use Rattle.sdl_signal.proofs.LineText.{AreParts, parts_of}
 use Rattle.sdl_signal.proofs.Rules.{text_of_fields}
@@ -45,9 +46,9 @@ returns-clause-text c =
     let l : EnvLine = record { gate = c.args.gate; signal = c.args.signal.now; to = None } in
     let p = parts_at names l c.requires in
     let vs = c.deref-2.result.now in
-    let d : Declared = record { name = c.signal.result.now.name.bytes; sorts = c.signal.result.now.sorts.items } in
+    let d : DeclaredSignal = record { name = c.signal.result.now.name.bytes; sorts = c.signal.result.now.sorts.items } in
     let gate : p.gate ≡ c.gate_name.result.now = same_Some p.gate c.gate_name.result.now (sym p.gate_at ∙ c.gate_name.ensures.name) in
-    let declared : p.signal.name ≡ c.signal.result.now.name.bytes = ap (λ (s : Declared). s.name) (same_Some p.signal d (sym p.signal_at ∙ c.signal.ensures)) in
+    let declared : p.signal.name ≡ c.signal.result.now.name.bytes = ap (λ (s : DeclaredSignal). s.name) (same_Some p.signal d (sym p.signal_at ∙ c.signal.ensures)) in
     let name : p.signal.name ≡ c.as_bytes.result.now = cc in
     let new = c.append_values.new.line.items in
     let old = c.append-3.new.line.items in

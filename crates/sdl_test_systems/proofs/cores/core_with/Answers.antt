@@ -1,5 +1,5 @@
 use Rattle.std.proofs.Common.{sym, subst}
-use Rattle.sdl_instances.specs.Cores.{CanFire}
+use Rattle.sdl_instances.specs.CoreOf.{CanFire}
 use Rattle.sdl_test_systems.proofs.cores.core_with.Goals as goal
 
 pub returns-in-Ok-clause-parts : goal.returns-in-Ok-clause-parts

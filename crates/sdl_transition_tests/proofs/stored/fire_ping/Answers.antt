@@ -1,5 +1,5 @@
 use Rattle.sdl_behaviour.specs.Offers.{IsFrameOf}
-use Rattle.sdl_transition.proofs.Dealing.{all_one}
+use Rattle.sdl_transition.proofs.Distributing.{all_one}
 use Rattle.sdl_transition_tests.proofs.Pings.{ping_is_of_offer}
 use Rattle.sdl_transition_tests.proofs.stored.fire_ping.Goals as goal
 

@@ -2,7 +2,7 @@ use Rattle.std.proofs.Common.{Ok, ap, subst, sym}
 use Rattle.sdl_transition.specs.Rules.{block_rules}
 use Rattle.sdl_instances.specs.Machine.{System}
 use Rattle.sdl_instances.specs.Core.{IsSound}
-use Rattle.sdl_block.specs.Phases.{Turns}
+use Rattle.sdl_block.specs.Phases.{TriesTurn}
 use Rattle.sdl_block.specs.Workers.{worker_of, system_around}
 use Rattle.sdl_block.proofs.Going.{routed}
 use Rattle.sdl_block.proofs.Systems.{same_system}
@@ -65,7 +65,7 @@ put_out-requires-2-clause-routed g c =
     let keeps = keeps_then may sys (worker_of c.args.self.now) c.args.board.now c.in_ok-put.put c.put_out.new.self.kept c.put_out.new.self.outgoing.items c.put_out.new.board c.in_ok-put.ensures.put c.in_ok-put.ensures.kept c.requires.sound
     c.in_ok-arrived.arrived (worker_of c.let_one_arrive.new.self) c.let_one_arrive.new.board c.in_ok-arrived.ensures.arrived in
     let same = same_system (worker_of c.args.self.now).core (worker_of c.let_one_arrive.new.self).core c.args.routes.now _ _ keeps (ap (λ p. block_rules p) c.let_one_arrive.ensures.parts) in
-    let makes = subst (λ (s : System). Turns may s (worker_of c.let_one_arrive.new.self) (Ok c.in_ok-turned.turned) (worker_of c.make_turn.new.self)) same c.in_ok-turned.ensures.turn in
+    let makes = subst (λ (s : System). TriesTurn may s (worker_of c.let_one_arrive.new.self) (Ok c.in_ok-turned.turned) (worker_of c.make_turn.new.self)) same c.in_ok-turned.ensures.turn in
     routed sys c.make_turn.new.self.hand.outgoing.items (legal_then may sys (worker_of c.args.self.now) c.args.board.now c.in_ok-put.put c.put_out.new.self.kept c.put_out.new.self.outgoing.items c.put_out.new.board c.in_ok-put.ensures.put c.in_ok-put.ensures.kept c.requires.sound
     c.in_ok-arrived.arrived (worker_of c.let_one_arrive.new.self) c.let_one_arrive.new.board c.in_ok-arrived.ensures.arrived
     c.in_ok-turned.turned (worker_of c.make_turn.new.self) makes)
@@ -77,7 +77,7 @@ put_out-requires-2-clause-board g c =
     let keeps = keeps_then may sys (worker_of c.args.self.now) c.args.board.now c.in_ok-put.put c.put_out.new.self.kept c.put_out.new.self.outgoing.items c.put_out.new.board c.in_ok-put.ensures.put c.in_ok-put.ensures.kept c.requires.sound
     c.in_ok-arrived.arrived (worker_of c.let_one_arrive.new.self) c.let_one_arrive.new.board c.in_ok-arrived.ensures.arrived in
     let same = same_system (worker_of c.args.self.now).core (worker_of c.let_one_arrive.new.self).core c.args.routes.now _ _ keeps (ap (λ p. block_rules p) c.let_one_arrive.ensures.parts) in
-    let makes = subst (λ (s : System). Turns may s (worker_of c.let_one_arrive.new.self) (Ok c.in_ok-turned.turned) (worker_of c.make_turn.new.self)) same c.in_ok-turned.ensures.turn in
+    let makes = subst (λ (s : System). TriesTurn may s (worker_of c.let_one_arrive.new.self) (Ok c.in_ok-turned.turned) (worker_of c.make_turn.new.self)) same c.in_ok-turned.ensures.turn in
     board_then may sys (worker_of c.args.self.now) c.args.board.now c.in_ok-put.put c.put_out.new.self.kept c.put_out.new.self.outgoing.items c.put_out.new.board c.in_ok-put.ensures.put c.in_ok-put.ensures.kept c.requires.sound
     c.in_ok-arrived.arrived (worker_of c.let_one_arrive.new.self) c.let_one_arrive.new.board c.in_ok-arrived.ensures.arrived
     c.in_ok-turned.turned (worker_of c.make_turn.new.self) makes c.requires.board
@@ -89,7 +89,7 @@ returns-in_err-put_out-clause-step g c =
     let keeps = keeps_then may sys (worker_of c.args.self.now) c.args.board.now c.in_ok-put.put c.put_out.new.self.kept c.put_out.new.self.outgoing.items c.put_out.new.board c.in_ok-put.ensures.put c.in_ok-put.ensures.kept c.requires.sound
     c.in_ok-arrived.arrived (worker_of c.let_one_arrive.new.self) c.let_one_arrive.new.board c.in_ok-arrived.ensures.arrived in
     let same = same_system (worker_of c.args.self.now).core (worker_of c.let_one_arrive.new.self).core c.args.routes.now _ _ keeps (ap (λ p. block_rules p) c.let_one_arrive.ensures.parts) in
-    let makes = subst (λ (s : System). Turns may s (worker_of c.let_one_arrive.new.self) (Ok c.in_ok-turned.turned) (worker_of c.make_turn.new.self)) same c.in_ok-turned.ensures.turn in
+    let makes = subst (λ (s : System). TriesTurn may s (worker_of c.let_one_arrive.new.self) (Ok c.in_ok-turned.turned) (worker_of c.make_turn.new.self)) same c.in_ok-turned.ensures.turn in
     refused_so may sys c.from_residual-in_err-put_out.result c.from_residual-in_err-put_out.ensures.0 _ c.args.board.now _ c.put_out-2.new.board
     (λ r. (ends_at_last may sys (worker_of c.args.self.now) c.args.board.now c.in_ok-put.put c.put_out.new.self.kept c.put_out.new.self.outgoing.items c.put_out.new.board c.in_ok-put.ensures.put c.in_ok-put.ensures.kept c.requires.sound
     c.in_ok-arrived.arrived (worker_of c.let_one_arrive.new.self) c.let_one_arrive.new.board c.in_ok-arrived.ensures.arrived
@@ -103,7 +103,7 @@ returns-clause-step g c =
     let keeps = keeps_then may sys (worker_of c.args.self.now) c.args.board.now c.in_ok-put.put c.put_out.new.self.kept c.put_out.new.self.outgoing.items c.put_out.new.board c.in_ok-put.ensures.put c.in_ok-put.ensures.kept c.requires.sound
     c.in_ok-arrived.arrived (worker_of c.let_one_arrive.new.self) c.let_one_arrive.new.board c.in_ok-arrived.ensures.arrived in
     let same = same_system (worker_of c.args.self.now).core (worker_of c.let_one_arrive.new.self).core c.args.routes.now _ _ keeps (ap (λ p. block_rules p) c.let_one_arrive.ensures.parts) in
-    let makes = subst (λ (s : System). Turns may s (worker_of c.let_one_arrive.new.self) (Ok c.in_ok-turned.turned) (worker_of c.make_turn.new.self)) same c.in_ok-turned.ensures.turn in
+    let makes = subst (λ (s : System). TriesTurn may s (worker_of c.let_one_arrive.new.self) (Ok c.in_ok-turned.turned) (worker_of c.make_turn.new.self)) same c.in_ok-turned.ensures.turn in
     (ends_whole may sys (worker_of c.args.self.now) c.args.board.now c.in_ok-put.put c.put_out.new.self.kept c.put_out.new.self.outgoing.items c.put_out.new.board c.in_ok-put.ensures.put c.in_ok-put.ensures.kept c.requires.sound
     c.in_ok-arrived.arrived (worker_of c.let_one_arrive.new.self) c.let_one_arrive.new.board c.in_ok-arrived.ensures.arrived
     c.in_ok-turned.turned (worker_of c.make_turn.new.self) makes
@@ -116,7 +116,7 @@ returns-clause-hand g c =
     let keeps = keeps_then may sys (worker_of c.args.self.now) c.args.board.now c.in_ok-put.put c.put_out.new.self.kept c.put_out.new.self.outgoing.items c.put_out.new.board c.in_ok-put.ensures.put c.in_ok-put.ensures.kept c.requires.sound
     c.in_ok-arrived.arrived (worker_of c.let_one_arrive.new.self) c.let_one_arrive.new.board c.in_ok-arrived.ensures.arrived in
     let same = same_system (worker_of c.args.self.now).core (worker_of c.let_one_arrive.new.self).core c.args.routes.now _ _ keeps (ap (λ p. block_rules p) c.let_one_arrive.ensures.parts) in
-    let makes = subst (λ (s : System). Turns may s (worker_of c.let_one_arrive.new.self) (Ok c.in_ok-turned.turned) (worker_of c.make_turn.new.self)) same c.in_ok-turned.ensures.turn in
+    let makes = subst (λ (s : System). TriesTurn may s (worker_of c.let_one_arrive.new.self) (Ok c.in_ok-turned.turned) (worker_of c.make_turn.new.self)) same c.in_ok-turned.ensures.turn in
     empty_after may sys (worker_of c.args.self.now) c.args.board.now c.in_ok-put.put c.put_out.new.self.kept c.put_out.new.self.outgoing.items c.put_out.new.board c.in_ok-put.ensures.put c.in_ok-put.ensures.kept c.requires.sound
     c.in_ok-arrived.arrived (worker_of c.let_one_arrive.new.self) c.let_one_arrive.new.board c.in_ok-arrived.ensures.arrived
     c.in_ok-turned.turned (worker_of c.make_turn.new.self) makes
@@ -183,7 +183,7 @@ returns-in_err-put_out-clause-first g c =
     let keeps = keeps_then may sys (worker_of c.args.self.now) c.args.board.now c.in_ok-put.put c.put_out.new.self.kept c.put_out.new.self.outgoing.items c.put_out.new.board c.in_ok-put.ensures.put c.in_ok-put.ensures.kept c.requires.sound
     c.in_ok-arrived.arrived (worker_of c.let_one_arrive.new.self) c.let_one_arrive.new.board c.in_ok-arrived.ensures.arrived in
     let same = same_system (worker_of c.args.self.now).core (worker_of c.let_one_arrive.new.self).core c.args.routes.now _ _ keeps (ap (λ p. block_rules p) c.let_one_arrive.ensures.parts) in
-    let makes = subst (λ (s : System). Turns may s (worker_of c.let_one_arrive.new.self) (Ok c.in_ok-turned.turned) (worker_of c.make_turn.new.self)) same c.in_ok-turned.ensures.turn in
+    let makes = subst (λ (s : System). TriesTurn may s (worker_of c.let_one_arrive.new.self) (Ok c.in_ok-turned.turned) (worker_of c.make_turn.new.self)) same c.in_ok-turned.ensures.turn in
     (ends_at_last may sys (worker_of c.args.self.now) c.args.board.now c.in_ok-put.put c.put_out.new.self.kept c.put_out.new.self.outgoing.items c.put_out.new.board c.in_ok-put.ensures.put c.in_ok-put.ensures.kept c.requires.sound
     c.in_ok-arrived.arrived (worker_of c.let_one_arrive.new.self) c.let_one_arrive.new.board c.in_ok-arrived.ensures.arrived
     c.in_ok-turned.turned (worker_of c.make_turn.new.self) makes
@@ -196,7 +196,7 @@ returns-in_err-put_out-clause-spent g c =
     let keeps = keeps_then may sys (worker_of c.args.self.now) c.args.board.now c.in_ok-put.put c.put_out.new.self.kept c.put_out.new.self.outgoing.items c.put_out.new.board c.in_ok-put.ensures.put c.in_ok-put.ensures.kept c.requires.sound
     c.in_ok-arrived.arrived (worker_of c.let_one_arrive.new.self) c.let_one_arrive.new.board c.in_ok-arrived.ensures.arrived in
     let same = same_system (worker_of c.args.self.now).core (worker_of c.let_one_arrive.new.self).core c.args.routes.now _ _ keeps (ap (λ p. block_rules p) c.let_one_arrive.ensures.parts) in
-    let makes = subst (λ (s : System). Turns may s (worker_of c.let_one_arrive.new.self) (Ok c.in_ok-turned.turned) (worker_of c.make_turn.new.self)) same c.in_ok-turned.ensures.turn in
+    let makes = subst (λ (s : System). TriesTurn may s (worker_of c.let_one_arrive.new.self) (Ok c.in_ok-turned.turned) (worker_of c.make_turn.new.self)) same c.in_ok-turned.ensures.turn in
     (ends_at_last may sys (worker_of c.args.self.now) c.args.board.now c.in_ok-put.put c.put_out.new.self.kept c.put_out.new.self.outgoing.items c.put_out.new.board c.in_ok-put.ensures.put c.in_ok-put.ensures.kept c.requires.sound
     c.in_ok-arrived.arrived (worker_of c.let_one_arrive.new.self) c.let_one_arrive.new.board c.in_ok-arrived.ensures.arrived
     c.in_ok-turned.turned (worker_of c.make_turn.new.self) makes
@@ -209,7 +209,7 @@ returns-clause-first g c =
     let keeps = keeps_then may sys (worker_of c.args.self.now) c.args.board.now c.in_ok-put.put c.put_out.new.self.kept c.put_out.new.self.outgoing.items c.put_out.new.board c.in_ok-put.ensures.put c.in_ok-put.ensures.kept c.requires.sound
     c.in_ok-arrived.arrived (worker_of c.let_one_arrive.new.self) c.let_one_arrive.new.board c.in_ok-arrived.ensures.arrived in
     let same = same_system (worker_of c.args.self.now).core (worker_of c.let_one_arrive.new.self).core c.args.routes.now _ _ keeps (ap (λ p. block_rules p) c.let_one_arrive.ensures.parts) in
-    let makes = subst (λ (s : System). Turns may s (worker_of c.let_one_arrive.new.self) (Ok c.in_ok-turned.turned) (worker_of c.make_turn.new.self)) same c.in_ok-turned.ensures.turn in
+    let makes = subst (λ (s : System). TriesTurn may s (worker_of c.let_one_arrive.new.self) (Ok c.in_ok-turned.turned) (worker_of c.make_turn.new.self)) same c.in_ok-turned.ensures.turn in
     (ends_whole may sys (worker_of c.args.self.now) c.args.board.now c.in_ok-put.put c.put_out.new.self.kept c.put_out.new.self.outgoing.items c.put_out.new.board c.in_ok-put.ensures.put c.in_ok-put.ensures.kept c.requires.sound
     c.in_ok-arrived.arrived (worker_of c.let_one_arrive.new.self) c.let_one_arrive.new.board c.in_ok-arrived.ensures.arrived
     c.in_ok-turned.turned (worker_of c.make_turn.new.self) makes
@@ -222,7 +222,7 @@ returns-clause-spent g c =
     let keeps = keeps_then may sys (worker_of c.args.self.now) c.args.board.now c.in_ok-put.put c.put_out.new.self.kept c.put_out.new.self.outgoing.items c.put_out.new.board c.in_ok-put.ensures.put c.in_ok-put.ensures.kept c.requires.sound
     c.in_ok-arrived.arrived (worker_of c.let_one_arrive.new.self) c.let_one_arrive.new.board c.in_ok-arrived.ensures.arrived in
     let same = same_system (worker_of c.args.self.now).core (worker_of c.let_one_arrive.new.self).core c.args.routes.now _ _ keeps (ap (λ p. block_rules p) c.let_one_arrive.ensures.parts) in
-    let makes = subst (λ (s : System). Turns may s (worker_of c.let_one_arrive.new.self) (Ok c.in_ok-turned.turned) (worker_of c.make_turn.new.self)) same c.in_ok-turned.ensures.turn in
+    let makes = subst (λ (s : System). TriesTurn may s (worker_of c.let_one_arrive.new.self) (Ok c.in_ok-turned.turned) (worker_of c.make_turn.new.self)) same c.in_ok-turned.ensures.turn in
     (ends_whole may sys (worker_of c.args.self.now) c.args.board.now c.in_ok-put.put c.put_out.new.self.kept c.put_out.new.self.outgoing.items c.put_out.new.board c.in_ok-put.ensures.put c.in_ok-put.ensures.kept c.requires.sound
     c.in_ok-arrived.arrived (worker_of c.let_one_arrive.new.self) c.let_one_arrive.new.board c.in_ok-arrived.ensures.arrived
     c.in_ok-turned.turned (worker_of c.make_turn.new.self) makes

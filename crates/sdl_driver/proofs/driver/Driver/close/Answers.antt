@@ -1,9 +1,9 @@
 use Rattle.std.proofs.Common.{ℕ, Bool, true, false, List, MatchBool, ◌≡◌, ap, sym, ◌∙◌, subst}
-use Rattle.sdl_routes.specs.declared.parts.Station.{Station}
+use Rattle.sdl_routes.specs.declared.route.Station.{Station}
 use Rattle.sdl_queue.specs.declared.rest.Rest.{Rest}
 use Rattle.sdl_outcome.specs.declared.end.RunEnd.{RunEnd}
 use Rattle.sdl_outcome.specs.Outcome.{Outcome}
-use Rattle.sdl_ledger.specs.Counts.{Fits, IsLedgerOf, waiting_in}
+use Rattle.sdl_ledger.specs.Counts.{CountsFit, IsLedgerOf, waiting_in}
 use Rattle.sdl_driver.specs.Ended.{HasEnded}
 use Rattle.sdl_outcome.specs.Plan.{blocks_in}
 use Rattle.sdl_order.specs.Driver.{finals_of}
@@ -18,7 +18,7 @@ use Rattle.sdl_driver.proofs.driver.Driver.close.Goals as goal
 pub of-ledger-requires : goal.of-ledger-requires
 of-ledger-requires g c =
     let left = c.leave-bound.result in
-    subst Fits
+    subst CountsFit
     (sym (same_shown left.logs.items c.as_slice-2.result.now left.env_put.items c.as_slice-3.result.now left.env_received.items c.as_slice-4.result.now left.hands.items c.as_slice-5.result.now left.rests.items c.as_slice-6.result.now
     c.as_slice-2.ensures.value c.as_slice-3.ensures.value c.as_slice-4.ensures.value c.as_slice-5.ensures.value c.as_slice-6.ensures.value ∙ c.leave-bound.ensures.outcome))
     (fits g.S.Agents.may c.args.self c.requires.driving)

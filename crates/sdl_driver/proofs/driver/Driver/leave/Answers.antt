@@ -1,6 +1,6 @@
 use Rattle.std.proofs.Common.{◌+◌, ◌++◌, ◌∷◌, List, [], length, map, None, ◌≡◌, ap, ◌∙◌, arith}
 use Rattle.sdl_block.specs.Workers.{worker_of, behaviours_of}
-use Rattle.sdl_outcome.specs.Outcome.{Held}
+use Rattle.sdl_outcome.specs.Outcome.{WorkerHand}
 use Rattle.sdl_order.specs.Driver.{block_hand, env_hand, forwarder_hand}
 use Rattle.sdl_outcome.specs.Lists.{items_in, held_in}
 use Rattle.sdl_driver.proofs.Rooms.{hand, hand_is, map_push}
@@ -38,10 +38,10 @@ returns-clause-outcome g c =
     let blocks_are : map held_in c.take_blocks.new.room.hands.items ≡ map (λ w. block_hand (worker_of w)) d.blocks.items =
     filled (map held_in c.args.room.hands.items) (map held_in c.take_blocks.new.room.hands.items) (map (λ w. block_hand (worker_of w)) d.blocks.items) (ap (map held_in) c.requires.empty.2) c.take_blocks.ensures.hands in
     let parts = c.into_parts-env.result in
-    let env : Held = held_in parts.hand in
+    let env : WorkerHand = held_in parts.hand in
     let env_is : env ≡ env_hand d.environment = hand_is parts.hand.kept None parts.hand.outgoing.items d.environment.outgoing c.into_parts-env.ensures.kept c.into_parts-env.ensures.outgoing in
     let with_env : map held_in c.take_hand.new.self.hands.items ≡ map (λ w. block_hand (worker_of w)) d.blocks.items ++ env ∷ [] =
-    ap (map held_in) c.take_hand.ensures.hands ∙ (map_push held_in c.take_blocks.new.room.hands.items _ ∙ ap (λ (hs : List Held). hs ++ env ∷ []) blocks_are) in
+    ap (map held_in) c.take_hand.ensures.hands ∙ (map_push held_in c.take_blocks.new.room.hands.items _ ∙ ap (λ (hs : List WorkerHand). hs ++ env ∷ []) blocks_are) in
     let hands_are : hands ≡ (map (λ w. block_hand (worker_of w)) d.blocks.items ++ env_hand d.environment ∷ []) ++ map forwarder_hand d.forwarders.items =
     joined (map (λ w. block_hand (worker_of w)) d.blocks.items) (map held_in c.take_hand.new.self.hands.items) hands (map forwarder_hand d.forwarders.items) env (env_hand d.environment) with_env env_is c.take_forwarders.ensures.hands in
     same_outcome d logs parts.put.items parts.received.items hands c.into_rests.result.items logs_are c.into_parts-env.ensures.put c.into_parts-env.ensures.received hands_are c.into_rests.ensures

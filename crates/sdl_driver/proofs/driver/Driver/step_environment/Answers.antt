@@ -1,6 +1,6 @@
 use Rattle.std.proofs.Common.{All, length, sym, subst}
 use Rattle.sdl_parts.specs.Structure.{Structure}
-use Rattle.sdl_routes.specs.declared.parts.Station.TheVariants.{Outlet}
+use Rattle.sdl_routes.specs.declared.route.Station.TheVariants.{Outlet}
 use Rattle.sdl_instances.specs.Legal.{IsLegal}
 use Rattle.sdl_instances.specs.Core.{signals_of, sets_of}
 use Rattle.sdl_forward.specs.Boards.{waiting}

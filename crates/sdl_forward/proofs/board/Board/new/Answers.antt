@@ -1,15 +1,15 @@
 use Rattle.std.proofs.Common.{◌≡◌, List, map, sym, ap, ◌∙◌, subst}
 use Rattle.sdl_signal.specs.declared.values.Item.{Item}
-use Rattle.sdl_routes.specs.declared.parts.Station.{Station}
+use Rattle.sdl_routes.specs.declared.route.Station.{Station}
 use Rattle.sdl_queue.specs.declared.rest.Rest.{Rest}
-use Rattle.sdl_forward.specs.Boards.{stations_of, waiting, lists_of, AreInOrder, AreAllStations}
+use Rattle.sdl_forward.specs.Boards.{stations_of, waiting, lists_of, AreStationsInOrder, AreAllStations}
 use Rattle.sdl_forward.specs.Index.{IsIndexOf, AreSerial}
 use Rattle.sdl_forward.proofs.Entries.{stations-lists}
 use Rattle.sdl_forward.proofs.Fresh.{empty_queue, stations_fresh, serial_fresh, waiting_fresh}
 use Rattle.sdl_forward.proofs.board.Board.new.Goals as goal
 
 pub of-requires : goal.of-requires
-of-requires c = subst AreInOrder (sym c.as_slice.ensures.value) c.in_ok-stations.ensures.order
+of-requires c = subst AreStationsInOrder (sym c.as_slice.ensures.value) c.in_ok-stations.ensures.order
 
 pub invariant_of-result : goal.invariant_of-result
 invariant_of-result c =

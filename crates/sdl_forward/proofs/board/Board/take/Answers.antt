@@ -1,6 +1,6 @@
 use Rattle.std.proofs.Common.{◌≡◌, List, [], ◌∷◌, Option, MatchOption, slice_set, refl, sym, ◌∙◌, subst, arith}
 use Rattle.sdl_signal.specs.declared.values.Item.{Item}
-use Rattle.sdl_routes.specs.declared.parts.Station.{Station}
+use Rattle.sdl_routes.specs.declared.route.Station.{Station}
 use Rattle.sdl_queue.specs.declared.rest.Rest.TheVariants.{Serial}
 use Rattle.sdl_forward.specs.Boards.{waiting, ChangesOnly, lists_of}
 use Rattle.sdl_forward.proofs.Entries.{found_within, not_found, not_ruled, entry_here, takes, changes, index_same, serial_set}

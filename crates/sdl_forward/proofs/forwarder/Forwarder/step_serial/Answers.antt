@@ -1,15 +1,15 @@
 use Rattle.std.proofs.Common.{◌≡◌, List, Some, Contains, ap, sym, ◌∙◌, subst}
-use Rattle.sdl_routes.specs.declared.parts.Hop.{Hop}
-use Rattle.sdl_routes.specs.declared.parts.Row.{Row}
-use Rattle.sdl_routes.specs.declared.parts.Station.{Station}
-use Rattle.sdl_routes.specs.declared.parts.Station.TheVariants.{Line}
+use Rattle.sdl_routes.specs.declared.route.Hop.{Hop}
+use Rattle.sdl_routes.specs.declared.route.TableRow.{TableRow}
+use Rattle.sdl_routes.specs.declared.route.Station.{Station}
+use Rattle.sdl_routes.specs.declared.route.Station.TheVariants.{Line}
 use Rattle.sdl_forward.specs.Forwards.{Forwarding, next_station}
 use Rattle.sdl_forward.proofs.Onward.{next_is, next_passed, moves}
 use Rattle.sdl_forward.proofs.forwarder.Forwarder.step_serial.Goals as goal
 
 pub put-requires : goal.put-requires
 put-requires c =
-    let rows : List Row = c.args.routes.now in
+    let rows : List TableRow = c.args.routes.now in
     let to : Station = c.in-Some-next.next in
     let next : next_station rows (Line c.self.inside.hop) c.in-Some.item ≡ Some to =
     next_is rows (Line c.self.inside.hop) c.in-Some.item (Some to) c.in-Some-next.ensures.known c.in-Some-next.ensures.unknown in
@@ -18,7 +18,7 @@ put-requires c =
 
 pub returns-in-Ok-clause-step : goal.returns-in-Ok-clause-step
 returns-in-Ok-clause-step c =
-    let rows : List Row = c.args.routes.now in
+    let rows : List TableRow = c.args.routes.now in
     let to : Station = c.in-Some-next.next in
     let same : c.self.inside.hop ≡ c.args.self.now.hop = ap (λ (f : Forwarding). f.hop) (c.self.view_is ∙ c.in-Some.ensures.emptied) in
     let next : next_station rows (Line c.self.inside.hop) c.in-Some.item ≡ Some to =

@@ -1,6 +1,6 @@
 use Rattle.std.proofs.Common.{false}
 use Rattle.std.proofs.lemmas.Option.{slice_get-get_or}
-use Rattle.sdl_routes.specs.declared.parts.Station.TheVariants.{Line}
+use Rattle.sdl_routes.specs.declared.route.Station.TheVariants.{Line}
 use Rattle.sdl_forward.proofs.Places.{index_more}
 use Rattle.sdl_forward.proofs.index.Index.of.Goals as goal
 

@@ -1,5 +1,5 @@
 use Rattle.std.proofs.Common.{List, Contains, sym, subst}
-use Rattle.sdl_routes.specs.declared.parts.Station.{Station}
+use Rattle.sdl_routes.specs.declared.route.Station.{Station}
 use Rattle.sdl_forward.proofs.Onward.{answered_passed}
 use Rattle.sdl_forward_tests.proofs.bench.Bench.put_behind.Goals as goal
 

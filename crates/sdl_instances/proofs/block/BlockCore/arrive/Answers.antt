@@ -1,4 +1,4 @@
-use Rattle.sdl_instances.specs.Cores.{core_of, system_in}
+use Rattle.sdl_instances.specs.CoreOf.{core_of, system_in}
 use Rattle.sdl_instances.proofs.Arrived.{sound_result}
 use Rattle.sdl_instances.proofs.block.BlockCore.arrive.Goals as goal
 

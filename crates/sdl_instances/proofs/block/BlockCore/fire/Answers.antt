@@ -8,7 +8,7 @@ use Rattle.sdl_transition.specs.Rules.{rule_of, row_for, block_rules}
 use Rattle.sdl_instances.specs.declared.event.Trigger.TheVariants as trigger
 use Rattle.sdl_processes.specs.Record.{consumed}
 use Rattle.sdl_instances.specs.Core.{Core, system_of}
-use Rattle.sdl_instances.specs.Cores.{core_of, system_in}
+use Rattle.sdl_instances.specs.CoreOf.{core_of, system_in}
 use Rattle.sdl_instances.specs.Living.{StandsAt, CanAct, CanCarryOut}
 use Rattle.sdl_instances.specs.Turning.{Completes}
 use Rattle.sdl_instances.proofs.Frames.{rules_legal, row_offer}
@@ -59,9 +59,9 @@ complete-requires-clause-ready g c =
     let place = c.args.place in
     let taken = c.consume-item.ensures.consumed p next.0 next.3 in
     let t = consumed next.0 c.consume-item.result taken.0 in
-    let ready = ready_at_place g.S.Agents.may sys core c.requires.sound place c.args.self.now.table.births (slice_get_within core.state.living place (p, next.0) next.3) c.requires.room.births in
-    subst (λ (m : Core). CanCarryOut m.sets place 8 c.consume-item.new.self.births m.state) (sym taken.2)
-    (ready_consumed sys.sets place 8 c.args.self.now.table.births c.consume-item.new.self.births core.state p next.0 t (after_consume core place p t).state next.3 ready refl c.consume-item.ensures.births)
+    let ready = ready_at_place g.S.Agents.may sys core c.requires.sound place c.args.self.now.table.creatable (slice_get_within core.state.living place (p, next.0) next.3) c.requires.room.creatable in
+    subst (λ (m : Core). CanCarryOut m.sets place 8 c.consume-item.new.self.creatable m.state) (sym taken.2)
+    (ready_consumed sys.sets place 8 c.args.self.now.table.creatable c.consume-item.new.self.creatable core.state p next.0 t (after_consume core place p t).state next.3 ready refl c.consume-item.ensures.creatable)
 
 pub complete-requires-clause-creatable : goal.complete-requires-clause-creatable
 complete-requires-clause-creatable g c =

@@ -3,7 +3,7 @@ use Rattle.std.proofs.lemmas.Option.{slice_get_within}
 use Rattle.sdl_transition.specs.Offers.{IsFrameOf, Conforms}
 use Rattle.sdl_transition.specs.Rules.{Rule}
 use Rattle.sdl_instances.specs.Machine.{frame_of}
-use Rattle.sdl_instances.specs.Cores.{core_of, system_in}
+use Rattle.sdl_instances.specs.CoreOf.{core_of, system_in}
 use Rattle.sdl_instances.proofs.Frames.{rules_legal}
 use Rattle.sdl_instances.proofs.SoundFrames.{shown_at_start}
 use Rattle.sdl_instances.proofs.Firing.{set_at_place, rules_at_place, rules_of_place, ready_at_place, can_act_all, frame_at_first, rules_of_set, starts}
@@ -36,7 +36,7 @@ pub complete-requires-clause-ready : goal.complete-requires-clause-ready
 complete-requires-clause-ready g c =
     let next = c.requires.next in
     let core = core_of c.args.self.now in
-    ready_at_place g.S.Agents.may (system_in c.args.self.now c.args.routes.now) core c.requires.sound c.args.place _ (slice_get_within core.state.living c.args.place (c.args.frame.self_pid, next.0) next.1) c.requires.room.births
+    ready_at_place g.S.Agents.may (system_in c.args.self.now c.args.routes.now) core c.requires.sound c.args.place _ (slice_get_within core.state.living c.args.place (c.args.frame.self_pid, next.0) next.1) c.requires.room.creatable
 
 pub complete-requires-clause-creatable : goal.complete-requires-clause-creatable
 complete-requires-clause-creatable g c =

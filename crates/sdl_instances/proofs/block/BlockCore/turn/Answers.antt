@@ -3,7 +3,7 @@ use Rattle.sdl_signal.specs.declared.values.Pid.{Pid}
 use Rattle.sdl_behaviour.specs.declared.step.Frame.{Frame}
 use Rattle.sdl_transition.specs.Rules.{block_rules}
 use Rattle.sdl_instances.specs.Core.{Core, system_of}
-use Rattle.sdl_instances.specs.Cores.{core_of, system_in}
+use Rattle.sdl_instances.specs.CoreOf.{core_of, system_in}
 use Rattle.sdl_instances.specs.Living.{StandsAt, next_frame}
 use Rattle.sdl_instances.specs.Turning.{Fires}
 use Rattle.sdl_instances.proofs.Firing.{fired_answers, fired_sound, fired_legal}

@@ -22,7 +22,7 @@ returns-clause-creates c p r at =
       | then-number_of-numbers w ↦
           creates_one c.args.sets.now place p r c.args.set c.args.vars.now.items old mid made c.pid-creator.result d new
           at (c.pid-creator.ensures p r at) c.numbers_at-numbers.ensures (let lt = w.if-number_of-numbers.true in omega (arith, counted, lt))
-          (w.made-is ∙ w.bear-made.ensures.pid) (ap state_of w.self-is ∙ w.bear-made.ensures.born) after
+          (w.made-is ∙ w.add_created-made.ensures.pid) (ap state_of w.self-is ∙ w.add_created-made.ensures.with_created) after
       | else-number_of-numbers w ↦
           (let same : mid ≡ old = ap state_of w.self-is in
           creates_none c.args.sets.now place p r c.args.set c.args.vars.now.items old made d new

@@ -1,7 +1,7 @@
 use Rattle.std.proofs.Common.{arith, ap, refl, [], ◌∷◌, ◌++◌, ◌∙◌, slice_set}
 use Rattle.sdl_signal.specs.declared.values.Item.{Item}
 use Rattle.sdl_instances.specs.declared.event.Arrival.TheVariants as arrival
-use Rattle.sdl_instances.specs.Core.{Held}
+use Rattle.sdl_instances.specs.Core.{CoreWithRoom}
 use Rattle.sdl_instances.proofs.Logs.{counted-arrival, waiting-more}
 use Rattle.sdl_instances.proofs.Places.{becomes-written, pid-at}
 use Rattle.sdl_instances.proofs.table.Table.enter.Goals as goal
@@ -23,12 +23,12 @@ returns-clause-entered c =
     let p = c.in-Ok.pid in
     let (r, at, after) = c.in-Ok.ensures.ok in
     let written = after ∙ ap (λ (i : Item). slice_set es c.args.place (p, record r { port = r.port ++ i ∷ [] })) c.copied_item-copy.ensures in
-    (r, becomes-written es c.self.inside.living.last.items c.args.place p r at c.receive.new.self.entries (record r { port = r.port ++ c.args.item ∷ [] }) c.args.self.now.core.state written (ap (λ (h : Held). h.core.state) c.self.view_is))
+    (r, becomes-written es c.self.inside.living.last.items c.args.place p r at c.receive.new.self.entries (record r { port = r.port ++ c.args.item ∷ [] }) c.args.self.now.core.state written (ap (λ (h : CoreWithRoom). h.core.state) c.self.view_is))
 
 pub returns-clause-place : goal.returns-clause-place
 returns-clause-place c =
     let (r, at, after) = c.in-Ok.ensures.ok in
-    pid-at c.self.inside.living.instances.entries c.self.inside.living.last.items c.args.place c.in-Ok.pid r at c.args.self.now.core.state (ap (λ (h : Held). h.core.state) c.self.view_is)
+    pid-at c.self.inside.living.instances.entries c.self.inside.living.last.items c.args.place c.in-Ok.pid r at c.args.self.now.core.state (ap (λ (h : CoreWithRoom). h.core.state) c.self.view_is)
 
 pub returns-in-Err-clause-err : goal.returns-in-Err-clause-err
-returns-in-Err-clause-err c = (refl, rw (c.in-Err.ensures.err, c.reserve.ensures.items) (ap (λ (h : Held). h.core) c.self.view_is))
+returns-in-Err-clause-err c = (refl, rw (c.in-Err.ensures.err, c.reserve.ensures.items) (ap (λ (h : CoreWithRoom). h.core) c.self.view_is))

@@ -1,11 +1,11 @@
 use Rattle.std.proofs.Common.{◌≡◌, Some, None, sym, ap, ◌∙◌, subst, position, bytes_eq}
 use Rattle.sdl_signal.specs.declared.naming.SignalEntry.{SignalEntry}
-use Rattle.sdl_signal.specs.Names.{Declared}
+use Rattle.sdl_signal.specs.Names.{DeclaredSignal}
 use Rattle.sdl_signal.specs.Reading.{IsNamedAt, IsNowhere}
 use Rattle.sdl_signal.proofs.Named.{named_from_position, nowhere_from_position, named_in_map, nowhere_in_map}
 use Rattle.sdl_signal.proofs.naming.Names.signal_named.Goals as goal
 
-abbrev of_entry : SignalEntry → Declared
+abbrev of_entry : SignalEntry → DeclaredSignal
 of_entry s = record { name = s.name.bytes; sorts = s.sorts.items }
 
 pub returns-in_default-clause-absent : goal.returns-in_default-clause-absent

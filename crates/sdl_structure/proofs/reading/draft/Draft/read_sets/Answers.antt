@@ -1,5 +1,5 @@
-use Rattle.std.proofs.Common.{rules, arith, ◌≡◌, ◌+◌, ◌<◌, length, take, map, ap, sym, subst, refl, ◌∙◌}
-use Rattle.std.proofs.lemmas.List.{length-map, length-append}
+use Rattle.std.proofs.Common.{arith, ◌≡◌, length, take, map, ap, sym, subst, refl, ◌∙◌}
+use Rattle.std.proofs.lemmas.List.{length-map}
 use Rattle.std.proofs.lemmas.Bool.Decides.{nat_tests}
 use Rattle.sdl_tables.specs.declared.place.Key.TheVariants as key
 use Rattle.sdl_structure.specs.declared.reading.draft.Draft.{Draft}
@@ -10,8 +10,8 @@ use Rattle.sdl_tables.proofs.ListLemmas.{take_map_more}
 use Rattle.sdl_structure.proofs.DraftLemmas.{too_many_sets, set_joins, grows_none, grows_more, length_before, one_set_more}
 use Rattle.sdl_structure.proofs.reading.draft.Draft.read_sets.Goals as goal
 
-pub returns-then-len-tables-gt64-clause-fault : goal.returns-then-len-tables-gt64-clause-fault
-returns-then-len-tables-gt64-clause-fault c =
+pub returns-then-len-tables-gt-MOST_SETS-clause-fault : goal.returns-then-len-tables-gt-MOST_SETS-clause-fault
+returns-then-len-tables-gt-MOST_SETS-clause-fault c =
     let len : length (tables_at key.Set (own c.args.walk.now)) ≡ length c.in_ok-tables.tables.now = ap (λ ts. length ts) c.in_ok-tables.ensures.tables ∙ length-map c.in_ok-tables.tables.now table_in in
     too_many_sets _ _ c.args.block.0 _ c.requires.here c.requires.part c.requires.number c.at.ensures c.requires.read (grind (arith, nat_tests))
 
