@@ -7,7 +7,8 @@ pub mod Unique
 pub mod Counting
 pub mod Collecting
 pub mod ShownRoutes
-pub mod Borders
 pub mod Fitting
+pub mod Indexed
+pub mod Groups
 pub mod Once
 pub mod Echo

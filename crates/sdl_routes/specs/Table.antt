@@ -1,5 +1,5 @@
--- A table of routes: what its rows show without their structure, and where the rows of each signal stand.
-use Rattle.std.specs.Prelude.{◌≡◌, ℕ, ◌+◌, ◌<◌, ◌≤◌, Bool, List, [], ◌∷◌, ◌++◌, map, filter, length, get_or, Some, slice_get, ⊤}
+-- A table of routes: what its rows show without their structure.
+use Rattle.std.specs.Prelude.{◌≡◌, ◌<◌, ◌≤◌, Bool, List, [], ◌∷◌, ◌++◌, map, filter, length, ⊤}
 use Rattle.std.specs.List.{AllByRecursion}
 use Rattle.sdl_signal.specs.declared.ids.BlockId.{BlockId}
 use Rattle.sdl_signal.specs.declared.ids.GateId.{GateId}
@@ -49,19 +49,3 @@ pub record IsTable (rows : List TableRow) : Type 0 where
   pub few : length rows ≤ 4096
   pub shown : AllByRecursion IsTableRoute rows
   pub order : AreInOrder rows
-
--- the rows of a signal stand from low to high
-pub record IsRange (rows : List TableRow) (signal low high : ℕ) : Type 0 where
-  pub ordered : low ≤ high
-  pub within : high ≤ length rows
-  pub all : (k : ℕ) (row : TableRow) → slice_get rows k ≡ Some row → row.route.signal.0 ≡ signal → (low ≤ k) × (k < high)
-
--- the rows of each signal stand from its start to that of the next
-abbrev pub AreStarts : List TableRow → List ℕ → Type 0
-AreStarts rows starts = (signal : ℕ) → signal < 64 → IsRange rows signal (get_or starts signal 0) (get_or starts (signal + 1) 0)
-
--- the rows of signals below this one stand below the bound, and the others not
-pub record IsBorder (rows : List TableRow) (signal bound : ℕ) : Type 0 where
-  pub within : bound ≤ length rows
-  pub below : (k : ℕ) (row : TableRow) → slice_get rows k ≡ Some row → row.route.signal.0 < signal → k < bound
-  pub above : (k : ℕ) (row : TableRow) → slice_get rows k ≡ Some row → signal ≤ row.route.signal.0 → bound ≤ k

@@ -1,9 +1,8 @@
-//! The choice of a route, and the way along one.
-ghost use Rattle.std.specs.Prelude.{◌≡◌, ℕ, ◌<◌, ◌≤◌, length, slice_get, IsTrue, ◌↔◌};
-ghost use Rattle.sdl_routes.specs.Routes.{Fits, EndsAs, GoesBy, FollowsIn, EachOnce, IsChoice};
+//! Whether a route fits a wish, and the way along one.
+ghost use Rattle.std.specs.Prelude.{◌≡◌, slice_get, IsTrue, ◌↔◌};
+ghost use Rattle.sdl_routes.specs.Routes.{Fits, EndsAs, GoesBy, FollowsIn, EachOnce};
 
 use crate::route::{EndPoint, Goal, Route, Station, TableRow, Via, Wish};
-use sdl_signal::RouteId;
 
 /// Whether the route ends as the goal says.
 fn ends_as(route: &Route, goal: Goal) -> bool
@@ -29,7 +28,7 @@ fn goes_by(route: &Route, via: Via) -> bool
 }
 
 /// Whether the route fits the wish.
-fn fits(row: &TableRow, wish: &Wish) -> bool
+pub fn fits(row: &TableRow, wish: &Wish) -> bool
     ensures { IsTrue result ↔ Fits row.now wish.now }
 {
     row.route.signal == wish.signal
@@ -66,39 +65,4 @@ pub fn station_after(stations: &[Station], after: Option<Station>) -> Option<Sta
         }
     }
     None
-}
-
-/// The route at `pick` among those that fit, of which all stand from `low` to `high`.
-pub fn choose_among(
-    rows: &[TableRow],
-    low: usize,
-    high: usize,
-    wish: &Wish,
-    pick: u32,
-) -> Option<RouteId>
-    requires within { high ≤ length rows.now }
-    requires ordered { low ≤ high }
-    requires few { length rows.now ≤ 4096 }
-    requires others { (k : ℕ) (row : TableRow) → slice_get rows.now k ≡ Some row → Fits row wish.now → (low ≤ k) × (k < high) }
-    ensures { IsChoice rows.now wish.now pick result }
-{
-    let mut count: u32 = 0;
-    for number in low..high {
-        if fits(&rows[number], wish) {
-            count += 1;
-        }
-    }
-    if count == 0 {
-        return None;
-    }
-    let mut left = pick % count;
-    'second: for number in low..high {
-        if fits(&rows[number], wish) {
-            if left == 0 {
-                return Some(RouteId(number as u32));
-            }
-            left -= 1;
-        }
-    }
-    unreachable!()
 }

@@ -2,12 +2,13 @@
 #![tactic(auto)]
 
 mod choice;
+mod entries;
 mod hops;
+mod index;
 pub mod laws;
 pub mod route;
 mod rows;
 mod search;
-mod starts;
 pub mod table;
 
 pub use route::{EndPoint, Goal, Hop, Route, Source, Station, Via, Wish};

@@ -3,10 +3,10 @@ ghost use Rattle.std.specs.Prelude.{◌≡◌, ◌≤◌, length, slice_get, opt
 ghost use Rattle.sdl_routes.specs.Routes.{AreRoutesOf, HasTooMany, FollowsIn, IsChoice};
 ghost use Rattle.sdl_routes.specs.Table.{IsTable};
 
-use crate::choice::{choose_among, station_after};
+use crate::choice::station_after;
+use crate::index::Index;
 use crate::route::{Route, Station, TableRow, Wish};
 use crate::search::all_routes;
-use crate::starts::starts_of;
 use sdl_parts::Checked;
 use sdl_parts::limits::MOST_SIGNALS;
 use sdl_signal::RouteId;
@@ -29,20 +29,20 @@ pub enum RouteFault {
 #[derive(Drop)]
 pub struct Routes {
     rows: Vec<TableRow>,
-    /// Where the routes of each signal start, and behind the last signal where they end.
-    starts: [usize; 65],
+    index: Index,
 }
 
 impl Model for Routes {
     ghost use Rattle.std.specs.Prelude.{List};
     ghost use Rattle.sdl_routes.specs.declared.route.TableRow.{TableRow};
-    ghost use Rattle.sdl_routes.specs.Table.{IsTable, AreStarts};
+    ghost use Rattle.sdl_routes.specs.Table.{IsTable};
+    ghost use Rattle.sdl_routes.specs.Index.{IsIndexOf};
 
     ghost Value = { List TableRow };
 
     ghost view = { λ t. t.rows.items };
 
-    ghost invariant = { λ t. IsTable t.rows.items × AreStarts t.rows.items t.starts };
+    ghost invariant = { λ t. IsTable t.rows.items × IsIndexOf t.rows.items t.index };
 }
 
 impl Routes {
@@ -54,8 +54,10 @@ impl Routes {
         ensures too_many { IsErrOf result RouteFault.TooMany ↔ HasTooMany checked.now }
     {
         let rows = all_routes(alloc, checked.structure())?;
-        let starts = starts_of(rows.as_slice());
-        Ok(Routes { rows, starts })
+        match Index::of(alloc, rows.as_slice()) {
+            Ok(index) => Ok(Routes { rows, index }),
+            Err(_) => Err(RouteFault::Memory),
+        }
     }
 
     /// The route of this number.
@@ -95,17 +97,9 @@ impl Routes {
         ensures choice { IsChoice self.now wish.now pick result }
         ensures table { IsTable self.now }
     {
-        let signal = wish.signal.0 as usize;
-        if signal < MOST_SIGNALS {
-            choose_among(
-                self.rows.as_slice(),
-                self.starts[signal],
-                self.starts[signal + 1],
-                wish,
-                pick,
-            )
-        } else {
-            choose_among(self.rows.as_slice(), 0, 0, wish, pick)
+        match self.index.entry_of(wish) {
+            Some(entry) => entry.at(pick),
+            None => None,
         }
     }
 }
