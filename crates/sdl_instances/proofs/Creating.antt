@@ -1,5 +1,5 @@
 -- What is done at one place among the living instances.
-use Rattle.std.proofs.Common.{Bool, true, false, nat_le, if◌then◌else◌, ◌≡◌, ℕ, zero, suc, ◌+◌, ◌<◌, ◌≤◌, List, [], ◌∷◌, ◌++◌, Option, Some, All, refl, ap, sym, ◌∙◌, subst, unwrap_or, is_some, true≢false, length, get_or, slice_get, slice_set, slice_index, arith}
+use Rattle.std.proofs.Common.{Bool, true, false, nat_le, if◌then◌else◌, ◌≡◌, ℕ, zero, suc, ◌+◌, ◌<◌, ◌≤◌, List, [], ◌∷◌, ◌++◌, Option, Some, All, refl, ap, sym, ◌∙◌, subst, unwrap_or, is_some, true≢false, slice_get, slice_set, slice_index, arith}
 use Rattle.std.proofs.lemmas.Bool.{leb-true}
 use Rattle.std.proofs.lemmas.List.Elements.{All-weaker}
 use Rattle.sdl_signal.specs.declared.ids.SetId.{SetId}

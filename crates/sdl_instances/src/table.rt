@@ -198,16 +198,14 @@ impl Table {
     pub fn look(&self, pick: u32) -> Look
         ensures { LookFinds pick self.now.core result }
     {
-        let ready = self.living.instances.ready();
-        if ready.len() == 0 {
+        let ready = self.living.instances.ready_count();
+        if ready == 0 {
             return Look::Idle;
         }
-        let place = ready[pick as usize % ready.len()];
         if self.made == self.budget {
-            Look::Spent
-        } else {
-            Look::Next(place)
+            return Look::Spent;
         }
+        Look::Next(self.living.instances.ready_at(pick as usize % ready))
     }
 
     /// The number of turns so far. No memory is taken.

@@ -1,4 +1,4 @@
 pub mod Entries
 pub mod Readiness
-mod ReadyPlaces
+mod ReadyCounts
 mod SetPlaces

@@ -1,14 +1,12 @@
 -- Which instances are ready, and their places in order.
-use Rattle.std.proofs.Common.{◌≡◌, ℕ, zero, suc, ◌+◌, ◌<◌, Bool, true, false, ◌||◌, not, is_none, nat_eq, List, [], ◌∷◌, Option, None, Some, ◌⊎◌, inl, inr, refl, ap, sym, ◌∙◌, sum_by, true≢false, is_some, unwrap_or, length, length-append, take, drop, cond, ◌++◌, take-append-drop, slice_get, count_by, arith}
+use Rattle.std.proofs.Common.{◌≡◌, ℕ, zero, suc, ◌+◌, ◌<◌, Bool, true, false, ◌||◌, not, is_none, nat_eq, List, [], ◌∷◌, Option, None, Some, ◌⊎◌, inl, inr, refl, ap, sym, ◌∙◌, true≢false, is_some, unwrap_or, length, length-append, take, drop, cond, ◌++◌, take-append-drop, slice_get, count_by, arith}
 use Rattle.std.proofs.lemmas.List.Sums.{count_by_more_yes, sum_by-append}
 use Rattle.std.proofs.lemmas.Option.{slice_get_within, get_or_from_slice_get}
 use Rattle.std.specs.Map.{values_of}
-use Rattle.sdl_signal.specs.declared.values.Pid.{Pid}
 use Rattle.sdl_signal.specs.declared.values.Item.{Item}
 use Rattle.sdl_signal.specs.declared.values.Value.{Value}
 use Rattle.sdl_signal.specs.declared.ids.StateId.{StateId}
 use Rattle.sdl_processes.specs.Record.{Record, is_ready}
-use Rattle.sdl_processes.specs.Places.{at_if, ready_places}
 
 -- the two ways to say that an instance is ready
 not_so : (b : Bool) → (b ≡ true → ⊥) → not b ≡ true
@@ -39,6 +37,11 @@ received_ready r t i is =
 pub proceeds_ready : (r t : Record) (q : StateId) (vars : List Value) → t ≡ record r { state = Some q; vars = vars } → is_ready t ≡ true → is_ready r ≡ true
 proceeds_ready r t q vars is h = ap (λ b. is_none r.state || b) (sym (ap is_ready is) ∙ h) ∙ waits_for_none (is_none r.state)
 
+-- one that was not ready, and would have been ready before, is not ready
+pub stays_so : (b was : Bool) → was ≡ false → (b ≡ true → was ≡ true) → b ≡ was
+stays_so false was is h = sym is
+stays_so true was is h = sym (h refl)
+
 not_empty : (port : List Item) → not (nat_eq (length port) 0) ≡ true → port ≡ [] → ⊥
 not_empty port h e = true≢false (sym h ∙ ap (λ (l : List Item). not (nat_eq (length l) 0)) e)
 
@@ -64,45 +67,3 @@ some_ready rs i r at ready =
     let parts = ap (count_by is_ready) (take-append-drop (i + 1) rs) in
     let sum : count_by is_ready (take (i + 1) rs ++ drop (i + 1) rs) ≡ count_by is_ready (take (i + 1) rs) + count_by is_ready (drop (i + 1) rs) = sum_by-append (λ (x : Record). cond (is_ready x) 1 0) (take (i + 1) rs) (drop (i + 1) rs) in
     omega (arith, more, parts, sum)
-
--- what a count says of the first one
-count_first : (r : Record) (rs : List Record) (b : Bool) → is_ready r ≡ b → count_by is_ready (r ∷ rs) ≡ cond b 1 0 + count_by is_ready rs
-count_first r rs b is =
-    let f : Record → ℕ = λ x. cond (is_ready x) 1 0 in
-    let parts = sum_by-append f (r ∷ []) rs in
-    let one : sum_by f (r ∷ []) ≡ f r = omega arith in
-    let same : f r ≡ cond b 1 0 = ap (λ c. cond c 1 0) is in
-    omega (arith, parts, one, same)
-
--- there are as many places as ready ones
-length_if : (b : Bool) (n m : ℕ) (xs : List ℕ) → length xs ≡ m → length (at_if n b ++ xs) ≡ cond b 1 0 + m
-length_if true n m xs h = omega (arith, h)
-length_if false n m xs h = omega (arith, h)
-
-pub count_places : (es : List (Pid × Record)) (n : ℕ) → length (ready_places n es) ≡ count_by is_ready (values_of es)
-count_places [] n = refl
-count_places (e ∷ es) n =
-    length_if (is_ready e.1) n (count_by is_ready (values_of es)) (ready_places (n + 1) es) (count_places es (n + 1))
-    ∙ sym (count_first e.1 (values_of es) (is_ready e.1) refl)
-
--- the place at j is that of the ready one before which stand j others
-abbrev pub IsPlaceAt : List (Pid × Record) → ℕ → ℕ → ℕ → Type 0
-IsPlaceAt es n j x =
-    (k : ℕ) × (e : Pid × Record) × (x ≡ n + k) × (slice_get es k ≡ Some e) × (is_ready e.1 ≡ true) × (count_by is_ready (take k (values_of es)) ≡ j)
-
-later : (e : Pid × Record) (es : List (Pid × Record)) (n i j x : ℕ) (b : Bool) → is_ready e.1 ≡ b → j ≡ cond b 1 0 + i → IsPlaceAt es (n + 1) i x → IsPlaceAt (e ∷ es) n j x
-later e es n i j x b is more (k, at, place, here, ready, others) =
-    let first = count_first e.1 (take k (values_of es)) b is in
-    (suc k, at, omega (arith, place), here, ready, omega (arith, first, others, more))
-
-place_by : (e : Pid × Record) (es : List (Pid × Record)) (n : ℕ) (b : Bool) → is_ready e.1 ≡ b → ((j x : ℕ) → slice_get (ready_places (n + 1) es) j ≡ Some x → IsPlaceAt es (n + 1) j x)
-    → (j x : ℕ) → slice_get (at_if n b ++ ready_places (n + 1) es) j ≡ Some x → IsPlaceAt (e ∷ es) n j x
-place_by e es n true is more zero x h =
-    let here : n ≡ x = ap (λ o. unwrap_or o n) h in
-    (0, e, omega (arith, here), refl, is, refl)
-place_by e es n true is more (suc j) x h = later e es n j (suc j) x true is (omega arith) (more j x h)
-place_by e es n false is more j x h = later e es n j j x false is (omega arith) (more j x h)
-
-pub place_at : (es : List (Pid × Record)) (n j x : ℕ) → slice_get (ready_places n es) j ≡ Some x → IsPlaceAt es n j x
-place_at [] n j x h = absurd (true≢false (sym (ap is_some h)))
-place_at (e ∷ es) n j x h = place_by e es n (is_ready e.1) refl (λ i y k. place_at es (n + 1) i y k) j x h

@@ -1,10 +1,12 @@
 //! The living process instances of a block: their input ports and variables, and which of them are ready or of a set.
 #![tactic(auto)]
 
+mod all_by_set;
 mod by_set;
 pub mod copies;
 pub mod instance;
 pub mod living_instances;
+mod ready;
 
 pub use instance::Instance;
 pub use living_instances::Instances;

@@ -1,120 +1,44 @@
 //! The living instances by their places, and which of them are ready.
-ghost use Rattle.std.specs.Prelude.{◌≡◌, ℕ, ◌+◌, ◌<◌, ◌≤◌, ◌++◌, ◌∷◌, [], List, Some, All, OnOk, OnErr, IfOk, IfSome, length, count_by, take, slice_get, slice_set, remove, true, false, vec_capacity};
+ghost use Rattle.std.specs.Prelude.{◌≡◌, ℕ, ◌+◌, ◌<◌, ◌≤◌, ◌++◌, ◌∷◌, [], List, Some, All, OnOk, OnErr, IfOk, IfSome, length, count_by, take, slice_get, slice_set, remove, true};
 ghost use Rattle.std.specs.Map.{keys_of, values_of};
 ghost use Rattle.sdl_signal.specs.declared.values.Pid.{Pid};
 ghost use Rattle.sdl_signal.specs.declared.values.Pid.TheVariants as pid;
 ghost use Rattle.sdl_signal.specs.declared.values.Item.{Item};
 ghost use Rattle.sdl_processes.specs.Record.{Record, consumed, is_ready};
-ghost use Rattle.sdl_processes.specs.Places.{AreBySet, is_of, ready_places};
+ghost use Rattle.sdl_processes.specs.Places.{is_of};
+ghost use Rattle.sdl_processes.specs.Ready.{IsReadyPlace};
 
-use crate::by_set::{PlacesBySet, leave};
+use crate::all_by_set::places_by_set;
+use crate::by_set::PlacesBySet;
 use crate::instance::Instance;
+use crate::ready::ReadyCounts;
 use arrayvec::ArrayVec;
 use indexmap::IndexMap;
 use sdl_signal::{Item, Pid, SetId, StateId, Value};
 use std::alloc::{AllocError, Global};
 use std::marker::Model;
 
-/// The living instances of a block in the order of their creation, the places of those that are ready, and the places of
-/// those of each set.
+/// The living instances of a block in the order of their creation, with the counts of those that are ready, and the places
+/// of those of each set.
 #[derive(Drop)]
 pub struct Instances {
     map: IndexMap<Pid, Instance>,
-    ready: Vec<usize>,
+    ready: ReadyCounts,
     by_set: PlacesBySet,
 }
 
 impl Model for Instances {
-    ghost use Rattle.std.specs.Prelude.{◌≡◌, ◌-◌, min, length, vec_capacity};
+    ghost use Rattle.std.specs.Prelude.{◌-◌, min, length};
+    ghost use Rattle.std.specs.Map.{values_of};
     ghost use Rattle.indexmap.specs.IndexMap.{spare};
-    ghost use Rattle.sdl_processes.specs.Places.{Listed, AreBySet, ready_places};
+    ghost use Rattle.sdl_processes.specs.Places.{Listed, AreBySet};
+    ghost use Rattle.sdl_processes.specs.Ready.{AreReadyCounts, room_of};
 
     ghost Value = { Listed };
 
-    ghost view = { λ i. record { entries = i.map.entries; creatable = min (spare i.map) (min (vec_capacity i.ready - length i.map.entries) i.by_set.room); sets = length i.by_set.lists } };
+    ghost view = { λ i. record { entries = i.map.entries; creatable = min (spare i.map) (min (room_of i.ready - length i.map.entries) i.by_set.room); sets = length i.by_set.lists } };
 
-    ghost invariant = { λ i. (i.ready.items ≡ ready_places 0 i.map.entries) × AreBySet i.by_set.lists i.map.entries };
-}
-
-/// The places of the ready instances.
-fn places_of_ready(
-    alloc: Global,
-    instances: &IndexMap<Pid, Instance>,
-) -> Result<Vec<usize>, AllocError>
-    ensures { IfOk result (λ v. v.items ≡ ready_places 0 instances.now.entries) }
-{
-    let mut ready = Vec::with_capacity(alloc, instances.len())?;
-    for place in 0..instances.len() {
-        match instances.get_index(place) {
-            Some((_, instance)) => {
-                if instance.is_ready() {
-                    ready.push(place)?;
-                }
-            }
-            None => unreachable!(),
-        }
-    }
-    Ok(ready)
-}
-
-/// Adds the place of the instance to those of its set.
-fn add_by_set(
-    alloc: Global,
-    by_set: &mut PlacesBySet,
-    pid: Pid,
-    place: usize,
-) -> Result<(), AllocError>
-    ensures { OnOk result ((es : List (Pid × Record)) (r : Record) → place ≡ length es → AreBySet by_set.old.lists es → AreBySet by_set.new.lists (es ++ (pid, r) ∷ [])) }
-{
-    match pid {
-        Pid::Inst(set, _) => {
-            by_set.make_room(alloc, set.0 as usize + 1)?;
-            by_set.add(set, place);
-            Ok(())
-        }
-        Pid::Null => Ok(()),
-        Pid::Env => Ok(()),
-    }
-}
-
-/// The places of the instances of each set.
-fn places_by_set(
-    alloc: Global,
-    instances: &IndexMap<Pid, Instance>,
-) -> Result<PlacesBySet, AllocError>
-    ensures { IfOk result (λ b. AreBySet b.lists instances.now.entries) }
-{
-    let mut by_set = PlacesBySet::new(alloc);
-    for place in 0..instances.len() {
-        match instances.get_index(place) {
-            Some((pid, _)) => add_by_set(alloc, &mut by_set, *pid, place)?,
-            None => unreachable!(),
-        }
-    }
-    Ok(by_set)
-}
-
-/// Notes that the instance at this place is ready.
-fn note(ready: &mut Vec<usize>, place: usize)
-    requires { length ready.old.items < vec_capacity ready.old }
-    ensures { (es : List (Pid × Record)) (e t : Pid × Record) → slice_get es place ≡ Some e → is_ready t.1 ≡ true → ready.old.items ≡ ready_places 0 es → ready.new.items ≡ ready_places 0 (slice_set es place t) }
-{
-    if let Err(at) = ready.binary_search(&place) {
-        match ready.insert(at, place) {
-            Ok(()) => {}
-            Err(_) => unreachable!(),
-        }
-    }
-}
-
-/// Notes that the instance at this place is not ready.
-fn forget(ready: &mut Vec<usize>, place: usize)
-    ensures items { (es : List (Pid × Record)) (e t : Pid × Record) → slice_get es place ≡ Some e → is_ready t.1 ≡ false → ready.old.items ≡ ready_places 0 es → ready.new.items ≡ ready_places 0 (slice_set es place t) }
-    ensures capacity { vec_capacity ready.new ≡ vec_capacity ready.old }
-{
-    if let Ok(at) = ready.binary_search(&place) {
-        ready.remove(at);
-    }
+    ghost invariant = { λ i. AreReadyCounts i.ready (values_of i.map.entries) × AreBySet i.by_set.lists i.map.entries };
 }
 
 impl Instances {
@@ -122,7 +46,9 @@ impl Instances {
     pub fn of_map(alloc: Global, map: IndexMap<Pid, Instance>) -> Result<Instances, AllocError>
         ensures { IfOk result (λ i. i.entries ≡ map.entries) }
     {
-        let ready = places_of_ready(alloc, &map)?;
+        let mut ready = ReadyCounts::new(alloc);
+        ready.make_room(map.len())?;
+        ready.recount(map.values().as_slice());
         let by_set = places_by_set(alloc, &map)?;
         Ok(Instances { map, ready, by_set })
     }
@@ -134,7 +60,7 @@ impl Instances {
         ensures sets { OnOk result (sets ≤ self.new.sets) }
     {
         self.map.reserve(8)?;
-        self.ready.reserve(self.map.len() - self.ready.len() + 8)?;
+        self.ready.make_room(self.map.len() + 8)?;
         self.by_set.make_room(alloc, sets)
     }
 
@@ -152,11 +78,19 @@ impl Instances {
         self.map.values().as_slice()
     }
 
-    /// The places of the ready instances, in order.
-    pub fn ready(&self) -> &[usize]
-        ensures { result.now ≡ ready_places 0 self.now.entries }
+    /// How many instances are ready.
+    pub fn ready_count(&self) -> usize
+        ensures { result ≡ count_by is_ready (values_of self.now.entries) }
     {
-        self.ready.as_slice()
+        self.ready.count()
+    }
+
+    /// The place of the ready instance before which stand k ready ones.
+    pub fn ready_at(&self, k: usize) -> usize
+        requires { k < count_by is_ready (values_of self.now.entries) }
+        ensures { IsReadyPlace (values_of self.now.entries) k result }
+    {
+        self.ready.at(k)
     }
 
     /// How many instances of the set there are.
@@ -193,12 +127,14 @@ impl Instances {
         ensures ok { IfOk result (λ p. (r : Record) × (slice_get self.old.entries place ≡ Some (p, r)) × (self.new.entries ≡ slice_set self.old.entries place (p, record r { port = r.port ++ item ∷ [] }))) }
         ensures err { OnErr result (self.new.entries ≡ self.old.entries) }
     {
-        self.ready.reserve(1)?;
         let (pid, instance) = self.map.pair_mut(place);
         let pid = *pid;
+        let was_ready = instance.is_ready();
         match instance.receive(item) {
             Ok(()) => {
-                note(&mut self.ready, place);
+                if !was_ready {
+                    self.ready.note(place);
+                }
                 Ok(pid)
             }
             Err(_) => Err(AllocError),
@@ -215,7 +151,7 @@ impl Instances {
         let (_, instance) = self.map.pair_mut(place);
         let item = instance.consume();
         if !instance.is_ready() {
-            forget(&mut self.ready, place);
+            self.ready.forget(place);
         }
         item
     }
@@ -236,9 +172,10 @@ impl Instances {
         ensures { (p : Pid) (r : Record) → slice_get self.old.entries place ≡ Some (p, r) → self.new.entries ≡ slice_set self.old.entries place (p, record r { state = Some state; vars = vars.now.items }) }
     {
         let (_, instance) = self.map.pair_mut(place);
+        let was_ready = instance.is_ready();
         instance.proceed(state, vars);
-        if !instance.is_ready() {
-            forget(&mut self.ready, place);
+        if was_ready && !instance.is_ready() {
+            self.ready.forget(place);
         }
     }
 
@@ -260,10 +197,7 @@ impl Instances {
         }
         self.by_set.add(set, place);
         if is_ready {
-            match self.ready.push(place) {
-                Ok(()) => {}
-                Err(_) => unreachable!(),
-            }
+            self.ready.note(place);
         }
     }
 
@@ -273,10 +207,12 @@ impl Instances {
         ensures value { slice_get self.old.entries place ≡ Some result }
         ensures entries { self.new.entries ≡ remove self.old.entries place }
     {
-        leave(&mut self.ready, place);
         self.by_set.leave(place);
         match self.map.shift_remove_index(place) {
-            Some(gone) => gone,
+            Some(gone) => {
+                self.ready.recount(self.map.values().as_slice());
+                gone
+            }
             None => unreachable!(),
         }
     }

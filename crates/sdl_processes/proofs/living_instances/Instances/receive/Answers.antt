@@ -1,11 +1,13 @@
-use Rattle.std.proofs.Common.{◌≡◌, ◌++◌, ◌∷◌, [], List, Some, slice_get, ap, sym, subst, ◌∙◌}
+use Rattle.std.proofs.Common.{◌≡◌, ◌++◌, ◌∷◌, [], List, Some, slice_get, ap, sym, subst, ◌∙◌, arith}
 use Rattle.indexmap.specs.Layout.{set_value_at}
 use Rattle.sdl_signal.specs.declared.values.Pid.{Pid}
 use Rattle.sdl_processes.specs.Record.{Record}
-use Rattle.sdl_processes.specs.Places.{Listed, AreBySet, ready_places}
-use Rattle.sdl_processes.proofs.Entries.{set_value_at-is, set_value_at-same}
+use Rattle.std.specs.Map.{values_of}
+use Rattle.sdl_processes.specs.Places.{Listed, AreBySet}
+use Rattle.sdl_processes.specs.Ready.{AreReadyCounts}
+use Rattle.sdl_processes.proofs.Entries.{set_value_at-same, wrote}
 use Rattle.sdl_processes.proofs.Readiness.{received_ready}
-use Rattle.sdl_processes.proofs.ReadyPlaces.{wrote}
+use Rattle.sdl_processes.proofs.ReadyCounts.{value_alike, value_fits, value_is_ready, value_long, value_within}
 use Rattle.sdl_processes.proofs.SetPlaces.{by_set_value}
 use Rattle.sdl_processes.proofs.living_instances.Instances.receive.Goals as goal
 
@@ -17,7 +19,7 @@ invariant_of-self-in-Err c =
     let place = c.args.place in
     let found : slice_get es place ≡ Some (k, v) = c.pair_mut-instance.ensures.value in
     let same = sym (ap (λ (x : Record). set_value_at es place x) c.in-Err.ensures.err ∙ set_value_at-same es place (k, v) found) in (
-      c.reserve.ensures.items ∙ c.self.invariant.0 ∙ ap (ready_places 0) same,
+      subst (λ (l : List (Pid × Record)). AreReadyCounts c.self.inside.ready (values_of l)) same c.self.invariant.0,
       subst (AreBySet c.self.inside.by_set.lists) same c.self.invariant.1,
     )
 
@@ -30,21 +32,55 @@ returns-in-Err-clause-err c =
     let found : slice_get es place ≡ Some (k, v) = c.pair_mut-instance.ensures.value in
     ap (λ (x : Record). set_value_at es place x) c.in-Err.ensures.err ∙ set_value_at-same es place (k, v) found ∙ ap (λ (l : Listed). l.entries) c.self.view_is
 
-pub invariant_of-self-in-Ok : goal.invariant_of-self-in-Ok
-invariant_of-self-in-Ok c =
+pub note-requires : goal.note-requires
+note-requires c =
+    let es = c.self.inside.map.entries in
+    let k = c.pair_mut-instance.result.0.now in
+    let v = c.pair_mut-instance.result.1.now in
+    let place = c.args.place in
+    let found : slice_get es place ≡ Some (k, v) = c.pair_mut-instance.ensures.value in
+    let w = c.receive.new.self in
+    let long = value_long c.self.inside.ready es place k v w found c.self.invariant.0 in
+    let within = value_within c.self.inside.ready es place k v w found c.self.invariant.0 in
+    (values_of es, values_of (set_value_at es place w), c.self.invariant.0, value_is_ready c.self.inside.ready es place k v w found c.self.invariant.0 (sym c.is_ready-was_ready.ensures ∙ c.if-not-was_ready.true) (received_ready v w c.args.item c.in-Ok.ensures.ok), value_fits c.self.inside.ready es place k v w found c.self.invariant.0, omega (arith, long, within))
+
+pub invariant_of-self : goal.invariant_of-self
+invariant_of-self c =
     let es = c.self.inside.map.entries in
     let k = c.pair_mut-instance.result.0.now in
     let v = c.pair_mut-instance.result.1.now in
     let place = c.args.place in
     let found : slice_get es place ≡ Some (k, v) = c.pair_mut-instance.ensures.value in
     let w = c.receive.new.self in (
-      c.note.ensures es (k, v) (k, w) found (received_ready v w c.args.item c.in-Ok.ensures.ok) (c.reserve.ensures.items ∙ c.self.invariant.0)
-          ∙ ap (ready_places 0) (sym (set_value_at-is es place (k, v) w found)),
+      c.note.ensures.counts (values_of es) (values_of (set_value_at es place w)) c.self.invariant.0 (value_is_ready c.self.inside.ready es place k v w found c.self.invariant.0 (sym c.is_ready-was_ready.ensures ∙ c.if-not-was_ready.true) (received_ready v w c.args.item c.in-Ok.ensures.ok)) (value_fits c.self.inside.ready es place k v w found c.self.invariant.0),
       by_set_value c.self.inside.by_set.lists es place k v w found c.self.invariant.1,
     )
 
-pub returns-in-Ok-clause-ok : goal.returns-in-Ok-clause-ok
-returns-in-Ok-clause-ok c =
+pub invariant_of-self-else-not-was_ready : goal.invariant_of-self-else-not-was_ready
+invariant_of-self-else-not-was_ready c =
+    let es = c.self.inside.map.entries in
+    let k = c.pair_mut-instance.result.0.now in
+    let v = c.pair_mut-instance.result.1.now in
+    let place = c.args.place in
+    let found : slice_get es place ≡ Some (k, v) = c.pair_mut-instance.ensures.value in
+    let w = c.receive.new.self in (
+      value_alike c.self.inside.ready es place k v w found c.self.invariant.0 (received_ready v w c.args.item c.in-Ok.ensures.ok ∙ sym (sym c.is_ready-was_ready.ensures ∙ c.if-not-was_ready.false)),
+      by_set_value c.self.inside.by_set.lists es place k v w found c.self.invariant.1,
+    )
+
+pub returns-then-not-was_ready-clause-ok : goal.returns-then-not-was_ready-clause-ok
+returns-then-not-was_ready-clause-ok c =
+    let es = c.self.inside.map.entries in
+    let k = c.pair_mut-instance.result.0.now in
+    let v = c.pair_mut-instance.result.1.now in
+    let place = c.args.place in
+    let found : slice_get es place ≡ Some (k, v) = c.pair_mut-instance.ensures.value in
+    let all = ap (λ (l : Listed). l.entries) c.self.view_is in
+    let at : slice_get c.args.self.now.entries place ≡ Some (k, v) = ap (λ (l : List (Pid × Record)). slice_get l place) (sym all) ∙ found in
+    (v, at, wrote es c.args.self.now.entries place k k v v c.receive.new.self (record v { port = v.port ++ c.args.item ∷ [] }) all found at (λ same. c.in-Ok.ensures.ok))
+
+pub returns-else-not-was_ready-clause-ok : goal.returns-else-not-was_ready-clause-ok
+returns-else-not-was_ready-clause-ok c =
     let es = c.self.inside.map.entries in
     let k = c.pair_mut-instance.result.0.now in
     let v = c.pair_mut-instance.result.1.now in
