@@ -10,3 +10,4 @@ pub mod Closes
 pub mod Meeting
 pub mod Finish
 pub mod Waits
+pub mod PassedOver

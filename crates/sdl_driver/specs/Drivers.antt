@@ -58,6 +58,10 @@ pub record IsIdleAt (site : Site) (n : ℕ) : Type 0 where
   pub environment : n ≡ length site.blocks → (site.environment.ended ≢ None) × (site.environment.outgoing ≡ []) × (waiting site.board Outlet ≡ [])
   pub forwarder : (k : ℕ) (f : Forwarding) → n ≡ length site.blocks + 1 + k → slice_get site.forwarders k ≡ Some f → (f.held ≡ None) × (waiting site.board (Line f.hop) ≡ [])
 
+-- no forwarder holds an item
+abbrev pub AllFree : Site → Type 0
+AllFree site = (k : ℕ) (f : Forwarding) → slice_get site.forwarders k ≡ Some f → f.held ≡ None
+
 -- what a step of worker n did, by its answer: less is left to do, or nothing changed
 abbrev pub StepAnswers : Plan → ℕ → Stepped → Site → Site → Type 0
 StepAnswers plan n Did old new = work_left plan new < work_left plan old

@@ -1,8 +1,8 @@
 //! The driver of a run on one thread.
-ghost use Rattle.std.specs.Prelude.{◌≡◌, ◌<◌, ◌≤◌, length, MatchOption};
+ghost use Rattle.std.specs.Prelude.{◌≡◌, ◌<◌, ◌≤◌, None, true, length, MatchOption};
 ghost use Rattle.sdl_outcome.specs.Plan.{workers_of};
 ghost use Rattle.sdl_order.specs.Driver.{BlockSteps, EnvironmentSteps, ForwarderSteps, IsIdle};
-ghost use Rattle.sdl_driver.specs.Drivers.{site_of, plan_of, IsDriving, IsSameSystem, ReadsOver, WritesOver, StepAnswers, RoundAnswers};
+ghost use Rattle.sdl_driver.specs.Drivers.{site_of, plan_of, IsDriving, IsSameSystem, ReadsOver, WritesOver, AllFree, StepAnswers, RoundAnswers};
 ghost use Rattle.sdl_driver.specs.Runs.{numbers_below, refused_in, WorkerSteps, StepsThrough, Settles, Runs};
 
 use sdl_block::BlockWorker;
@@ -132,22 +132,27 @@ impl<S: Agents> Driver<S> {
     }
 
     /// Lets all workers make a step, by number, until one is refused memory.
-    fn round<R: Read, W: Write>(&mut self, input: &mut R, output: &mut W) -> Round
+    fn round<R: Read, W: Write>(&mut self, free: bool, input: &mut R, output: &mut W) -> Round
         requires driving { IsDriving S.may self.old }
+        requires free { free ≡ true → AllFree (site_of self.old) }
         ensures driving { IsDriving S.may self.new }
         ensures same { IsSameSystem self.old self.new }
         ensures answer { RoundAnswers (plan_of self.old) result (site_of self.old) (site_of self.new) }
         ensures steps { StepsThrough S.may (plan_of self.old) (numbers_below (length (workers_of (plan_of self.old)))) (refused_in result) (site_of self.old) (site_of self.new) }
+        ensures free { refused_in result ≡ None → free ≡ true → AllFree (site_of self.new) }
         ensures reading { ReadsOver (plan_of self.old) self.old.environment (R.remaining input.old) self.new.environment (R.remaining input.new) }
         ensures writing { WritesOver (plan_of self.old) self.old.environment (W.contents output.old) self.new.environment (W.contents output.new) }
     {
+        let workers = self.workers();
         let mut did = false;
-        for number in 0..self.workers() {
+        let mut number = 0;
+        while number < workers {
             match self.step(number, 0, input, output) {
                 Stepped::Did => did = true,
                 Stepped::Idle => {}
                 Stepped::Memory => return Round::Refused(number),
             }
+            number = self.next_worker(number + 1, free);
         }
         if did { Round::Did } else { Round::Idle }
     }
@@ -162,8 +167,9 @@ impl<S: Agents> Driver<S> {
         ensures reading { ReadsOver (plan_of self.old) self.old.environment (R.remaining input.old) self.new.environment (R.remaining input.new) }
         ensures writing { WritesOver (plan_of self.old) self.old.environment (W.contents output.old) self.new.environment (W.contents output.new) }
     {
+        let free = self.are_free();
         loop {
-            match self.round(input, output) {
+            match self.round(free, input, output) {
                 Round::Did => {}
                 Round::Idle => return None,
                 Round::Refused(worker) => return Some(worker),

@@ -4,6 +4,7 @@
 pub mod closing;
 pub mod driver;
 pub mod laws;
+mod passing;
 mod stopping;
 
 pub use closing::{Closing, StartFault};

@@ -5,3 +5,4 @@ pub mod Places
 pub mod Fresh
 pub mod Onward
 pub mod Rows
+pub mod Marks

@@ -1,3 +1,4 @@
 pub mod Boards
+pub mod Busy
 pub mod Forwards
 pub mod Index

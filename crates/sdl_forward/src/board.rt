@@ -1,14 +1,17 @@
 //! A board: the queues of all stations, on one thread.
-ghost use Rattle.std.specs.Prelude.{◌≡◌, List, [], ◌∷◌, ◌++◌, Contains, map, IfOk, MatchResult, MatchOption};
+ghost use Rattle.std.specs.Prelude.{◌≡◌, ◌<◌, ◌≤◌, List, [], ◌∷◌, ◌++◌, Contains, ⊤, map, IfOk, MatchBool, MatchResult, MatchOption};
 ghost use Rattle.sdl_queue.specs.declared.rest.Rest.TheVariants.{Serial};
+ghost use Rattle.sdl_routes.specs.declared.route.Hop.{Hop};
 ghost use Rattle.sdl_routes.specs.declared.route.Station.{Station};
+ghost use Rattle.sdl_routes.specs.declared.route.Station.TheVariants.{Line};
 ghost use Rattle.sdl_forward.specs.Boards.{stations_of, waiting, ChangesOnly, lists_of, IsBoardOf};
 
+use crate::busy::Busy;
 use crate::index::Index;
 use crate::stations::stations_of;
 use sdl_queue::{Rest, SerialQueue};
 use sdl_routes::{Routes, Station};
-use sdl_signal::Item;
+use sdl_signal::{ChannelId, Item};
 use std::alloc::{AllocError, Global};
 use std::marker::Model;
 
@@ -18,6 +21,7 @@ use std::marker::Model;
 pub struct Board {
     rests: Vec<(Station, Rest)>,
     index: Index,
+    busy: Busy,
 }
 
 impl Model for Board {
@@ -25,13 +29,14 @@ impl Model for Board {
     ghost use Rattle.sdl_signal.specs.declared.values.Item.{Item};
     ghost use Rattle.sdl_routes.specs.declared.route.Station.{Station};
     ghost use Rattle.sdl_forward.specs.Boards.{stations_of, lists_of};
+    ghost use Rattle.sdl_forward.specs.Busy.{MarksAll};
     ghost use Rattle.sdl_forward.specs.Index.{IsIndexOf, AreSerial};
 
     ghost Value = { List (Station × List Item) };
 
     ghost view = { λ b. lists_of b.rests.items };
 
-    ghost invariant = { λ b. IsIndexOf b.index (stations_of b.rests.items) × AreSerial b.rests.items };
+    ghost invariant = { λ b. IsIndexOf b.index (stations_of b.rests.items) × AreSerial b.rests.items × MarksAll b.busy (lists_of b.rests.items) };
 }
 
 impl Board {
@@ -44,7 +49,11 @@ impl Board {
         let stations = stations_of(alloc, routes)?;
         let index = Index::of(alloc, stations.as_slice())?;
         let rests = empty_queues(alloc, stations.as_slice())?;
-        Ok(Board { rests, index })
+        Ok(Board {
+            rests,
+            index,
+            busy: Busy::new(),
+        })
     }
 
     /// Puts the item at the back of the station, which is one of the board's. Where memory is refused, the item comes back and
@@ -59,6 +68,7 @@ impl Board {
         let Some(place) = self.index.get(station) else {
             unreachable!()
         };
+        self.busy.note(station, true);
         match &mut self.rests[place].1 {
             Rest::Serial(queue) => queue.put(item),
             Rest::Ruled(_) => unreachable!(),
@@ -75,9 +85,27 @@ impl Board {
     {
         let place = self.index.get(station)?;
         match &mut self.rests[place].1 {
-            Rest::Serial(queue) => queue.take(),
+            Rest::Serial(queue) => {
+                let item = queue.take();
+                self.busy.note(station, queue.len() != 0);
+                item
+            }
             Rest::Ruled(_) => unreachable!(),
         }
+    }
+
+    /// Whether nothing waits at any delaying path. It may still say no once nothing does.
+    pub fn is_quiet(&self) -> bool
+        ensures { MatchBool result ((h : Hop) → waiting self.now (Line h) ≡ []) ⊤ }
+    {
+        self.busy.is_clear()
+    }
+
+    /// A channel up to which, from this one on, nothing waits at any path: mostly the first at which something does.
+    pub fn next_busy(&self, channel: ChannelId) -> ChannelId
+        ensures { (h : Hop) → channel.0 ≤ h.channel.0 → h.channel.0 < result.0 → waiting self.now (Line h) ≡ [] }
+    {
+        ChannelId(self.busy.next(channel.0))
     }
 
     /// What is left at each station, in the order of the board. It takes no memory.

@@ -43,6 +43,13 @@ impl Forwarder {
         Forwarder { hop, held: None }
     }
 
+    /// The delaying path that it takes items from.
+    pub fn hop(&self) -> Hop
+        ensures { result ≡ self.now.hop }
+    {
+        self.hop
+    }
+
     /// The item that it holds.
     pub fn held(&self) -> Option<&Item>
         ensures { option_copied result ≡ self.now.held }
@@ -58,10 +65,10 @@ impl Forwarder {
         ensures emptied { self.new ≡ record { hop = self.old.hop; held = None } }
         ensures others { ChangesOnly board.old board.new (Line self.old.hop) }
     {
-        match self.held.take() {
-            Some(item) => Some(item),
-            None => board.take(Station::Line(self.hop)),
+        if self.held.is_some() {
+            return self.held.take();
         }
+        board.take(Station::Line(self.hop))
     }
 
     /// The item that it holds. No memory is taken.

@@ -2,6 +2,7 @@
 #![tactic(auto)]
 
 pub mod board;
+mod busy;
 pub mod forwarder;
 mod index;
 mod stations;

@@ -1,10 +1,12 @@
-use Rattle.std.proofs.Common.{subst}
+use Rattle.std.proofs.Common.{ap, subst}
 use Rattle.sdl_driver.specs.declared.driver.Round.{Round}
-use Rattle.sdl_driver.specs.Drivers.{site_of, plan_of, RoundAnswers}
+use Rattle.sdl_driver.specs.Drivers.{site_of, plan_of, AllFree, RoundAnswers}
 use Rattle.sdl_driver.proofs.Drives.{reads_on, writes_on}
 use Rattle.sdl_driver.proofs.Rounds.{less_by, same_itself, same_still}
 use Rattle.sdl_driver.specs.declared.driver.Round.TheVariants as round
 use Rattle.sdl_driver.proofs.Running.{round_after, none_settled}
+use Rattle.sdl_driver.specs.Runs.{refused_in}
+use Rattle.sdl_driver.proofs.PassedOver.{free_of}
 use Rattle.sdl_driver.proofs.driver.Driver.settle.Goals as goal
 
 pub loop-worker-smaller : goal.loop-worker-smaller
@@ -23,6 +25,7 @@ loop-worker-preserved g c =
     record {
       driving = c.round.ensures.driving;
       same = same_still start now next inv.same c.round.ensures.same;
+      free = λ free. c.round.ensures.free (ap refused_in c.in-Did.is) free;
       steps = round_after g.S.Agents.may start now next inv.same round.Did c.round.result c.in-Did.is inv.steps c.round.ensures.steps;
       reading = reads_on start now next inv.same _ _ _ inv.reading c.round.ensures.reading;
       writing = writes_on start now next inv.same _ _ _ inv.writing c.round.ensures.writing;
@@ -45,6 +48,7 @@ loop-worker-init g c =
     record {
       driving = c.requires.driving;
       same = same_itself c.args.self.now;
+      free = free_of c.are_free-free.result (AllFree (site_of c.args.self.now)) c.are_free-free.ensures;
       steps = none_settled g.S.Agents.may (plan_of c.args.self.now) (site_of c.args.self.now);
       reading = λ start h. h;
       writing = λ start h. h;

@@ -1,5 +1,5 @@
-use Rattle.std.proofs.Common.{None}
-use Rattle.sdl_driver.specs.Drivers.{site_of, plan_of, IsDriving, IsSameSystem, ReadsOver, WritesOver}
+use Rattle.std.proofs.Common.{◌≡◌, None, true}
+use Rattle.sdl_driver.specs.Drivers.{site_of, plan_of, IsDriving, IsSameSystem, ReadsOver, WritesOver, AllFree}
 use Rattle.sdl_driver.specs.Runs.{Settles}
 use Rattle.sdl_order.specs.Measure.{work_left}
 use Rattle.sdl_driver.proofs.driver.Driver.settle.Given as goal
@@ -8,6 +8,7 @@ abbrev pub invariant-loop-worker : goal.invariant-loop-worker
 invariant-loop-worker g l = record {
   driving : IsDriving g.S.Agents.may l.self;
   same : IsSameSystem l.fn.self l.self;
+  free : l.free ≡ true → AllFree (site_of l.self);
   steps : Settles g.S.Agents.may (plan_of l.fn.self) None (site_of l.fn.self) (site_of l.self);
   reading : ReadsOver (plan_of l.fn.self) l.fn.self.environment (g.R.Read.remaining l.fn.input) l.self.environment (g.R.Read.remaining l.input);
   writing : WritesOver (plan_of l.fn.self) l.fn.self.environment (g.W.Write.contents l.fn.output) l.self.environment (g.W.Write.contents l.output);

@@ -4,6 +4,8 @@ use Rattle.sdl_signal.specs.declared.values.Item.{Item}
 use Rattle.sdl_routes.specs.declared.route.Station.{Station}
 use Rattle.sdl_queue.specs.declared.rest.Rest.TheVariants.{Serial}
 use Rattle.sdl_forward.specs.Boards.{stations_of, waiting, ChangesOnly, lists_of}
+use Rattle.sdl_forward.proofs.Marks.{keeps_marks}
+use Rattle.std.proofs.lemmas.Bool.{false≢true}
 use Rattle.sdl_forward.proofs.Entries.{found_within, contained_found, not_ruled, entry_here, puts, changes, index_same, serial_set}
 use Rattle.sdl_forward.proofs.board.Board.put.Goals as goal
 
@@ -30,6 +32,8 @@ invariant_of-self c =
     let here = entry_here c.self.inside.index c.self.inside.rests.items c.args.station c.in-Some.place c.index_mut.result.now c.self.invariant.0 found c.index_mut.ensures.value in (
       index_same c.self.inside.index c.self.inside.rests.items c.args.station c.in-Some.place c.index_mut.result.now c.self.invariant.0 found here c.put.new.self,
       serial_set c.self.inside.rests.items c.in-Some.place c.index_mut.result.now.0 c.put.new.self c.self.invariant.1,
+      keeps_marks c.self.inside.busy c.note.new.self _ c.args.station (lists_of c.self.inside.rests.items) _ c.note.ensures
+          (changes c.self.inside.index c.self.inside.rests.items c.args.station c.in-Some.place c.index_mut.result.now c.self.invariant.0 found here c.put.new.self) (λ e. absurd (false≢true (sym e))) c.self.invariant.2,
     )
 
 pub returns-clause-put : goal.returns-clause-put

@@ -3,7 +3,9 @@ use Rattle.sdl_signal.specs.declared.values.Item.{Item}
 use Rattle.sdl_routes.specs.declared.route.Station.{Station}
 use Rattle.sdl_queue.specs.declared.rest.Rest.TheVariants.{Serial}
 use Rattle.sdl_forward.specs.Boards.{waiting, ChangesOnly, lists_of}
-use Rattle.sdl_forward.proofs.Entries.{found_within, not_found, not_ruled, entry_here, takes, changes, index_same, serial_set}
+use Rattle.sdl_forward.proofs.Marks.{keeps_marks, none_left}
+use Rattle.std.proofs.lemmas.Bool.{false≢true}
+use Rattle.sdl_forward.proofs.Entries.{found_within, not_found, not_ruled, entry_here, takes, changes, waits_now, index_same, serial_set}
 use Rattle.sdl_forward.proofs.board.Board.take.Goals as goal
 
 pub returns-in_err-place-clause-take : goal.returns-in_err-place-clause-take
@@ -30,24 +32,29 @@ pub invariant_of-self : goal.invariant_of-self
 invariant_of-self c =
     let found = sym c.get.ensures ∙ c.in_ok-place.was in
     let here = entry_here c.self.inside.index c.self.inside.rests.items c.args.station c.in_ok-place.place c.index_mut.result.now c.self.invariant.0 found c.index_mut.ensures.value in (
-      index_same c.self.inside.index c.self.inside.rests.items c.args.station c.in_ok-place.place c.index_mut.result.now c.self.invariant.0 found here c.take.new.self,
-      serial_set c.self.inside.rests.items c.in_ok-place.place c.index_mut.result.now.0 c.take.new.self c.self.invariant.1,
+      index_same c.self.inside.index c.self.inside.rests.items c.args.station c.in_ok-place.place c.index_mut.result.now c.self.invariant.0 found here c.take-item.new.self,
+      serial_set c.self.inside.rests.items c.in_ok-place.place c.index_mut.result.now.0 c.take-item.new.self c.self.invariant.1,
+      keeps_marks c.self.inside.busy c.note.new.self _ c.args.station (lists_of c.self.inside.rests.items) _ c.note.ensures
+          (changes c.self.inside.index c.self.inside.rests.items c.args.station c.in_ok-place.place c.index_mut.result.now c.self.invariant.0 found here c.take-item.new.self)
+          (λ e.
+          waits_now c.self.inside.index c.self.inside.rests.items c.args.station c.in_ok-place.place c.index_mut.result.now c.self.invariant.0 found here c.take-item.new.self
+          ∙ none_left c.take-item.new.self c.len.result c.len.ensures e) c.self.invariant.2,
     )
 
 pub returns-clause-take : goal.returns-clause-take
 returns-clause-take c =
     let found = sym c.get.ensures ∙ c.in_ok-place.was in
     let here = entry_here c.self.inside.index c.self.inside.rests.items c.args.station c.in_ok-place.place c.index_mut.result.now c.self.invariant.0 found c.index_mut.ensures.value in
-    let new : List (Station × List Item) = lists_of (slice_set c.self.inside.rests.items c.in_ok-place.place (c.index_mut.result.now.0, Serial c.take.new.self)) in
-    subst (λ (b : List (Station × List Item)). MatchOption c.take.result ((waiting b c.args.station ≡ []) × (new ≡ b)) (λ item. waiting b c.args.station ≡ item ∷ waiting new c.args.station))
+    let new : List (Station × List Item) = lists_of (slice_set c.self.inside.rests.items c.in_ok-place.place (c.index_mut.result.now.0, Serial c.take-item.new.self)) in
+    subst (λ (b : List (Station × List Item)). MatchOption c.take-item.result ((waiting b c.args.station ≡ []) × (new ≡ b)) (λ item. waiting b c.args.station ≡ item ∷ waiting new c.args.station))
     c.self.view_is
     (takes c.self.inside.index c.self.inside.rests.items c.args.station c.in_ok-place.place c.index_mut.result.now c.self.invariant.0 found here
-    c.in-Serial.queue c.take.new.self c.in-Serial.is c.take.result c.take.ensures)
+    c.in-Serial.queue c.take-item.new.self c.in-Serial.is c.take-item.result c.take-item.ensures)
 
 pub returns-clause-others : goal.returns-clause-others
 returns-clause-others c =
     let found = sym c.get.ensures ∙ c.in_ok-place.was in
     let here = entry_here c.self.inside.index c.self.inside.rests.items c.args.station c.in_ok-place.place c.index_mut.result.now c.self.invariant.0 found c.index_mut.ensures.value in
-    let new : List (Station × List Item) = lists_of (slice_set c.self.inside.rests.items c.in_ok-place.place (c.index_mut.result.now.0, Serial c.take.new.self)) in
+    let new : List (Station × List Item) = lists_of (slice_set c.self.inside.rests.items c.in_ok-place.place (c.index_mut.result.now.0, Serial c.take-item.new.self)) in
     subst (λ (b : List (Station × List Item)). ChangesOnly b new c.args.station) c.self.view_is
-    (changes c.self.inside.index c.self.inside.rests.items c.args.station c.in_ok-place.place c.index_mut.result.now c.self.invariant.0 found here c.take.new.self)
+    (changes c.self.inside.index c.self.inside.rests.items c.args.station c.in_ok-place.place c.index_mut.result.now c.self.invariant.0 found here c.take-item.new.self)

@@ -1,0 +1,135 @@
+-- Forwarders that a round passes over, since they could do nothing.
+use Rattle.std.proofs.Common.{ℕ, zero, suc, ◌+◌, ◌-◌, ◌<◌, ◌≤◌, Bool, true, false, List, [], ◌∷◌, length, slice_get, set, ◌≡◌, ◌≢◌, Some, None, inl, inr, refl, ap, sym, ◌∙◌, subst, arith}
+use Rattle.std.specs.Bool.{MatchBool, ⊤}
+use Rattle.std.proofs.lemmas.Bool.{cases_eq, cases_lt, false≢true}
+use Rattle.std.proofs.lemmas.Option.{same_Some, slice_get_within}
+use Rattle.sdl_routes.specs.declared.route.Station.TheVariants.{Line}
+use Rattle.sdl_forward.specs.Boards.{waiting, IsBoardOf}
+use Rattle.sdl_forward.specs.Forwards.{Forwarding, Forwards}
+use Rattle.sdl_forward.specs.declared.forwarder.Forwarded.{Forwarded}
+use Rattle.sdl_forward.specs.declared.forwarder.Forwarded.TheVariants as forwarded
+use Rattle.sdl_behaviour.specs.declared.step.Frame.{Frame}
+use Rattle.sdl_behaviour.specs.declared.step.Step.{Step}
+use Rattle.sdl_hand.specs.declared.hand.Stepped.{Stepped}
+use Rattle.sdl_hand.specs.declared.hand.Stepped.TheVariants.{Idle, Memory}
+use Rattle.sdl_outcome.specs.Plan.{Plan, blocks_in}
+use Rattle.sdl_outcome.proofs.Lists.{get_set, get_set_other, set_same}
+use Rattle.sdl_order.specs.Driver.{Site, IsAtWork, BlockSteps, EnvironmentSteps, ForwarderSteps}
+use Rattle.sdl_order.specs.Measure.{work_left}
+use Rattle.sdl_driver.specs.declared.driver.Driver.{Driver}
+use Rattle.sdl_driver.specs.Drivers.{site_of, plan_of, IsSameSystem, AllFree, IsIdleAt, HasGone, stepped_by}
+use Rattle.sdl_driver.specs.Runs.{numbers_below, WorkerSteps, StepsThrough}
+use Rattle.sdl_driver.proofs.Running.{round_on, worker_by}
+
+-- a forwarder that holds nothing, and at whose path nothing waits, could do nothing
+module _ (may : ℕ → Frame → Step → Type 0) (plan : Plan) (site : Site) (board : IsBoardOf plan.routes site.board) (n k : ℕ) (f : Forwarding)
+    (at : slice_get site.forwarders k ≡ Some f) (held : f.held ≡ None) (empty : waiting site.board (Line f.hop) ≡ []) where
+  pub passed_steps : n ≡ blocks_in plan + 1 + k → WorkerSteps may plan n Idle site site
+  passed_steps place = inr (inr (
+    k,
+    forwarded.Idle,
+    place,
+    refl,
+    record {
+      was = f;
+      is = f;
+      before = at;
+      step = record { held = held; empty = empty; forwarder = refl; board = refl };
+      board = board;
+      after = sym (set_same site.forwarders k f at);
+      blocks = refl;
+      environment = refl;
+    },
+  ))
+
+  pub passed_idle : n ≡ length site.blocks + 1 + k → IsIdleAt site n
+  passed_idle place = record {
+    block = λ w there. let l = slice_get_within site.blocks n w there in absurd (omega arith);
+    environment = λ e. absurd (omega arith);
+    forwarder = λ j g e there.
+        let same : j ≡ k = omega arith in
+        let found : f ≡ g = same_Some f g (sym at ∙ subst (λ (m : ℕ). slice_get site.forwarders m ≡ Some g) same there) in
+        (ap (λ (x : Forwarding). x.held) (sym found) ∙ held, subst (λ (x : Forwarding). waiting site.board (Line x.hop) ≡ []) found empty);
+  }
+
+-- no forwarder comes to hold an item, but at a refusal
+module _ (may : ℕ → Frame → Step → Type 0) (plan : Plan) (n : ℕ) (answer : Stepped) (old new : Site) (not : answer ≢ Memory) (free : AllFree old) where
+  freed : (k : ℕ) (did : Forwarded) → answer ≡ stepped_by did → (steps : ForwarderSteps plan k did old new) → steps.is.held ≡ None
+  freed k forwarded.Moved is steps = ap (λ (f : Forwarding). f.held) steps.step.emptied
+  freed k forwarded.Idle is steps = ap (λ (f : Forwarding). f.held) steps.step.forwarder ∙ steps.step.held
+  freed k forwarded.Held is steps = absurd (not is)
+
+  forwarder_free : (k : ℕ) (did : Forwarded) → answer ≡ stepped_by did → ForwarderSteps plan k did old new → AllFree new
+  forwarder_free k did is steps j f at =
+      let there : slice_get (set old.forwarders k steps.is) j ≡ Some f = subst (λ (fs : List Forwarding). slice_get fs j ≡ Some f) steps.after at in
+      elim (cases_eq j k) [
+        | inl same ↦ (
+            let found : steps.is ≡ f = same_Some steps.is f (sym (get_set old.forwarders k steps.was steps.is steps.before) ∙ subst (λ (m : ℕ). slice_get (set old.forwarders k steps.is) m ≡ Some f) same there) in
+            ap (λ (x : Forwarding). x.held) (sym found) ∙ freed k did is steps)
+        | inr other ↦ free j f (sym (get_set_other old.forwarders k j steps.is other) ∙ there)
+      ]
+
+  pub free_still : WorkerSteps may plan n answer old new → AllFree new
+  free_still (inl steps) j f at = free j f (subst (λ (fs : List Forwarding). slice_get fs j ≡ Some f) steps.forwarders at)
+  free_still (inr (inl (place, steps))) j f at = free j f (subst (λ (fs : List Forwarding). slice_get fs j ≡ Some f) steps.forwarders at)
+  free_still (inr (inr (k, did, place, is, steps))) j f at = forwarder_free k did is steps j f at
+
+-- a round that passes over workers which could do nothing
+module _ (may : ℕ → Frame → Step → Type 0) (plan : Plan) (start now : Site) (a : ℕ) where
+  pass_more : (d : ℕ) → ((n : ℕ) → a ≤ n → n < a + d → WorkerSteps may plan n Idle now now) → StepsThrough may plan (numbers_below a) None start now
+      → StepsThrough may plan (numbers_below (a + d)) None start now
+  pass_more zero each before =
+      let here : a ≡ a + zero = omega arith in
+      subst (λ (m : ℕ). StepsThrough may plan (numbers_below m) None start now) here before
+  pass_more (suc d) each before =
+      let further : a + d + 1 ≡ a + suc d = omega arith in
+      subst (λ (m : ℕ). StepsThrough may plan (numbers_below m) None start now) further
+      (round_on may plan (a + d) Idle start now now (pass_more d (λ n from below. each n from (omega (arith, below))) before) (λ e. cc) (each (a + d) (omega arith) (omega arith)))
+
+  module _ (b : ℕ) (from : a ≤ b) where
+    pub pass_steps : ((n : ℕ) → a ≤ n → n < b → WorkerSteps may plan n Idle now now) → StepsThrough may plan (numbers_below a) None start now → StepsThrough may plan (numbers_below b) None start now
+    pass_steps each before =
+        let end : a + (b - a) ≡ b = omega arith in
+        subst (λ (m : ℕ). StepsThrough may plan (numbers_below m) None start now) end (pass_more (b - a) (λ n lower below. each n lower (omega (arith, end, below))) before)
+
+    pub pass_gone : (did : Bool) → ((n : ℕ) → a ≤ n → n < b → IsIdleAt now n) → HasGone plan start now did a → HasGone plan start now did b
+    pass_gone did each gone = record {
+      less = gone.less;
+      idle = λ none.
+          let before = gone.idle none in (
+            before.0,
+            λ k below. elim (cases_lt k a) [
+              | inl here ↦ before.1 k here
+              | inr past ↦ subst (λ (s : Site). IsIdleAt s k) before.0 (each k past below)
+            ],
+          );
+    }
+
+found_at : {X : Type 0} (xs : List X) (k : ℕ) → k < length xs → (x : X) × (slice_get xs k ≡ Some x)
+found_at [] k less = absurd (omega arith)
+found_at (x ∷ xs) zero less = (x, refl)
+found_at (x ∷ xs) (suc k) less = found_at xs k (omega arith)
+
+-- of forwarders, none of which holds an item, those at whose paths nothing waits
+pub passed_over : (may : ℕ → Frame → Step → Type 0) (plan : Plan) (site : Site) → IsAtWork may plan site → AllFree site → (first from next : ℕ) → first ≡ length site.blocks + 1 → next ≤ length site.forwarders
+    → ((k : ℕ) (f : Forwarding) → from ≤ k → k < next → slice_get site.forwarders k ≡ Some f → waiting site.board (Line f.hop) ≡ [])
+    → (n : ℕ) → first + from ≤ n → n < first + next → WorkerSteps may plan n Idle site site × IsIdleAt site n
+passed_over may plan site work free first from next is within empty n lower below =
+    let at = found_at site.forwarders (n - first) (omega (arith, lower, below, within)) in
+    let none = empty (n - first) at.0 (omega (arith, lower)) (omega (arith, lower, below)) at.1 in (
+      passed_steps may plan site work.board n (n - first) at.0 at.1 (free (n - first) at.0 at.1) none (omega (arith, lower, is, work.blocks)),
+      passed_idle may plan site work.board n (n - first) at.0 at.1 (free (n - first) at.0 at.1) none (omega (arith, lower, is)),
+    )
+
+-- a step of a round, and then workers that are passed over
+module _ {S I : Type 0} {F : I → Type 0} {g : _} (may : ℕ → Frame → Step → Type 0) (start next : Driver S I F g) (same : IsSameSystem start next) (a b : ℕ) (from : a ≤ b)
+    (each : (n : ℕ) → a ≤ n → n < b → WorkerSteps may (plan_of next) n Idle (site_of next) (site_of next) × IsIdleAt (site_of next) n) where
+  pub steps_past : StepsThrough may (plan_of start) (numbers_below a) None (site_of start) (site_of next) → StepsThrough may (plan_of start) (numbers_below b) None (site_of start) (site_of next)
+  steps_past = pass_steps may (plan_of start) (site_of start) (site_of next) a b from (λ n lower below. worker_by may start next same n Idle (site_of next) (site_of next) (each n lower below).0)
+
+  pub gone_past : (did : Bool) → HasGone (plan_of start) (site_of start) (site_of next) did a → HasGone (plan_of start) (site_of start) (site_of next) did b
+  gone_past did = pass_gone may (plan_of start) (site_of start) (site_of next) a b from did (λ n lower below. (each n lower below).1)
+
+pub free_of : (answer : Bool) (A : Type 0) → MatchBool answer A ⊤ → answer ≡ true → A
+free_of true A h e = h
+free_of false A h e = absurd (false≢true e)

@@ -1,0 +1,67 @@
+//! The forwarders that a round passes over, since they could do nothing.
+ghost use Rattle.std.specs.Prelude.{◌≡◌, ℕ, ◌<◌, ◌≤◌, [], Some, true, ⊤, length, slice_get, MatchBool};
+ghost use Rattle.sdl_routes.specs.declared.route.Station.TheVariants.{Line};
+ghost use Rattle.sdl_forward.specs.Boards.{waiting};
+ghost use Rattle.sdl_forward.specs.Forwards.{Forwarding};
+ghost use Rattle.sdl_hand.specs.declared.hand.Stepped.TheVariants.{Idle};
+ghost use Rattle.sdl_outcome.specs.Plan.{workers_of};
+ghost use Rattle.sdl_driver.specs.Drivers.{site_of, plan_of, IsDriving, AllFree, IsIdleAt};
+ghost use Rattle.sdl_driver.specs.Runs.{WorkerSteps};
+
+use crate::driver::Driver;
+use sdl_transition::Agents;
+
+impl<S: Agents> Driver<S> {
+    /// Whether no forwarder holds an item.
+    pub(crate) fn are_free(&self) -> bool
+        ensures { MatchBool result (AllFree (site_of self.now)) ⊤ }
+    {
+        for forwarder in self.forwarders.iter() {
+            if forwarder.held().is_some() {
+                return false;
+            }
+        }
+        true
+    }
+
+    /// A forwarder up to which, from this one on, nothing waits at any one's path: mostly the first at whose path something
+    /// does.
+    fn next_forwarder(&self, from: usize) -> usize
+        requires within { from ≤ length self.now.forwarders.items }
+        ensures from { from ≤ result }
+        ensures within { result ≤ length self.now.forwarders.items }
+        ensures empty { (k : ℕ) (f : Forwarding) → from ≤ k → k < result → slice_get self.now.forwarders.items k ≡ Some f → waiting self.now.board (Line f.hop) ≡ [] }
+    {
+        let forwarders = self.forwarders.len();
+        if from == forwarders || self.board.is_quiet() {
+            return forwarders;
+        }
+        let low = self.forwarders[from].hop().channel;
+        let busy = self.board.next_busy(low);
+        for forwarder in from..forwarders {
+            let channel = self.forwarders[forwarder].hop().channel;
+            if channel.0 < low.0 || busy.0 <= channel.0 {
+                return forwarder;
+            }
+        }
+        forwarders
+    }
+
+    /// The worker that is to make a step, from this one on: where no forwarder holds an item, those at whose paths nothing
+    /// waits are passed over, since a step of theirs does nothing.
+    pub(crate) fn next_worker(&self, number: u32, free: bool) -> u32
+        requires driving { IsDriving S.may self.now }
+        requires within { number ≤ length (workers_of (plan_of self.now)) }
+        requires free { free ≡ true → AllFree (site_of self.now) }
+        ensures from { number ≤ result }
+        ensures within { result ≤ length (workers_of (plan_of self.now)) }
+        ensures passed { (n : ℕ) → number ≤ n → n < result → WorkerSteps S.may (plan_of self.now) n Idle (site_of self.now) (site_of self.now) × IsIdleAt (site_of self.now) n }
+    {
+        let first = self.blocks.len() + 1;
+        let place = number as usize;
+        if !free || place < first {
+            return number;
+        }
+        (first + self.next_forwarder(place - first)) as u32
+    }
+}
