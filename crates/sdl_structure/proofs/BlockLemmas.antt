@@ -1,19 +1,14 @@
 -- Blocks and sets: one more of them is read.
-use Rattle.std.proofs.Common.{◌≡◌, ◌≢◌, ℕ, zero, suc, ◌+◌, ◌*◌, ◌<◌, ◌≤◌, List, [], ◌∷◌, ◌++◌, length, take, get_or, map, sum, flat_map, All, AllPairs, Option, Some, None, IsSomeAnd, slice_get, refl, sym, ap, subst, inl, inr, ◌∙◌, rules, arith}
-use Rattle.std.proofs.lemmas.List.{take_more, take_all, append_assoc, length-append, length-map}
-use Rattle.std.proofs.lemmas.Option.{slice_get_within, slice_get_read, get_or_from_slice_get}
-use Rattle.std.proofs.lemmas.Slice.Zip.{all_zipped_more}
+use Rattle.std.proofs.Common.{◌≡◌, ℕ, suc, ◌+◌, ◌<◌, List, [], ◌∷◌, ◌++◌, length, take, get_or, map, refl, sym, ap, ◌∙◌, arith}
+use Rattle.std.proofs.lemmas.List.{take_more, append_assoc, length-append}
 use Rattle.std.specs.List.{AllZip}
-use Rattle.arrayvec.specs.ArrayString.{ArrayString}
 use Rattle.toml.specs.Data.{Members, no_members}
-use Rattle.sdl_parts.specs.declared.parts.Owner.{Owner}
 use Rattle.sdl_parts.specs.declared.parts.Owner.TheVariants as owner
-use Rattle.sdl_parts.specs.declared.parts.Scope.{Scope}
 use Rattle.sdl_parts.specs.declared.parts.Scope.TheVariants as scope
 use Rattle.sdl_tables.specs.declared.place.Key.{Key}
 use Rattle.sdl_tables.specs.declared.place.Key.TheVariants as key
 use Rattle.sdl_tables.specs.Tables.{text_at, tables_at, names_of, agent_names, channel_names, total}
-use Rattle.sdl_structure.specs.File.{sets_of, owned, set_gates, block_gates, gates_of, channels_in, block_channels}
+use Rattle.sdl_structure.specs.File.{sets_of, owned, set_gates, block_gates, channels_in, block_channels}
 
 pub nil_after : {A : Type 0} (xs : List A) → xs ++ [] ≡ xs
 nil_after [] = refl

@@ -1,12 +1,10 @@
 -- The ends of channels: which are known, and the faults of those that are not.
-use Rattle.std.proofs.Common.{◌≡◌, ◌≢◌, ℕ, zero, suc, ◌+◌, ◌<◌, ◌≤◌, ◌==◌, Bool, true, false, List, [], ◌∷◌, ◌++◌, length, take, get_or, map, count_by, All, Option, Some, None, is_some, IsTrue, ◌↔◌, IsSomeAnd, MatchOption, slice_get, refl, sym, ap, subst, inl, inr, ◌∙◌, rules, arith}
+use Rattle.std.proofs.Common.{◌≡◌, ◌≢◌, ℕ, suc, ◌<◌, Bool, true, false, List, [], ◌∷◌, length, get_or, map, count_by, All, Option, Some, None, is_some, IsTrue, ◌↔◌, IsSomeAnd, MatchOption, refl, sym, ap, subst, inr, ◌∙◌, arith}
 use Rattle.std.proofs.lemmas.Option.{slice_get_within, slice_get_read, get_or_from_slice_get}
 use Rattle.std.specs.List.{AllZip, HoldsAt, position_or_len}
 use Rattle.toml.specs.Data.{Data, Members, as_str}
 use Rattle.toml.specs.View.{view}
 use Rattle.toml.specs.declared.value.Value.{Value}
-use Rattle.arrayvec.specs.ArrayString.{ArrayString}
-use Rattle.std.proofs.Common.{Vec, Global}
 use Rattle.sdl_parts.specs.declared.parts.Block.{Block}
 use Rattle.sdl_parts.specs.declared.parts.Set.{Set}
 use Rattle.sdl_parts.specs.declared.parts.Gate.{Gate}
@@ -22,8 +20,8 @@ use Rattle.sdl_tables.specs.declared.place.Place.{Place}
 use Rattle.sdl_tables.specs.declared.fault.FileFault.TheVariants as fault
 use Rattle.sdl_structure.specs.declared.reading.draft.Draft.{Draft}
 use Rattle.sdl_tables.specs.declared.walk.Walk.{Walk}
-use Rattle.sdl_tables.specs.Keys.{is_key, is_key_of, key_text, keys_of, channel_keys, is_required, kind_of}
-use Rattle.sdl_tables.specs.Tables.{data_at, elements_at, tables_at, is_text, HasKindAt}
+use Rattle.sdl_tables.specs.Keys.{is_key, is_key_of, key_text, keys_of, channel_keys}
+use Rattle.sdl_tables.specs.Tables.{data_at, elements_at, is_text, HasKindAt}
 use Rattle.sdl_tables.specs.Places.{table_of, inside, part_inside}
 use Rattle.sdl_tables.specs.Names.{HasOneDot, is_dot, agent_part, gate_part}
 use Rattle.sdl_structure.specs.File.{IsChannelTable, NamesEnd, IsAgent, side_in}
@@ -31,8 +29,8 @@ use Rattle.sdl_tables.specs.Faults.{IsBroken, IsGateOf, IsKnownEnd, so_far}
 use Rattle.sdl_tables.specs.Walks.{file_of, own, IsHere}
 use Rattle.sdl_structure.specs.Drafts.{ServesChannels, IsScope, IsChannelScope, HasGateOf, HasSignals}
 use Rattle.sdl_tables.proofs.FaultLemmas.{breaks}
-use Rattle.sdl_tables.proofs.PlaceLemmas.{channel_keys_inside, top_is}
-use Rattle.sdl_tables.proofs.SignalLemmas.{text_in, unknown, some_and, slice_get_at}
+use Rattle.sdl_tables.proofs.PlaceLemmas.{channel_keys_inside}
+use Rattle.sdl_tables.proofs.SignalLemmas.{text_in, unknown, some_and}
 
 -- a required key whose value is of its kind is there
 pub present : (o : Option Data) (P : Data → Type 0) → MatchOption o (true ≡ false) P → o ≢ None

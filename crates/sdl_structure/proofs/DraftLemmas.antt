@@ -1,9 +1,8 @@
 -- The draft as the walk goes on: one more set, one more block.
-use Rattle.std.proofs.Common.{◌≡◌, ◌≢◌, ℕ, zero, suc, ◌+◌, ◌*◌, ◌<◌, ◌≤◌, List, [], ◌∷◌, ◌++◌, length, take, get_or, map, All, AllPairs, Option, Some, None, IsSomeAnd, slice_get, refl, sym, ap, subst, inl, inr, ◌∙◌, rules, arith}
-use Rattle.std.proofs.lemmas.List.{append_assoc, length-append, length-map, length-take-le}
+use Rattle.std.proofs.Common.{◌≡◌, ◌≢◌, ℕ, zero, suc, ◌+◌, ◌<◌, ◌≤◌, List, [], ◌∷◌, ◌++◌, length, take, get_or, map, All, AllPairs, Option, Some, None, IsSomeAnd, slice_get, refl, sym, ap, subst, inl, inr, ◌∙◌, arith}
+use Rattle.std.proofs.lemmas.List.{append_assoc, length-append}
 use Rattle.std.proofs.lemmas.Slice.Zip.{all_zipped_more}
 use Rattle.std.specs.List.{AllZip}
-use Rattle.arrayvec.specs.ArrayString.{ArrayString}
 use Rattle.toml.specs.Data.{Data, Members, no_members, as_str}
 use Rattle.sdl_parts.specs.declared.parts.SignalDecl.{SignalDecl}
 use Rattle.sdl_parts.specs.declared.parts.Block.{Block}
@@ -15,7 +14,6 @@ use Rattle.sdl_parts.specs.declared.parts.Owner.{Owner}
 use Rattle.sdl_parts.specs.declared.parts.Owner.TheVariants as owner
 use Rattle.sdl_parts.specs.declared.parts.Scope.{Scope}
 use Rattle.sdl_parts.specs.declared.parts.Scope.TheVariants as scope
-use Rattle.sdl_tables.specs.declared.place.Key.{Key}
 use Rattle.sdl_tables.specs.declared.place.Key.TheVariants as key
 use Rattle.sdl_tables.specs.declared.place.Part.TheVariants as part
 use Rattle.sdl_tables.specs.declared.place.Place.{Place}
@@ -28,9 +26,8 @@ use Rattle.sdl_tables.specs.Places.{table_of, Exists}
 use Rattle.sdl_structure.specs.File.{IsBlockTable, IsSetTable, IsGateTable, IsChannelTable, IsAgent, NamesEnd, sets_of, owned, set_gates, block_gates, gates_of, channels_in, block_channels}
 use Rattle.sdl_tables.specs.Faults.{IsBroken, so_far}
 use Rattle.sdl_tables.specs.Walks.{file_of, own, IsHere, name_texts}
-use Rattle.sdl_structure.specs.Drafts.{HasSignals, HasAgents, HasChannels, HasBlocks, HasSets, IsSetRead, HasFewGates, Grows}
+use Rattle.sdl_structure.specs.Drafts.{HasSignals, HasChannels, HasBlocks, HasSets, IsSetRead, Grows}
 use Rattle.sdl_tables.proofs.FaultLemmas.{breaks}
-use Rattle.sdl_tables.proofs.SignalLemmas.{some_and}
 use Rattle.sdl_tables.proofs.ListLemmas.{zip_length, name_texts-more, names_of-more, apart-more}
 use Rattle.sdl_structure.proofs.BlockLemmas.{zip_append, sets_of-more, set_gates-more, block_gates-more, block_channels-more, agent_names-more, channel_names-more, total-more, length-sets_of, length-block_channels, take_next, nil_after}
 

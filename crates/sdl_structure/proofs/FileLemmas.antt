@@ -1,5 +1,5 @@
 -- The whole file: from the draft to what the file names, and from there to a structure with its names.
-use Rattle.std.proofs.Common.{◌≡◌, ◌≢◌, ℕ, zero, suc, ◌+◌, ◌*◌, ◌<◌, ◌≤◌, List, [], ◌∷◌, ◌++◌, length, map, All, AllPairs, Option, Some, None, refl, sym, ap, subst, ◌∙◌, rules, arith}
+use Rattle.std.proofs.Common.{◌≡◌, ◌≢◌, zero, suc, ◌+◌, ◌<◌, ◌≤◌, List, [], ◌∷◌, ◌++◌, length, All, AllPairs, sym, ap, subst, ◌∙◌, arith}
 use Rattle.std.proofs.lemmas.List.{length-append}
 use Rattle.std.specs.List.{AllZip}
 use Rattle.toml.specs.Data.{Members}
@@ -9,17 +9,16 @@ use Rattle.sdl_parts.specs.declared.parts.Owner.TheVariants as owner
 use Rattle.sdl_parts.specs.declared.parts.Scope.TheVariants as scope
 use Rattle.sdl_tables.specs.declared.place.Key.TheVariants as key
 use Rattle.sdl_tables.specs.declared.place.Part.TheVariants as part
-use Rattle.sdl_tables.specs.declared.place.Place.{Place}
 use Rattle.sdl_structure.specs.declared.reading.draft.Draft.{Draft}
 use Rattle.sdl_tables.specs.declared.walk.Walk.{Walk}
 use Rattle.sdl_parts.specs.Structure.{Structure, HasLegalNames}
-use Rattle.sdl_tables.specs.Tables.{tables_at, names_of, agent_names, channel_names, total}
+use Rattle.sdl_tables.specs.Tables.{tables_at, names_of, channel_names, total}
 use Rattle.arrayvec.specs.ArrayString.{ArrayString}
 use Rattle.sdl_tables.specs.Names.{IsSignalTable}
-use Rattle.sdl_structure.specs.File.{IsFileOf, HasDistinctNames, ListsParts, IsWithinLimits, IsBlockTable, IsSetTable, IsGateTable, IsChannelTable, HasGates, sets_of, owned, gates_of, channels_in, block_channels, channels_of}
+use Rattle.sdl_structure.specs.File.{IsFileOf, HasDistinctNames, ListsParts, IsWithinLimits, IsBlockTable, IsSetTable, IsGateTable, IsChannelTable, HasGates, sets_of, owned, gates_of, channels_in, block_channels}
 use Rattle.sdl_tables.specs.Faults.{so_far}
 use Rattle.sdl_tables.specs.Walks.{file_of, own, IsHere, name_texts}
-use Rattle.sdl_structure.specs.Drafts.{HasSignals, HasAgents, HasChannels, HasBlocks, ServesChannels, KnowsGates}
+use Rattle.sdl_structure.specs.Drafts.{HasChannels, HasBlocks, ServesChannels, KnowsGates}
 use Rattle.sdl_tables.proofs.ListLemmas.{zip_length}
 use Rattle.sdl_tables.proofs.PlaceLemmas.{top_is}
 use Rattle.sdl_structure.proofs.BlockLemmas.{zip_append, nil_after, length-block_channels}

@@ -1,21 +1,18 @@
 -- The gates that the ends in a block's channels may name are among those that are read.
-use Rattle.std.proofs.Common.{◌≡◌, ◌≢◌, ℕ, zero, suc, ◌+◌, ◌<◌, ◌≤◌, List, [], ◌∷◌, ◌++◌, length, take, get_or, map, Contains, Option, Some, None, IsSomeAnd, slice_get, codes, refl, sym, ap, subst, inl, inr, ◌∙◌, rules, arith}
+use Rattle.std.proofs.Common.{◌≡◌, ℕ, zero, suc, ◌+◌, List, [], ◌∷◌, ◌++◌, length, map, Some, slice_get, refl, sym, subst, inl, inr, ◌∙◌, arith}
 use Rattle.std.proofs.lemmas.Option.{slice_get_read}
 use Rattle.std.specs.List.{AllZip}
 use Rattle.toml.specs.Data.{Members}
-use Rattle.sdl_parts.specs.declared.parts.SignalDecl.{SignalDecl}
-use Rattle.sdl_parts.specs.declared.parts.Block.{Block}
-use Rattle.sdl_parts.specs.declared.parts.Set.{Set}
 use Rattle.sdl_parts.specs.declared.parts.Gate.{Gate}
 use Rattle.sdl_parts.specs.declared.parts.Owner.{Owner}
 use Rattle.sdl_parts.specs.declared.parts.Owner.TheVariants as owner
 use Rattle.sdl_parts.specs.declared.parts.Scope.TheVariants as scope
 use Rattle.sdl_tables.specs.declared.place.Key.TheVariants as key
 use Rattle.sdl_structure.specs.declared.reading.draft.Draft.{Draft}
-use Rattle.sdl_tables.specs.Tables.{text_at, tables_at, names_of}
-use Rattle.sdl_structure.specs.File.{IsBlockTable, IsSetTable, IsGateTable, IsAgent, sets_of, owned, set_gates, block_gates, gates_of}
-use Rattle.sdl_tables.specs.Faults.{IsGateOf, HasGate}
-use Rattle.sdl_structure.specs.Drafts.{HasAgents, HasSets, HasGateOf, KnowsGates}
+use Rattle.sdl_tables.specs.Tables.{text_at, tables_at}
+use Rattle.sdl_structure.specs.File.{IsBlockTable, IsSetTable, IsGateTable, IsAgent, sets_of, owned, set_gates, block_gates}
+use Rattle.sdl_tables.specs.Faults.{HasGate}
+use Rattle.sdl_structure.specs.Drafts.{HasAgents, HasSets, KnowsGates}
 use Rattle.sdl_tables.proofs.SignalLemmas.{found_at}
 
 -- x is an element of xs

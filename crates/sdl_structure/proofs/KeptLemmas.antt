@@ -1,7 +1,7 @@
 -- What each table of a file that keeps all rules is.
-use Rattle.std.proofs.Common.{◌≡◌, ℕ, zero, suc, ◌+◌, ◌<◌, List, [], ◌∷◌, ◌++◌, length, map, get_or, Bool, true, false, Option, Some, None, MatchOption, IsSomeAnd, refl, sym, ap, subst, ◌∙◌, rules, arith}
+use Rattle.std.proofs.Common.{ℕ, zero, suc, ◌+◌, ◌<◌, List, [], ◌∷◌, ◌++◌, length, map, get_or, arith}
 use Rattle.std.specs.List.{AllZip, AllByRecursion}
-use Rattle.toml.specs.Data.{Data, Members, no_members}
+use Rattle.toml.specs.Data.{Members, no_members}
 use Rattle.sdl_parts.specs.declared.parts.SignalDecl.{SignalDecl}
 use Rattle.sdl_parts.specs.declared.parts.Block.{Block}
 use Rattle.sdl_parts.specs.declared.parts.Set.{Set}
@@ -22,20 +22,20 @@ use Rattle.sdl_tables.specs.Names.{IsSignalTable}
 use Rattle.sdl_structure.specs.File.{IsFileOf, IsBlockTable, IsSetTable, IsGateTable, IsChannelTable, sets_of, owned, set_gates, block_gates, gates_of, channels_in, block_channels, channels_of}
 
 -- each element of a list that is zipped with another names one of that
-each : {A B : Type 0} (R : A → B → Type 0) (xs : List A) (ys : List B) → AllZip R xs ys → AllByRecursion (λ x. (y : B) × R x y) xs
+pub each : {A B : Type 0} (R : A → B → Type 0) (xs : List A) (ys : List B) → AllZip R xs ys → AllByRecursion (λ x. (y : B) × R x y) xs
 each R [] ys z = tt
 each R (x ∷ xs) [] z = absurd z
 each R (x ∷ xs) (y ∷ ys) z = ((y, z.0), each R xs ys z.1)
 
-left : {A : Type 0} (P : A → Type 0) (xs ys : List A) → AllByRecursion P (xs ++ ys) → AllByRecursion P xs
+pub left : {A : Type 0} (P : A → Type 0) (xs ys : List A) → AllByRecursion P (xs ++ ys) → AllByRecursion P xs
 left P [] ys h = tt
 left P (x ∷ xs) ys h = (h.0, left P xs ys h.1)
 
-right : {A : Type 0} (P : A → Type 0) (xs ys : List A) → AllByRecursion P (xs ++ ys) → AllByRecursion P ys
+pub right : {A : Type 0} (P : A → Type 0) (xs ys : List A) → AllByRecursion P (xs ++ ys) → AllByRecursion P ys
 right P [] ys h = h
 right P (x ∷ xs) ys h = right P xs ys h.1
 
-mapped : {A B : Type 0} (f : A → B) (P : B → Type 0) (Q : A → Type 0) (xs : List A) → ((x : A) → P (f x) → Q x) → AllByRecursion P (map f xs) → AllByRecursion Q xs
+pub mapped : {A B : Type 0} (f : A → B) (P : B → Type 0) (Q : A → Type 0) (xs : List A) → ((x : A) → P (f x) → Q x) → AllByRecursion P (map f xs) → AllByRecursion Q xs
 mapped f P Q [] g h = tt
 mapped f P Q (x ∷ xs) g h = (g x h.0, mapped f P Q xs g h.1)
 
@@ -45,13 +45,13 @@ nth P (x ∷ xs) zero d h inside = h.0
 nth P (x ∷ xs) (suc i) d h inside = nth P xs i d h.1 (omega arith)
 
 -- what the table of each part is, in a file that names the structure
-abbrev GateKept : Structure → Members → Type 0
+abbrev pub GateKept : Structure → Members → Type 0
 GateKept s ms = (o : Owner) × (g : Gate) × IsGateTable s.signals (o, ms) g
 
-abbrev ChannelKept : Structure → Members → Type 0
+abbrev pub ChannelKept : Structure → Members → Type 0
 ChannelKept s ms = (o : Scope) × (c : Channel) × IsChannelTable s.signals s.blocks s.sets s.gates (o, ms) c
 
-abbrev SetKept : Members → Type 0
+abbrev pub SetKept : Members → Type 0
 SetKept ms = (b : ℕ) × (t : Set) × IsSetTable (b, ms) t
 
 abbrev pub IsKept : Structure → Part → Members → Type 0
@@ -101,7 +101,7 @@ block_gates_kept s b n (t ∷ ts) h = (
     inner : Gates s (set_gates n (tables_at key.Set t) ++ block_gates (b + 1) (n + length (tables_at key.Set t)) ts)
     inner = right _ (owned (owner.Block (record { 0 = b })) t) _ h
 
-abbrev Channels : Structure → List (Scope × Members) → Type 0
+abbrev pub Channels : Structure → List (Scope × Members) → Type 0
 Channels s xs = AllByRecursion (λ x. (c : Channel) × IsChannelTable s.signals s.blocks s.sets s.gates x c) xs
 
 channels_kept : (s : Structure) (o : Scope) (t : Members) → Channels s (channels_in o t) → AllByRecursion (ChannelKept s) (tables_at key.Channel t)

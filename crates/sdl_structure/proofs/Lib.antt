@@ -6,3 +6,11 @@ pub mod DraftLemmas
 pub mod FileLemmas
 pub mod KeptLemmas
 pub mod RuleLemmas
+pub mod KeyKinds
+pub mod NameRules
+pub mod RangeRules
+pub mod LimitRules
+pub mod SplitLemmas
+pub mod RepeatRules
+pub mod OwnerLemmas
+pub mod KnownRules

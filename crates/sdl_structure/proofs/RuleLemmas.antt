@@ -1,21 +1,18 @@
 -- In a file that keeps all rules, no fault has a place.
-use Rattle.std.proofs.Common.{◌≡◌, ◌≢◌, ℕ, zero, suc, ◌+◌, ◌<◌, ◌≤◌, ℤ, pos, ◌≤ℤ◌, List, [], ◌∷◌, ◌++◌, length, map, get_or, Bool, true, false, ◌||◌, Option, Some, None, MatchOption, IsSomeAnd, slice_get, option_and_then, bytes_eq, if◌then◌else◌, refl, sym, ap, subst, ◌∙◌, ◌⊎◌, inl, inr, rules, arith}
-use Rattle.std.specs.List.{AllZip, AllByRecursion, list_any}
+use Rattle.std.proofs.Common.{◌≡◌, ℕ, List, [], ◌∷◌, Bool, true, false, ◌||◌, Option, Some, None, MatchOption, IsSomeAnd, bytes_eq, if◌then◌else◌, refl, sym, ap, subst, ◌∙◌}
+use Rattle.std.specs.List.{AllByRecursion}
 use Rattle.std.proofs.lemmas.Slice.Eq.{bytes_eq-Decides}
 use Rattle.toml.specs.Data.{Data, Members}
-use Rattle.sdl_signal.specs.Names.{IsName}
 use Rattle.sdl_parts.specs.Structure.{Structure}
-use Rattle.sdl_tables.specs.declared.place.Part.{Part}
-use Rattle.sdl_tables.specs.declared.place.Part.TheVariants as part
 use Rattle.sdl_tables.specs.declared.place.Key.{Key}
 use Rattle.sdl_tables.specs.declared.place.Key.TheVariants as key
 use Rattle.sdl_tables.specs.declared.place.Place.{Place}
-use Rattle.sdl_tables.specs.Keys.{Kind, text, whole_number, key_text, keys_of, kind_of, is_key, is_key_of, is_required, least_of, greatest_of}
-use Rattle.sdl_tables.specs.Tables.{data_at, integer_at, text_at, elements_at, is_of_kind, has_only, HasKindAt, HasShape}
-use Rattle.sdl_tables.specs.Places.{table_at, table_of, IsPlace}
+use Rattle.sdl_tables.specs.Keys.{key_text, keys_of, kind_of, is_key, is_key_of, is_required}
+use Rattle.sdl_tables.specs.Tables.{data_at, is_of_kind, HasKindAt}
+use Rattle.sdl_tables.specs.Places.{table_at, IsPlace}
 use Rattle.sdl_tables.specs.Faults.{BreaksAt, HasUnknownKey, IsMissing, HasWrongType}
 use Rattle.sdl_structure.specs.File.{IsFileOf}
-use Rattle.sdl_structure.proofs.KeptLemmas.{IsKept, kept_at, shape_of}
+use Rattle.sdl_structure.proofs.KeptLemmas.{kept_at, shape_of}
 
 -- a key's text tells which key it is
 abbrev all_keys : List Key
@@ -61,7 +58,7 @@ listed_kind ms (x ∷ ks) k h listed = choose (bytes_eq (key_text x) (key_text k
     choose true e rest l = subst (HasKindAt ms) (same_key x k e) h.0
     choose false e rest l = rest l
 
-kind_at : (root : Members) (s : Structure) (p : Place) → IsFileOf root s → IsPlace root p → is_key p.part p.key ≡ true → HasKindAt (table_at root p) p.key
+pub kind_at : (root : Members) (s : Structure) (p : Place) → IsFileOf root s → IsPlace root p → is_key p.part p.key ≡ true → HasKindAt (table_at root p) p.key
 kind_at root s p file place listed =
     listed_kind (table_at root p) (keys_of p.part) p.key (shape_of s p.part (table_at root p) (kept_at root s p.part p.block p.set p.item file place)).kinds listed
 

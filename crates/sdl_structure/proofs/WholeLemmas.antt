@@ -1,6 +1,5 @@
 -- What a file names is a structure: what one part names of the others is there.
-use Rattle.std.proofs.Common.{◌≡◌, ◌≢◌, ℕ, zero, suc, ◌+◌, ◌<◌, ◌≤◌, List, [], ◌∷◌, ◌++◌, length, map, All, Option, Some, None, IsSomeAnd, slice_get, refl, sym, ap, subst, ◌∙◌, rules, arith}
-use Rattle.std.proofs.lemmas.List.{length-append, length-map}
+use Rattle.std.proofs.Common.{◌≡◌, ◌≢◌, ℕ, ◌+◌, ◌<◌, ◌≤◌, List, [], ◌∷◌, ◌++◌, length, map, Some, IsSomeAnd, slice_get, sym, ap, subst, ◌∙◌, arith}
 use Rattle.std.proofs.lemmas.Option.{slice_get_within}
 use Rattle.std.specs.List.{AllZip, AllByRecursion}
 use Rattle.std.specs.Prelude.{⊤}
@@ -8,21 +7,16 @@ use Rattle.toml.specs.Data.{Data, Members, as_str}
 use Rattle.sdl_signal.specs.declared.ids.SignalId.{SignalId}
 use Rattle.sdl_signal.specs.declared.ids.BlockId.{BlockId}
 use Rattle.sdl_parts.specs.declared.parts.SignalDecl.{SignalDecl}
-use Rattle.sdl_parts.specs.declared.parts.Block.{Block}
-use Rattle.sdl_parts.specs.declared.parts.Set.{Set}
 use Rattle.sdl_parts.specs.declared.parts.Gate.{Gate}
-use Rattle.sdl_parts.specs.declared.parts.Channel.{Channel}
 use Rattle.sdl_parts.specs.declared.parts.End.{End}
 use Rattle.sdl_parts.specs.declared.parts.Owner.{Owner}
 use Rattle.sdl_parts.specs.declared.parts.Owner.TheVariants as owner
 use Rattle.sdl_parts.specs.declared.parts.Scope.{Scope}
 use Rattle.sdl_parts.specs.declared.parts.Scope.TheVariants as scope
-use Rattle.sdl_parts.specs.declared.parts.Side.TheVariants.{Outer, Inner}
-use Rattle.sdl_tables.specs.declared.place.Key.{Key}
 use Rattle.sdl_tables.specs.declared.place.Key.TheVariants as key
 use Rattle.sdl_parts.specs.Structure.{Structure, IsStructure, HasFewInstances, OwnerExists, ScopeExists, SignalsExist, AreSystemFirst, IsEnd, JoinsAt}
-use Rattle.sdl_tables.specs.Tables.{tables_at, elements_at, total}
-use Rattle.sdl_tables.specs.Names.{ListsSignals, NamesSignal, HasOneDot, agent_part, gate_part}
+use Rattle.sdl_tables.specs.Tables.{tables_at, total}
+use Rattle.sdl_tables.specs.Names.{NamesSignal, HasOneDot, agent_part, gate_part}
 use Rattle.sdl_structure.specs.File.{ListsParts, IsWithinLimits, IsBlockTable, IsSetTable, IsGateTable, IsChannelTable, NamesEnd, IsAgent, side_in, sets_of, owned, set_gates, block_gates, gates_of, channels_in, block_channels, channels_of}
 use Rattle.sdl_tables.proofs.SignalLemmas.{some_and}
 use Rattle.sdl_tables.proofs.ListLemmas.{zip_length}

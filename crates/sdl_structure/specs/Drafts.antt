@@ -1,5 +1,5 @@
 -- What is read of a file so far: the draft holds exactly what the tables that the walk has met name.
-use Rattle.std.specs.Prelude.{◌≡◌, ◌≢◌, ℕ, ◌+◌, ◌*◌, ◌<◌, ◌≤◌, List, [], ◌∷◌, ◌++◌, map, take, length, Option, Some, slice_get, All, AllPairs}
+use Rattle.std.specs.Prelude.{◌≡◌, ◌≢◌, ℕ, ◌+◌, ◌*◌, ◌<◌, ◌≤◌, List, [], ◌∷◌, ◌++◌, map, take, length, Some, slice_get, All, AllPairs}
 use Rattle.std.specs.List.{AllZip}
 use Rattle.toml.specs.Data.{Members}
 use Rattle.sdl_parts.specs.declared.parts.Gate.{Gate}
@@ -12,7 +12,7 @@ use Rattle.sdl_tables.specs.declared.place.Key.TheVariants as key
 use Rattle.sdl_tables.specs.declared.place.Part.TheVariants as part
 use Rattle.sdl_tables.specs.declared.place.Place.{Place}
 use Rattle.sdl_structure.specs.declared.reading.draft.Draft.{Draft}
-use Rattle.sdl_tables.specs.Tables.{text_at, tables_at, names_of, agent_names, channel_names, total}
+use Rattle.sdl_tables.specs.Tables.{text_at, tables_at, names_of, agent_names, channel_names}
 use Rattle.sdl_tables.specs.Names.{IsSignalTable, agent_part, gate_part}
 use Rattle.sdl_structure.specs.File.{IsBlockTable, IsSetTable, IsGateTable, IsChannelTable, IsAgent, sets_of, owned, set_gates, gates_of, block_channels}
 use Rattle.sdl_tables.specs.Keys.{keys_of, channel_keys}

@@ -1,5 +1,5 @@
 -- The structure file: which top tables keep its rules, and which structure each of them names. (This project's own.)
-use Rattle.std.specs.Prelude.{◌≡◌, ◌≢◌, ℕ, ◌+◌, ◌*◌, ◌<◌, ◌≤◌, pos, false, List, [], ◌∷◌, ◌++◌, map, length, Option, Some, slice_get, codes, IsSomeAnd, AllPairs}
+use Rattle.std.specs.Prelude.{◌≡◌, ◌≢◌, ℕ, ◌+◌, ◌*◌, ◌<◌, ◌≤◌, pos, false, List, [], ◌∷◌, ◌++◌, map, length, Some, slice_get, codes, IsSomeAnd, AllPairs}
 use Rattle.std.specs.List.{AllZip}
 use Rattle.toml.specs.Data.{Data, Members, as_str}
 use Rattle.sdl_parts.specs.declared.parts.SignalDecl.{SignalDecl}
@@ -14,13 +14,12 @@ use Rattle.sdl_parts.specs.declared.parts.Scope.{Scope}
 use Rattle.sdl_parts.specs.declared.parts.Scope.TheVariants as scope
 use Rattle.sdl_parts.specs.declared.parts.Side.{Side}
 use Rattle.sdl_parts.specs.declared.parts.Side.TheVariants.{Outer, Inner}
-use Rattle.sdl_tables.specs.declared.place.Key.{Key}
 use Rattle.sdl_tables.specs.declared.place.Key.TheVariants as key
 use Rattle.sdl_tables.specs.declared.place.Part.TheVariants as part
 use Rattle.sdl_parts.specs.Structure.{Structure}
 use Rattle.sdl_tables.specs.Keys.{keys_of, gate_keys, channel_keys}
 use Rattle.sdl_tables.specs.Names.{HasName, IsSignalTable, ListsSignals, HasOneDot, agent_part, gate_part}
-use Rattle.sdl_tables.specs.Tables.{integer_at, integer_or, flag_or, text_at, elements_at, tables_at, names_of, agent_names, channel_names, HasShape}
+use Rattle.sdl_tables.specs.Tables.{integer_at, integer_or, flag_or, elements_at, tables_at, names_of, agent_names, channel_names, HasShape}
 
 -- the table is that of a gate of this owner, and says this
 pub record IsGateTable (signals : List SignalDecl) (x : Owner × Members) (g : Gate) : Type 0 where

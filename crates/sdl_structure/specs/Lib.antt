@@ -5,3 +5,4 @@ pub use Rattle.sdl_tables.specs.Names
 pub use Rattle.sdl_tables.specs.Faults
 pub mod File
 pub mod Drafts
+pub mod Texts

@@ -47,17 +47,17 @@ forth = [\"ping\"]
 back = [\"pong\"]
 ";
 
+/// What stands in the file before the text `from`, between that and the text `old`, and behind it.
+fn parts_around(from: &str, old: &str) -> Option<(&'static str, &'static str, &'static str)> {
+    let (head, rest) = ECHO.split_once(from)?;
+    let (before, after) = rest.split_once(old)?;
+    Some((head, before, after))
+}
+
 /// The file of Echo with one text in place of another, which stands there first after the text `from`.
 pub fn changed(alloc: Global, from: &str, old: &str, new: &str) -> Result<String, AllocError> {
-    let mut text = String::new(alloc);
-    if let Some((head, rest)) = ECHO.split_once(from) {
-        if let Some((before, after)) = rest.split_once(old) {
-            text.push_str(head)?;
-            text.push_str(from)?;
-            text.push_str(before)?;
-            text.push_str(new)?;
-            text.push_str(after)?;
-        }
+    match parts_around(from, old) {
+        Some((head, before, after)) => format!(in alloc; "{head}{from}{before}{new}{after}"),
+        None => Ok(String::new(alloc)),
     }
-    Ok(text)
 }

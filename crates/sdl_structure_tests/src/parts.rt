@@ -2,88 +2,103 @@
 
 use crate::echo::ECHO;
 use sdl_signal::{BlockId, GateId, SetId, SignalId, Sort};
-use sdl_structure::{Channel, Gate, Owner, Scope, Set, Side, SignalDecl, read_structure};
+use sdl_structure::{
+    Channel, End, Gate, Owner, Scope, Set, Side, SignalDecl, Structure, read_structure,
+};
 use std::process::Abort;
 use std::test::Fail;
 
 fn are_the_signals(rt: &impl Abort, signals: &[SignalDecl]) {
-    assert_eq!(rt; signals.len(), 2);
-    assert_eq!(rt; signals[1].name.as_str(), "pong");
-    assert_eq!(rt; signals[1].sorts.as_slice(), [Sort::Integer].as_slice());
+    assert!(rt; signals.len() == 2);
+    assert!(rt; signals[1].name.as_str() == "pong");
+    assert!(rt; signals[1].sorts.as_slice() == [Sort::Integer].as_slice());
+}
+
+fn is_the_set(rt: &impl Abort, set: &Set) {
+    assert!(rt; set.name.as_str() == "E");
+    assert!(rt; set.block == BlockId(0));
+    assert!(rt; set.initial == 1 && set.maximum == 1024);
 }
 
 fn are_the_sets(rt: &impl Abort, sets: &[Set]) {
-    assert_eq!(rt; sets.len(), 1);
-    assert_eq!(rt; sets[0].name.as_str(), "E");
-    assert_eq!(rt; sets[0].block, BlockId(0));
-    assert_eq!(rt; (sets[0].initial, sets[0].maximum), (1, 1024));
+    assert!(rt; sets.len() == 1);
+    is_the_set(rt, &sets[0]);
+}
+
+fn is_the_gate(rt: &impl Abort, gate: &Gate, name: &str, owner: Owner) {
+    assert!(rt; gate.name.as_str() == name);
+    assert!(rt; gate.owner == owner);
+}
+
+fn lets_through(rt: &impl Abort, gate: &Gate, inward: &[SignalId], outward: &[SignalId]) {
+    assert!(rt; gate.inward.as_slice() == inward);
+    assert!(rt; gate.outward.as_slice() == outward);
 }
 
 fn are_the_gates(rt: &impl Abort, gates: &[Gate]) {
-    assert_eq!(rt; gates.len(), 3);
-    assert_eq!(rt; gates[0].name.as_str(), "line");
-    assert_eq!(rt; gates[0].owner, Owner::System);
-    assert_eq!(rt; gates[1].owner, Owner::Block(BlockId(0)));
-    assert_eq!(rt; gates[2].owner, Owner::Set(SetId(0)));
-    assert_eq!(rt; gates[2].inward.as_slice(), [SignalId(0)].as_slice());
-    assert_eq!(rt; gates[2].outward.as_slice(), [SignalId(1)].as_slice());
+    assert!(rt; gates.len() == 3);
+    is_the_gate(rt, &gates[0], "line", Owner::System);
+    is_the_gate(rt, &gates[1], "g", Owner::Block(BlockId(0)));
+    is_the_gate(rt, &gates[2], "p", Owner::Set(SetId(0)));
+    for gate in gates {
+        lets_through(rt, gate, &[SignalId(0)], &[SignalId(1)]);
+    }
 }
 
-fn is_the_top_channel(rt: &impl Abort, top: &Channel) {
-    assert_eq!(rt; top.name.as_str(), "c0");
-    assert_eq!(rt; top.scope, Scope::System);
-    assert_eq!(rt; (top.first.gate, top.first.side), (GateId(0), Side::Inner));
-    assert_eq!(rt;
-        (top.second.gate, top.second.side),
-        (GateId(1), Side::Outer)
-    );
+fn is_the_channel(rt: &impl Abort, channel: &Channel, name: &str, scope: Scope) {
+    assert!(rt; channel.name.as_str() == name);
+    assert!(rt; channel.scope == scope);
 }
 
-fn is_the_inner_channel(rt: &impl Abort, inner: &Channel) {
-    assert_eq!(rt; inner.scope, Scope::Block(BlockId(0)));
-    assert_eq!(rt;
-        (inner.first.gate, inner.first.side),
-        (GateId(1), Side::Inner)
-    );
-    assert_eq!(rt;
-        (inner.second.gate, inner.second.side),
-        (GateId(2), Side::Outer)
-    );
-    assert_eq!(rt; inner.forth.as_slice(), [SignalId(0)].as_slice());
-    assert_eq!(rt; inner.back.as_slice(), [SignalId(1)].as_slice());
-    assert_eq!(rt; inner.nodelay, false);
+fn joins(rt: &impl Abort, channel: &Channel, first: End, second: End) {
+    assert!(rt; channel.first == first);
+    assert!(rt; channel.second == second);
+}
+
+fn carries(rt: &impl Abort, channel: &Channel, forth: &[SignalId], back: &[SignalId]) {
+    assert!(rt; channel.forth.as_slice() == forth);
+    assert!(rt; channel.back.as_slice() == back);
+    assert!(rt; !channel.nodelay);
+}
+
+fn end(gate: u32, side: Side) -> End {
+    End {
+        gate: GateId(gate),
+        side,
+    }
+}
+
+fn are_the_channels(rt: &impl Abort, channels: &[Channel]) {
+    assert!(rt; channels.len() == 2);
+    is_the_channel(rt, &channels[0], "c0", Scope::System);
+    joins(rt, &channels[0], end(0, Side::Inner), end(1, Side::Outer));
+    is_the_channel(rt, &channels[1], "c1", Scope::Block(BlockId(0)));
+    joins(rt, &channels[1], end(1, Side::Inner), end(2, Side::Outer));
+    for channel in channels {
+        carries(rt, channel, &[SignalId(0)], &[SignalId(1)]);
+    }
+}
+
+fn is_the_system(rt: &impl Abort, s: &Structure) {
+    assert!(rt; s.system() == "Echo");
+    assert!(rt; s.budget() == 100_000);
+    assert!(rt; s.blocks().len() == 1);
+    assert!(rt; s.blocks()[0].name.as_str() == "B");
 }
 
 #[test]
 fn reads_the_system_of_echo(rt: HostRuntime) -> Result<(), Fail> {
     let s = read_structure(rt.alloc(), ECHO)?;
-    assert_eq!(rt; s.system(), "Echo");
-    assert_eq!(rt; s.budget(), 100_000);
-    assert_eq!(rt; s.blocks().len(), 1);
-    assert_eq!(rt; s.blocks()[0].name.as_str(), "B");
+    is_the_system(&rt, &s);
     Ok(())
 }
 
 #[test]
-fn reads_the_signals_and_sets_of_echo(rt: HostRuntime) -> Result<(), Fail> {
+fn reads_the_parts_of_echo(rt: HostRuntime) -> Result<(), Fail> {
     let s = read_structure(rt.alloc(), ECHO)?;
     are_the_signals(&rt, s.signals());
     are_the_sets(&rt, s.sets());
-    Ok(())
-}
-
-#[test]
-fn reads_the_gates_of_echo(rt: HostRuntime) -> Result<(), Fail> {
-    let s = read_structure(rt.alloc(), ECHO)?;
     are_the_gates(&rt, s.gates());
-    Ok(())
-}
-
-#[test]
-fn reads_the_channels_of_echo(rt: HostRuntime) -> Result<(), Fail> {
-    let s = read_structure(rt.alloc(), ECHO)?;
-    assert_eq!(rt; s.channels().len(), 2);
-    is_the_top_channel(&rt, &s.channels()[0]);
-    is_the_inner_channel(&rt, &s.channels()[1]);
+    are_the_channels(&rt, s.channels());
     Ok(())
 }

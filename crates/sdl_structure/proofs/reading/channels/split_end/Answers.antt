@@ -1,4 +1,4 @@
-use Rattle.std.proofs.Common.{rules, arith, ◌≡◌, length, count_by}
+use Rattle.std.proofs.Common.{arith, ◌≡◌, length}
 use Rattle.std.specs.List.{position_or_len}
 use Rattle.std.proofs.lemmas.Str.Pattern.{split_once_first}
 use Rattle.sdl_tables.specs.Names.{is_dot}

@@ -1,4 +1,4 @@
-use Rattle.std.proofs.Common.{rules, arith, ◌≡◌, ◌++◌, ◌+◌, ◌<◌, ◌≤◌, length, pos, Some, true, ap, sym, subst, refl, ◌∙◌}
+use Rattle.std.proofs.Common.{◌≡◌, ◌++◌, ◌<◌, ◌≤◌, length, true, ap, sym, subst, ◌∙◌}
 use Rattle.std.specs.List.{AllZip}
 use Rattle.sdl_parts.specs.declared.parts.Owner.TheVariants as owner
 use Rattle.sdl_tables.specs.declared.place.Key.TheVariants as key
@@ -6,12 +6,11 @@ use Rattle.sdl_tables.specs.declared.place.Part.TheVariants as part
 use Rattle.sdl_structure.specs.declared.reading.draft.Draft.{Draft}
 use Rattle.sdl_parts.specs.Structure.{Structure}
 use Rattle.sdl_tables.specs.Keys.{keys_of}
-use Rattle.sdl_tables.specs.Tables.{tables_at, has_only, integer_at, integer_or, channel_names, names_of}
+use Rattle.sdl_tables.specs.Tables.{tables_at, has_only, channel_names, names_of}
 use Rattle.sdl_tables.specs.Names.{IsSignalTable}
 use Rattle.sdl_structure.specs.File.{IsFileOf, IsGateTable, owned}
 use Rattle.sdl_tables.specs.Walks.{file_of, own, name_texts}
 use Rattle.sdl_structure.specs.Drafts.{HasBlocks}
-use Rattle.sdl_parts.specs.Lists.{structure_of}
 use Rattle.sdl_tables.proofs.PlaceLemmas.{top_is}
 use Rattle.sdl_structure.proofs.FileLemmas.{draft_starts, top_serves, top_counted, lists_parts, distinct_names, within_limits}
 use Rattle.sdl_structure.proofs.reading.file.read_top.Goals as goal

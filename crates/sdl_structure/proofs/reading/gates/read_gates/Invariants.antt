@@ -1,4 +1,4 @@
-use Rattle.std.proofs.Common.{◌≡◌, [], take, map}
+use Rattle.std.proofs.Common.{[], take, map}
 use Rattle.sdl_tables.specs.Tables.{table_in}
 use Rattle.sdl_structure.specs.File.{IsGateTable}
 use Rattle.sdl_tables.proofs.ListLemmas.{AreRead}

@@ -1,4 +1,4 @@
-use Rattle.std.proofs.Common.{rules, arith, ◌≡◌, ◌<◌, ◌≤◌, length, refl}
+use Rattle.std.proofs.Common.{arith, ◌≡◌, ◌<◌, ◌≤◌, length, refl}
 use Rattle.std.proofs.lemmas.Option.{slice_get_read, slice_get_past}
 use Rattle.sdl_structure.proofs.ChannelLemmas.{some_iff, none_iff}
 use Rattle.sdl_structure.proofs.reading.draft.Draft.is_set.Goals as goal

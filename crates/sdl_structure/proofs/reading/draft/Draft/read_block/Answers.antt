@@ -1,4 +1,4 @@
-use Rattle.std.proofs.Common.{rules, arith, ◌≡◌, ◌+◌, ◌<◌, ◌≤◌, length, take, ap, sym, subst, refl, ◌∙◌, true}
+use Rattle.std.proofs.Common.{arith, ◌≡◌, ◌+◌, length, take, ap, sym, subst, refl, ◌∙◌, true}
 use Rattle.std.proofs.lemmas.List.{length-append}
 use Rattle.sdl_parts.specs.declared.parts.Block.{Block}
 use Rattle.sdl_tables.specs.declared.place.Key.TheVariants as key

@@ -1,8 +1,8 @@
-use Rattle.std.proofs.Common.{rules, arith, ◌≡◌, ◌+◌, ◌≤◌, length, take, map, ap, sym, subst, ◌∙◌}
+use Rattle.std.proofs.Common.{arith, ap, ◌∙◌}
 use Rattle.std.proofs.lemmas.Bool.Decides.{nat_tests}
 use Rattle.sdl_tables.specs.declared.place.Key.TheVariants as key
 use Rattle.sdl_structure.specs.declared.reading.draft.Draft.{Draft}
-use Rattle.sdl_tables.specs.Tables.{table_in, tables_at, channel_names}
+use Rattle.sdl_tables.specs.Tables.{tables_at, channel_names}
 use Rattle.sdl_structure.specs.File.{IsChannelTable}
 use Rattle.sdl_tables.specs.Walks.{file_of, own}
 use Rattle.sdl_structure.specs.Drafts.{blocks_before}

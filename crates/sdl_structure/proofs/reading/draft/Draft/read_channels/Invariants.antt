@@ -1,4 +1,4 @@
-use Rattle.std.proofs.Common.{◌≡◌, [], take, map}
+use Rattle.std.proofs.Common.{◌≡◌, take, map}
 use Rattle.sdl_tables.specs.Tables.{table_in, channel_names}
 use Rattle.sdl_structure.specs.File.{IsChannelTable}
 use Rattle.sdl_tables.specs.Walks.{file_of}

@@ -1,9 +1,6 @@
-use Rattle.std.proofs.Common.{rules, arith, ◌≡◌, ◌≢◌, ◌<◌, length, false, true, IsSomeAnd, subst, sym}
-use Rattle.toml.specs.Data.{as_str}
+use Rattle.std.proofs.Common.{rules, arith, ◌≡◌, ◌<◌, length, false, true, subst, sym}
 use Rattle.toml.specs.View.{view}
 use Rattle.sdl_tables.specs.Tables.{is_text}
-use Rattle.sdl_tables.specs.Names.{HasOneDot}
-use Rattle.sdl_structure.specs.File.{NamesEnd}
 use Rattle.sdl_structure.proofs.ChannelLemmas.{bad_end, unknown_end, refuted}
 use Rattle.sdl_structure.proofs.reading.draft.Draft.read_ends.Goals as goal
 
