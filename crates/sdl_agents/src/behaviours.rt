@@ -1,8 +1,9 @@
 //! Behaviours of stored transitions.
-ghost use Rattle.std.specs.Prelude.{◌≡◌, ◌+◌, ◌<◌, ◌≤◌, length, IfOk, vec_len};
+ghost use Rattle.std.specs.Prelude.{◌≡◌, ◌+◌, ◌<◌, ◌≤◌, [], ◌∷◌, ◌++◌, length, IfOk, vec_len};
 ghost use Rattle.std.specs.List.{AllByRecursion};
 ghost use Rattle.sdl_signal.specs.Names.{IsName};
 ghost use Rattle.sdl_behaviour.specs.Transitions.{IsAllowed, IsAllowedBehaviour};
+ghost use Rattle.sdl_agents.specs.Handed.{handled};
 
 use arrayvec::ArrayVec;
 use sdl_behaviour::{Agents, Behaviour, Kind, Named, Row, Transition};
@@ -34,6 +35,7 @@ fn add_use<S: Agents>(behaviour: Behaviour<S>, used: Use) -> Result<Behaviour<S>
     ensures allowed { IfOk result (IsAllowedBehaviour S.may) }
     ensures uses { IfOk result (λ b. vec_len b.uses ≡ vec_len behaviour.uses + 1) }
     ensures rows { IfOk result (λ b. vec_len b.rows ≡ vec_len behaviour.rows) }
+    ensures handled { IfOk result (λ b. handled b ≡ handled behaviour) }
 {
     let mut behaviour = behaviour;
     let (kind, number, text) = used;
@@ -51,6 +53,7 @@ fn add_uses<S: Agents>(behaviour: Behaviour<S>, uses: &[Use]) -> Result<Behaviou
     requires allowed { IsAllowedBehaviour S.may behaviour }
     ensures allowed { IfOk result (IsAllowedBehaviour S.may) }
     ensures rows { IfOk result (λ b. vec_len b.rows ≡ vec_len behaviour.rows) }
+    ensures handled { IfOk result (λ b. handled b ≡ handled behaviour) }
 {
     match uses {
         [] => Ok(behaviour),
@@ -70,6 +73,7 @@ pub fn behaviour<S: Agents>(
     requires allowed { IsAllowed S.may start }
     ensures allowed { IfOk result (IsAllowedBehaviour S.may) }
     ensures rows { IfOk result (λ b. vec_len b.rows ≡ 0) }
+    ensures handled { IfOk result (λ b. handled b ≡ record { set = set; signals = [] }) }
 {
     let mut states = ArrayVec::new();
     states.push(known_name("idle"));
@@ -90,6 +94,7 @@ pub fn with_row<S: Agents>(
     requires row { IsAllowed S.may transition }
     ensures allowed { IfOk result (IsAllowedBehaviour S.may) }
     ensures rows { IfOk result (λ b. vec_len b.rows ≡ vec_len behaviour.rows + 1) }
+    ensures handled { IfOk result (λ b. handled b ≡ record (handled behaviour) { signals = (handled behaviour).signals ++ signal ∷ [] }) }
 {
     let mut behaviour = behaviour;
     let row = Row {
@@ -116,6 +121,7 @@ pub fn with_one_row<S: Agents>(
     requires start { IsAllowed S.may start_and_row.0 }
     requires row { IsAllowed S.may start_and_row.1 }
     ensures allowed { IfOk result (IsAllowedBehaviour S.may) }
+    ensures handled { IfOk result (λ b. handled b ≡ record { set = set; signals = signal ∷ [] }) }
 {
     let (start, row) = start_and_row;
     with_row(behaviour(alloc, set, uses, start)?, signal, row)

@@ -1,5 +1,7 @@
 //! Echo: E answers `ping(n)` with `pong(n)`.
+ghost use Rattle.std.specs.Prelude.{IfOk};
 ghost use Rattle.sdl_behaviour.specs.Transitions.{IsAllowed};
+ghost use Rattle.sdl_agents.specs.Handed.{handled_by_echo};
 ghost use Rattle.sdl_agents.specs.Tables.{EchoMay};
 
 use crate::behaviours::{Use, with_one_row};
@@ -34,6 +36,7 @@ const USES_OF_E: [Use; 3] = [
 /// Makes the behaviour of E, and hands it to the runner.
 pub fn run<R: Runner + Drop>(alloc: Global, sets: u32, runner: R) -> Result<R::Answer, AllocError>
     requires { R.can_run runner }
+    ensures { IfOk result (R.answers runner handled_by_echo) }
 {
     let start: Run = Box::new(alloc, |frame: &Frame| begin(frame))?;
     let ping: Run = Box::new(alloc, |frame: &Frame| forward(frame, PONG))?;
@@ -53,6 +56,7 @@ fn run_stored<R: Runner + Drop>(
     requires runner { R.can_run runner }
     requires start { IsAllowed EchoMay of_e.0 }
     requires ping { IsAllowed EchoMay of_e.1 }
+    ensures { IfOk result (R.answers runner handled_by_echo) }
 {
     let e = with_one_row(alloc, E, USES_OF_E.as_slice(), PING, of_e)?;
     let behaviours = Vec::from_array(alloc, [e])?;

@@ -1,5 +1,7 @@
 //! Relay: A and C send `num(n)` on for `put(n)`, and B sends `out(n)` on for `num(n)`.
+ghost use Rattle.std.specs.Prelude.{IfOk};
 ghost use Rattle.sdl_behaviour.specs.Transitions.{IsAllowed};
+ghost use Rattle.sdl_agents.specs.Handed.{handled_by_relay};
 ghost use Rattle.sdl_agents.specs.Tables.{RelayMay};
 
 use crate::behaviours::{Use, with_one_row};
@@ -54,6 +56,7 @@ const USES_OF_B: [Use; 3] = [
 /// Makes the behaviours of A, C and B, and hands them to the runner.
 pub fn run<R: Runner + Drop>(alloc: Global, sets: u32, runner: R) -> Result<R::Answer, AllocError>
     requires { R.can_run runner }
+    ensures { IfOk result (R.answers runner handled_by_relay) }
 {
     let start_a: Run = Box::new(alloc, |frame: &Frame| begin(frame))?;
     let put_a: Run = Box::new(alloc, |frame: &Frame| forward(frame, NUM))?;
@@ -91,6 +94,7 @@ fn run_stored<R: Runner + Drop>(
     requires put_c { IsAllowed RelayMay of_c.1 }
     requires start_b { IsAllowed RelayMay of_b.0 }
     requires num_b { IsAllowed RelayMay of_b.1 }
+    ensures { IfOk result (R.answers runner handled_by_relay) }
 {
     let a = with_one_row(alloc, A, USES_OF_A.as_slice(), PUT, of_a)?;
     let c = with_one_row(alloc, C, USES_OF_C.as_slice(), PUT, of_c)?;

@@ -1,7 +1,8 @@
 //! Ring: X and Y pass a token round, which counts its steps.
-ghost use Rattle.std.specs.Prelude.{◌≡◌, None, [], ◌∷◌, pos};
+ghost use Rattle.std.specs.Prelude.{◌≡◌, None, [], ◌∷◌, pos, IfOk};
 ghost use Rattle.sdl_signal.specs.declared.values.Sort.TheVariants as sort;
 ghost use Rattle.sdl_behaviour.specs.Transitions.{IsAllowed};
+ghost use Rattle.sdl_agents.specs.Handed.{handled_by_ring};
 ghost use Rattle.sdl_agents.specs.Tables.{RingMay, LeadsToIdle, output_integer, passed_on, values_of, next_token};
 ghost use Rattle.sdl_agents.specs.Offered.{IsIdleOffer, Keeps, KeepsTo, OffersOne, offered};
 
@@ -71,6 +72,7 @@ fn pass_values(values: &[Value]) -> Step
 /// Makes the behaviours of X and Y, and hands them to the runner.
 pub fn run<R: Runner + Drop>(alloc: Global, sets: u32, runner: R) -> Result<R::Answer, AllocError>
     requires { R.can_run runner }
+    ensures { IfOk result (R.answers runner handled_by_ring) }
 {
     let start_x: Run = Box::new(alloc, |_frame: &Frame| first())?;
     let tok_x: Run = Box::new(alloc, |frame: &Frame| pass_on(frame))?;
@@ -107,6 +109,7 @@ fn run_stored<R: Runner + Drop>(
     requires tok_x { IsAllowed RingMay of_x.1 }
     requires start_y { IsAllowed RingMay of_y.0 }
     requires tok_y { IsAllowed RingMay of_y.1 }
+    ensures { IfOk result (R.answers runner handled_by_ring) }
 {
     let x = with_one_row(alloc, X, USES_OF_X.as_slice(), TOK, of_x)?;
     let y = with_one_row(alloc, Y, USES_OF_Y.as_slice(), TOK, of_y)?;

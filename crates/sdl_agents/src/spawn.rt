@@ -1,6 +1,7 @@
 //! Spawn: a Boss that makes Kids, kills them and answers their queries.
-ghost use Rattle.std.specs.Prelude.{IfOk};
+ghost use Rattle.std.specs.Prelude.{IfOk, ◌≡◌, [], ◌∷◌};
 ghost use Rattle.sdl_behaviour.specs.Transitions.{IsAllowed, IsAllowedBehaviour};
+ghost use Rattle.sdl_agents.specs.Handed.{handled, handled_by_spawn, of_set};
 ghost use Rattle.sdl_agents.specs.Tables.{SpawnMay};
 ghost use Rattle.sdl_agents.specs.Stored.{IsAllowedBoss, IsAllowedKid};
 
@@ -94,6 +95,7 @@ struct OfKid {
 /// Makes the behaviours of the Boss and of a Kid, and hands them to the runner.
 pub fn run<R: Runner + Drop>(alloc: Global, sets: u32, runner: R) -> Result<R::Answer, AllocError>
     requires { R.can_run runner }
+    ensures { IfOk result (R.answers runner handled_by_spawn) }
 {
     let start_boss: Run = Box::new(alloc, |frame: &Frame| begin(frame))?;
     let on_make: Run = Box::new(alloc, |_frame: &Frame| make())?;
@@ -132,7 +134,8 @@ fn stored_die(sets: u32, run: Run) -> Transition<Spawn>
 /// The behaviour of the Boss.
 fn boss(alloc: Global, stored: OfBoss) -> Result<Behaviour<Spawn>, AllocError>
     requires { IsAllowedBoss stored }
-    ensures { IfOk result (IsAllowedBehaviour SpawnMay) }
+    ensures allowed { IfOk result (IsAllowedBehaviour SpawnMay) }
+    ensures handled { IfOk result (λ b. handled b ≡ of_set 0 (0 ∷ 2 ∷ 5 ∷ [])) }
 {
     let boss = behaviour(alloc, BOSS, USES_OF_BOSS.as_slice(), stored.start)?;
     let boss = with_row(boss, MAKE, stored.make)?;
@@ -143,7 +146,8 @@ fn boss(alloc: Global, stored: OfBoss) -> Result<Behaviour<Spawn>, AllocError>
 /// The behaviour of a Kid.
 fn kid(alloc: Global, stored: OfKid) -> Result<Behaviour<Spawn>, AllocError>
     requires { IsAllowedKid stored }
-    ensures { IfOk result (IsAllowedBehaviour SpawnMay) }
+    ensures allowed { IfOk result (IsAllowedBehaviour SpawnMay) }
+    ensures handled { IfOk result (λ b. handled b ≡ of_set 1 (1 ∷ 3 ∷ 6 ∷ 4 ∷ [])) }
 {
     let kid = behaviour(alloc, KID, USES_OF_KID.as_slice(), stored.start)?;
     let kid = with_row(kid, ASK, stored.ask)?;
@@ -162,6 +166,7 @@ fn run_stored<R: Runner + Drop>(
     requires runner { R.can_run runner }
     requires of_boss { IsAllowedBoss of_boss }
     requires of_kid { IsAllowedKid of_kid }
+    ensures { IfOk result (R.answers runner handled_by_spawn) }
 {
     let boss = boss(alloc, of_boss)?;
     let kid = kid(alloc, of_kid)?;

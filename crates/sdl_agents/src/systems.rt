@@ -1,4 +1,8 @@
 //! The built-in systems by name.
+ghost use Rattle.std.specs.Prelude.{◌≡◌, IfOk};
+ghost use Rattle.sdl_agents.specs.Handed.{handled_by};
+ghost use Rattle.sdl_agents.specs.Systems.{system_of};
+
 use crate::runner::Runner;
 use crate::{echo, relay, ring, spawn};
 use std::alloc::{AllocError, Global};
@@ -13,7 +17,9 @@ pub enum System {
 }
 
 /// The built-in system of this name.
-pub fn system_named(name: &str) -> Option<System> {
+pub fn system_named(name: &str) -> Option<System>
+    ensures { result ≡ system_of name.now }
+{
     if name == "Echo" {
         Some(System::Echo)
     } else if name == "Relay" {
@@ -36,6 +42,7 @@ pub fn run<R: Runner + Drop>(
     runner: R,
 ) -> Result<R::Answer, AllocError>
     requires { R.can_run runner }
+    ensures { IfOk result (R.answers runner (handled_by system)) }
 {
     match system {
         System::Echo => echo::run(alloc, sets, runner),

@@ -1,2 +1,3 @@
 pub mod Pipe
 pub mod Arguments
+pub mod Status

@@ -1,6 +1,7 @@
 -- Lines through one queue: what is written of what was read.
-use Rattle.std.specs.Prelude.{◌≡◌, ℕ, ◌+◌, ◌<◌, List, [], ◌∷◌, length, take, Option, None, IsSome, unwrap_or, flat_map, codes, ⊤}
-use Rattle.std.specs.Io.KnownBytes.{Appends}
+use Rattle.std.specs.Prelude.{◌≡◌, ℕ, ◌+◌, ◌<◌, List, [], ◌∷◌, length, take, Option, None, IsSome, unwrap_or, flat_map, codes, ⊤, ◌⊎◌}
+use Rattle.std.specs.Io.KnownBytes.{Appends, Keeps}
+use Rattle.sdl_command.specs.Status.{HasFlushed, status_of}
 use Rattle.sdl_signal.specs.declared.values.Sort.TheVariants as sort
 use Rattle.sdl_signal.specs.declared.values.Pid.TheVariants as pid
 use Rattle.sdl_signal.specs.declared.values.Signal.{Signal}
@@ -39,6 +40,14 @@ HasWrittenText old new text output.WriteFault = (n : ℕ) × (n < length text) �
 abbrev pub IsPiped : Option (List ℕ) → Option (List ℕ) → Option (List ℕ) → Option (List ℕ) → InputEnd → OutputEnd → Type 0
 IsPiped unread rest old new end written =
     (carried : List EnvLine) × HasRead pipe_lexicon unread rest carried end × HasWrittenText old new (piped_text pipe_lexicon carried) written
+
+-- The lines were piped, the output was flushed, and the status is that of both ends; or memory was refused, and nothing was
+-- written.
+abbrev pub IsPipedAs : Option (List ℕ) → Option (List ℕ) → Option (List ℕ) → Option (List ℕ) → ℕ → Type 0
+IsPipedAs unread rest old new status =
+    ((ended : Option (List ℕ)) × (end : InputEnd) × (written : OutputEnd) × (flushed : OutputEnd)
+    × IsPiped unread rest old ended end written × Keeps ended new × HasFlushed written flushed × (status ≡ status_of end flushed))
+    ⊎ ((status ≡ 3) × Keeps old new)
 
 -- the item of a line's signal, by the line's position from 0
 abbrev pub queued_item : ℕ → Signal → Item

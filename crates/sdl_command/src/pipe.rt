@@ -5,7 +5,7 @@ ghost use Rattle.std.specs.Io.KnownBytes.{Keeps};
 ghost use Rattle.sdl_signal.specs.Names.{Lexicon};
 ghost use Rattle.sdl_signal.specs.declared.values.EnvLine.{EnvLine};
 ghost use Rattle.sdl_signal.specs.Environment.{HasRead};
-ghost use Rattle.sdl_command.specs.Pipe.{pipe_lexicon, IsPiped, HasQueued, IsWritable, text_of, HasWrittenText, queued_item};
+ghost use Rattle.sdl_command.specs.Pipe.{pipe_lexicon, IsPiped, IsPipedAs, HasQueued, IsWritable, text_of, HasWrittenText, queued_item};
 
 use crate::ends::{flushed, report};
 use crate::errors::without_memory;
@@ -25,7 +25,10 @@ pub fn pipe_command<R: Read, W: Write, E: Write>(
     input: &mut R,
     output: &mut W,
     errors: &mut E,
-) -> u8 {
+) -> u8
+    ensures piped { IsPipedAs (R.remaining input.old) (R.remaining input.new) (W.contents output.old) (W.contents output.new) result }
+    ensures silent { result ≡ 0 → Keeps (E.contents errors.old) (E.contents errors.new) }
+{
     match pipe(alloc, input, output) {
         Ok((read, write)) => report(read, flushed(output, write), errors),
         Err(_) => {

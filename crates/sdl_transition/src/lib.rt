@@ -4,11 +4,10 @@
 pub mod binding;
 pub mod block_parts;
 mod blocks;
+mod checks;
 pub mod faults;
 mod first_fault;
 mod index;
-mod probes;
-mod rules;
 
 pub use binding::{Bound, Unbound, bind};
 pub use block_parts::BlockParts;
