@@ -4,9 +4,9 @@ ghost use Rattle.sdl_instances.specs.Core.{IsSound};
 ghost use Rattle.sdl_instances.specs.CoreOf.{CanFire, core_of, parts_of, system_in};
 
 use super::acts::{arrive, turn};
+use super::known::{Known, along, next_turn};
 use super::shown::On;
 use super::spawn::{ASK, kid};
-use super::walk::{Known, along, next_turn};
 use sdl_instances::{Arrival, BlockCore, Turned};
 use sdl_routes::Routes;
 use sdl_signal::{Pid, Value};

@@ -1,5 +1,6 @@
 //! Refused memory.
-use super::rows::{run_spawn, stop_and_make};
+use super::calls::run_spawn;
+use super::stopping::stop_and_make;
 use sdl_test_systems::Stop;
 use std::test::Fail;
 

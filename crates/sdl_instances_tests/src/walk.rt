@@ -3,68 +3,19 @@ ghost use Rattle.std.specs.Prelude.{IfOk};
 ghost use Rattle.sdl_instances.specs.Core.{IsSound};
 ghost use Rattle.sdl_instances.specs.CoreOf.{CanFire, core_of, parts_of, system_in};
 
-use super::acts::{Arriving, arrive, turn};
+use super::acts::arrive;
 use super::asking::ask_all;
-use super::shown::{On, Saw, Shown, answer_of, quiet};
+use super::by_log::compare;
+use super::known::{Known, along, next_turn};
+use super::shown::{On, Shown, quiet};
 use super::spawn::{ASK, DIE, HELLO, MAKE, boss, kid};
-use sdl_instances::{Arrival, BlockCore, Cause, Done, Event};
+use sdl_instances::{Arrival, BlockCore, Cause};
 use sdl_routes::Routes;
-use sdl_signal::{Pid, SignalId, Value};
+use sdl_signal::{Pid, Value};
 use sdl_test_systems::Stop;
 use sdl_transition::Agents;
 use std::alloc::Global;
 use std::process::Abort;
-
-/// The serial numbers of the living Kids in the order of their creation, the last one given out, and what the random
-/// numbers go on from.
-#[derive(Drop)]
-pub struct Known {
-    pub living: Vec<u32>,
-    last: u32,
-    seed: u64,
-}
-
-impl Known {
-    /// The next number of a linear congruential rule.
-    pub fn pick(&mut self) -> u32 {
-        self.seed = self
-            .seed
-            .wrapping_mul(6_364_136_223_846_793_005)
-            .wrapping_add(1_442_695_040_888_963_407);
-        (self.seed >> 33) as u32
-    }
-}
-
-/// An item of route k and signal k.
-pub fn along(route: SignalId, value: Option<Value>, sender: Pid, to: Option<Pid>) -> Arriving {
-    Arriving {
-        route: route.0,
-        signal: route,
-        value,
-        sender,
-        to,
-        stamp: 0,
-    }
-}
-
-/// A turn, as its event shows it.
-pub fn next_turn<S: Agents>(
-    rt: &impl Abort,
-    core: &mut BlockCore<S>,
-    routes: &Routes,
-    pick: u32,
-) -> Result<Shown, Stop>
-    requires sound { IsSound S.may (system_in core.old routes.now) (core_of core.old) }
-    requires parts { CanFire S.may (parts_of core.old) }
-    ensures sound { IfOk result (λ _. IsSound S.may (system_in core.new routes.now) (core_of core.new)) }
-    ensures parts { IfOk result (λ _. CanFire S.may (parts_of core.new)) }
-{
-    let turned = turn(rt, core, routes, pick)?;
-    match answer_of(rt, &turned, core.log().as_slice())? {
-        Saw::Turn(shown) => Ok(shown),
-        _ => Err(Stop::Wrong("no turn")),
-    }
-}
 
 /// Lets the Boss make a Kid, which starts; where there are as many as may be, none is made.
 fn make_one<S: Agents>(
@@ -156,36 +107,6 @@ fn ask_one<S: Agents>(
     Ok(())
 }
 
-/// How many Kids were made, by the log.
-fn made_by_log(log: &[Event]) -> usize {
-    log.iter()
-        .filter(|event| match event {
-            Event::Turn { done, .. } => matches!(
-                done.as_slice().first(),
-                Some(Done::Made(Pid::Inst(_, _)))
-            ),
-            _ => false,
-        })
-        .count()
-}
-
-/// How many Kids have stopped, by the log.
-fn stopped_by_log(log: &[Event]) -> usize {
-    log.iter()
-        .filter(|event| match event {
-            Event::Turn { stopped, .. } => stopped.is_some(),
-            _ => false,
-        })
-        .count()
-}
-
-/// The log counts the living Kids as the walk does. There is one at first.
-fn compare(rt: &impl Abort, log: &[Event], known: &Known) {
-    let ever = made_by_log(log).wrapping_add(1);
-    let now = stopped_by_log(log).wrapping_add(known.living.len());
-    assert_eq!(rt; ever, now);
-}
-
 /// A step of the walk.
 fn walk_on<S: Agents>(
     rt: &impl Abort,
@@ -245,13 +166,7 @@ pub fn walk<S: Agents>(
     ensures sound { IfOk result (λ _. IsSound S.may (system_in core.new routes.now) (core_of core.new)) }
     ensures parts { IfOk result (λ _. CanFire S.may (parts_of core.new)) }
 {
-    let mut living = Vec::new(alloc);
-    living.push(1)?;
-    let mut known = Known {
-        living,
-        last: 1,
-        seed: 1,
-    };
+    let mut known = Known::first(alloc)?;
     next_turn(rt, core, routes, 0)?;
     next_turn(rt, core, routes, 0)?;
     for step in 0..steps {

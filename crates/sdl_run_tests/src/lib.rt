@@ -1,6 +1,10 @@
-//! Whole runs of Ring.
+//! Whole runs of Ring, and of Echo where a schedule chooses or many signals wait.
 #![tactic(auto)]
 
+#[cfg(test)]
+mod choices;
+#[cfg(test)]
+mod echo;
 #[cfg(test)]
 mod left;
 #[cfg(test)]
@@ -9,3 +13,5 @@ mod plan;
 mod ring;
 #[cfg(test)]
 mod runs;
+#[cfg(test)]
+mod thousand;

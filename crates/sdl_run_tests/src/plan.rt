@@ -1,23 +1,27 @@
 //! Runs of a system under a plan, and what each left.
 ghost use Rattle.std.specs.Prelude.{◌≤◌, IfErr};
+ghost use Rattle.std.specs.List.{AllByRecursion};
 ghost use Rattle.sdl_transition.specs.Bound.{IsBound};
+ghost use Rattle.sdl_transition.specs.Transitions.{IsAllowedBehaviour};
 ghost use Rattle.sdl_run.specs.Serial.{IsBackIn};
 
+use sdl_agents::Runner;
 use sdl_hand::Hand;
 use sdl_instances::Event;
 use sdl_queue::Rest;
 use sdl_routes::Station;
 use sdl_run::{Closing, EnvOut, Ledger, RunEnd, StartFault, run_serial};
 use sdl_signal::{InputEnd, Item, OutputEnd};
-use sdl_test_systems::Stop;
-use sdl_transition::{Agents, Bound};
+use sdl_test_systems::{Stop, bind_to};
+use sdl_transition::{Agents, Behaviour, Bound};
 use std::alloc::Global;
 
-/// How many turns each block may have, and the schedule.
+/// How many turns each block may have, the schedule, and what stands in the input.
 #[derive(Clone, Copy)]
 pub struct Plan<'a> {
     pub budget: u32,
     pub schedule: &'a [u32],
+    pub input: &'a [u8],
 }
 
 /// What a run left but its system, and what it wrote.
@@ -35,12 +39,25 @@ pub struct Left {
     pub written: Vec<u8>,
 }
 
-/// Runs the system with an empty input. Where memory was refused before the first step, it is run again.
-pub fn carry_out<S: Agents + Drop>(
-    alloc: Global,
-    plan: &Plan,
-    bound: Bound<S>,
-) -> Result<Left, Stop>
+/// Binds the behaviours to the structure of a file, and carries the plan out.
+#[derive(Drop)]
+pub struct Planned<'a> {
+    pub alloc: Global,
+    pub file: &'a str,
+    pub plan: Plan<'a>,
+}
+
+impl Runner for Planned<'_> {
+    type Answer = Result<Left, Stop>;
+
+    fn run<S: Agents + Drop>(self, behaviours: Vec<Behaviour<S>>) -> Result<Left, Stop> {
+        let bound = bind_to(self.alloc, self.file, behaviours)?;
+        carry_out(self.alloc, &self.plan, bound)
+    }
+}
+
+/// Runs the system. Where memory was refused before the first step, it is run again.
+fn carry_out<S: Agents + Drop>(alloc: Global, plan: &Plan, bound: Bound<S>) -> Result<Left, Stop>
     requires { IsBound S.may bound }
 {
     if plan.budget < 1 || plan.budget > 1_000_000 {
@@ -55,7 +72,7 @@ pub fn carry_out<S: Agents + Drop>(
     }
 }
 
-/// Runs the system with an empty input.
+/// Runs the system.
 fn run_once<S: Agents + Drop>(
     alloc: Global,
     plan: &Plan,
@@ -65,7 +82,7 @@ fn run_once<S: Agents + Drop>(
     requires bound { IsBound S.may bound }
     ensures back { IfErr result (IsBackIn S.may bound) }
 {
-    let mut input: &[u8] = &[];
+    let mut input = plan.input;
     let mut written = Vec::new(alloc);
     let closing = run_serial(
         alloc,

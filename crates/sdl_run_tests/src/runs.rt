@@ -13,6 +13,7 @@ fn run(rt: &impl Abort, alloc: Global, schedule: &[u32]) -> Result<(), Stop> {
     let plan = Plan {
         budget: BUDGET,
         schedule,
+        input: &[],
     };
     ring::run(rt, alloc, plan)
 }

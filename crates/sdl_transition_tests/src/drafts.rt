@@ -35,7 +35,8 @@ pub struct Draft {
     pub rows: &'static [RowDraft],
 }
 
-fn named(kind: Kind, number: u32, text: &str) -> Option<Named> {
+/// A use of a name.
+pub fn named(kind: Kind, number: u32, text: &str) -> Option<Named> {
     let name = sdl_signal::name(text)?;
     Some(Named { kind, number, name })
 }

@@ -11,6 +11,8 @@ mod drafts;
 #[cfg(test)]
 mod firing;
 #[cfg(test)]
+mod full;
+#[cfg(test)]
 mod numbers;
 #[cfg(test)]
 mod outcomes;

@@ -1,0 +1,99 @@
+//! Behaviours with as many uses and rows as there may be.
+ghost use Rattle.std.specs.Prelude.{◌<◌, vec_len};
+ghost use Rattle.sdl_behaviour.specs.Transitions.{IsAllowed, IsAllowedBehaviour};
+
+use super::anything::Anything;
+use super::drafts::named;
+use arrayvec::ArrayVec;
+use sdl_agents::offers::start_offer;
+use sdl_agents::steps::begin;
+use sdl_signal::{SetId, SignalId, StateId};
+use sdl_transition::{Agents, Behaviour, Frame, Kind, Row, Run, Transition};
+use std::alloc::Global;
+
+/// How many uses and rows a behaviour has at most.
+const MOST: usize = 256;
+
+/// A behaviour with this start.
+fn behaviour_of(alloc: Global, start: Transition<Anything>) -> Behaviour<Anything>
+    requires { IsAllowed (λ _ _ _. Unit {0}) start }
+    ensures { IsAllowedBehaviour (λ _ _ _. Unit {0}) result }
+{
+    Behaviour::new(alloc, SetId(0), ArrayVec::new(), ArrayVec::new(), start)
+}
+
+/// Adds a use of this number. Where memory is refused, what was handed back is added once more.
+fn add_use(behaviour: &mut Behaviour<Anything>, number: u32) -> Option<()>
+    requires { vec_len behaviour.old.uses < 256 }
+{
+    let used = named(Kind::Signal, number, "ping")?;
+    match behaviour.add_use(used) {
+        Ok(()) => Some(()),
+        Err((same, _)) => behaviour.add_use(same).ok(),
+    }
+}
+
+/// Adds uses as long as there may be more, each with its place as its number. It answers how many there are, and whether
+/// they stand in that order.
+fn fill_uses(alloc: Global) -> Option<(usize, bool)> {
+    let run: Run = Box::new(alloc, |frame: &Frame| begin(frame)).ok()?;
+    let mut behaviour = behaviour_of(alloc, Transition::store(0, start_offer(1), run));
+    for number in 0..300 {
+        if behaviour.uses.len() < MOST {
+            add_use(&mut behaviour, number)?;
+        }
+    }
+    let uses = behaviour.uses.as_slice();
+    let mut numbered = uses.iter().enumerate();
+    Some((
+        uses.len(),
+        numbered.all(|(place, used)| used.number as usize == place),
+    ))
+}
+
+/// Adds the row. Where memory is refused, what was handed back is added once more.
+fn add_row(behaviour: &mut Behaviour<Anything>, row: Row<Anything>) -> Option<()>
+    requires room { vec_len behaviour.old.rows < 256 }
+    requires row { IsAllowed (λ _ _ _. Unit {0}) row.transition }
+    requires rest { IsAllowedBehaviour (λ _ _ _. Unit {0}) behaviour.old }
+    ensures { IsAllowedBehaviour (λ _ _ _. Unit {0}) behaviour.new }
+{
+    match behaviour.add_row(row) {
+        Ok(()) => Some(()),
+        Err((same, _)) => behaviour.add_row(same).ok(),
+    }
+}
+
+/// Adds rows as long as there may be more, each for the signal with its place as its number. It answers how many there are,
+/// and whether they stand in that order.
+fn fill_rows(alloc: Global) -> Option<(usize, bool)> {
+    let run: Run = Box::new(alloc, |frame: &Frame| begin(frame)).ok()?;
+    let mut behaviour = behaviour_of(alloc, Transition::store(0, start_offer(1), run));
+    for number in 0..300 {
+        if behaviour.rows.len() < MOST {
+            let run: Run = Box::new(alloc, |frame: &Frame| begin(frame)).ok()?;
+            let row = Row {
+                state: StateId(0),
+                signal: SignalId(number),
+                transition: Transition::store(1, start_offer(1), run),
+            };
+            add_row(&mut behaviour, row)?;
+        }
+    }
+    let rows = behaviour.rows.as_slice();
+    let mut numbered = rows.iter().enumerate();
+    Some((
+        rows.len(),
+        numbered.all(|(place, row)| row.signal.0 as usize == place),
+    ))
+}
+
+#[test]
+fn a_behaviour_is_filled_with_uses(rt: HostRuntime) {
+    assert_eq!(rt; fill_uses(rt.alloc()), Some((MOST, true)));
+}
+
+#[test]
+fn a_behaviour_is_filled_with_rows(rt: HostRuntime) {
+    assert_eq!(rt; fill_rows(rt.alloc()), Some((MOST, true)));
+}
