@@ -1,0 +1,3 @@
+pub mod Merely
+pub mod Ends
+pub mod Examples

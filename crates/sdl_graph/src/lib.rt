@@ -1,0 +1,16 @@
+//! Process graphs: the transitions of a system's agents as two plain functions of a number, with what they are written in.
+#![tactic(auto)]
+
+pub mod graph;
+mod limits;
+pub mod offers;
+pub mod reading;
+pub mod steps;
+
+pub use graph::{Graph, answer};
+pub use offers::{OfferBuilder, no_offer};
+pub use reading::{
+    boolean_parameter, boolean_variable, integer_parameter, integer_variable, pid_parameter,
+    pid_variable,
+};
+pub use steps::{StepBuilder, no_step};
