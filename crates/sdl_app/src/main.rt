@@ -1,16 +1,26 @@
 //! `sdlrun`: systems of communicating agents with the structure and signalling of SDL-2010.
 #![tactic(auto)]
 
+mod streams;
+
+use crate::streams::{Input, Output};
 use sdl_program::program;
+use std::cell::RefCell;
 use std::io::BufWriter;
 use std::process::ExitCode;
 
 fn main(rt: HostRuntime) -> ExitCode {
     let mut errors = rt.stderr();
-    let Ok(mut output) = BufWriter::new(rt.alloc(), rt.stdout()) else {
+    let Ok(output) = BufWriter::new(rt.alloc(), rt.stdout()) else {
         program::without_memory(&mut errors);
         return ExitCode::from(program::REFUSED);
     };
-    let status = program::run(&rt, rt.alloc(), &mut rt.stdin(), &mut output, &mut errors);
+    let buffer = RefCell::new(output);
+    let mut input = Input {
+        reader: rt.stdin(),
+        buffer: &buffer,
+    };
+    let mut output = Output { buffer: &buffer };
+    let status = program::run(&rt, rt.alloc(), &mut input, &mut output, &mut errors);
     ExitCode::from(status)
 }
