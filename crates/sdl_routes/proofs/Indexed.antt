@@ -50,8 +50,8 @@ opened rows n p g es e stands empty new are =
     }
 
 -- no entry at first
-pub no_entries : (rows : List TableRow) (p g : ℕ) → AreEntries rows 0 p g []
-no_entries rows p g = record {
+pub no_entries : (table : List TableRow) (p g : ℕ) → AreEntries table 0 p g []
+no_entries table p g = record {
   each = λ k d lt. absurd (omega arith);
   all = λ k row w lt at fits there. absurd (omega arith);
 }
