@@ -19,7 +19,7 @@ use Rattle.sdl_routes.specs.Routes.{EachOnce}
 use Rattle.sdl_behaviour.specs.declared.step.Frame.{Frame}
 use Rattle.sdl_behaviour.specs.declared.step.Step.{Step}
 use Rattle.sdl_instances.specs.declared.process_set.ProcessSet.{ProcessSet}
-use Rattle.sdl_instances.specs.declared.event.Event.{Event}
+use Rattle.sdl_log.specs.declared.event.Event.{Event}
 use Rattle.sdl_instances.specs.Machine.{State}
 use Rattle.sdl_instances.specs.Run.{Leads as LeadsTo, IsRun, done_in, sent_by, sent, arrived, all_done, initial}
 use Rattle.sdl_instances.specs.Core.{numbers_of, sets_of}

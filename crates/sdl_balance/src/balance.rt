@@ -1,7 +1,7 @@
 //! What the ledger of every run says. These functions do nothing: they carry the proofs.
 ghost use Rattle.std.specs.Prelude.{◌≡◌, ℕ, ◌+◌, ◌≤◌, List, [], ◌∷◌, Some, length, sum_by};
 ghost use Rattle.sdl_signal.specs.declared.ids.BlockId.{BlockId};
-ghost use Rattle.sdl_instances.specs.declared.event.Event.{Event};
+ghost use Rattle.sdl_log.specs.declared.event.Event.{Event};
 ghost use Rattle.sdl_instances.specs.Machine.{State, System};
 ghost use Rattle.sdl_instances.specs.Run.{IsRun, waiting};
 ghost use Rattle.sdl_ledger.specs.declared.ledger.Ledger.{Ledger};

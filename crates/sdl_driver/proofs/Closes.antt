@@ -1,10 +1,10 @@
 -- What a closing shows is what the driver left.
-use Rattle.std.proofs.Common.{ℕ, ◌<◌, ◌≤◌, Bool, true, false, cond, List, [], ◌∷◌, ◌++◌, length, map, Option, Some, None, Vec, MatchOption, MatchBool, ◌≡◌, ◌≢◌, refl, ap, sym, ◌∙◌, subst, arith, append_assoc}
+use Rattle.std.proofs.Common.{ℕ, ◌<◌, ◌≤◌, Bool, true, false, cond, List, [], ◌∷◌, ◌++◌, length, map, Option, Some, None, MatchOption, MatchBool, ◌≡◌, ◌≢◌, refl, ap, sym, ◌∙◌, subst, arith, append_assoc}
 use Rattle.sdl_signal.specs.declared.values.Item.{Item}
 use Rattle.sdl_routes.specs.declared.route.Station.{Station}
 use Rattle.sdl_behaviour.specs.declared.step.Frame.{Frame}
 use Rattle.sdl_behaviour.specs.declared.step.Step.{Step}
-use Rattle.sdl_instances.specs.declared.event.Event.{Event}
+use Rattle.sdl_log.specs.declared.event.Event.{Event}
 use Rattle.sdl_queue.specs.declared.rest.Rest.{Rest}
 use Rattle.sdl_forward.specs.Boards.{lists_of}
 use Rattle.sdl_hand.specs.declared.hand.Hand.{Hand}
@@ -16,7 +16,7 @@ use Rattle.sdl_outcome.specs.declared.environment_output.EnvOut.{EnvOut}
 use Rattle.sdl_signal.specs.declared.ends.InputEnd.{InputEnd}
 use Rattle.sdl_signal.specs.declared.ends.InputEnd.TheVariants as input
 use Rattle.sdl_outcome.specs.EnvironmentWork.{EnvWorking, OwnEnd, input_end}
-use Rattle.sdl_outcome.specs.Plan.{Plan, blocks_in, workers_of}
+use Rattle.sdl_outcome.specs.Plan.{Plan, workers_of}
 use Rattle.sdl_outcome.specs.Outcome.{WorkerHand, Outcome}
 use Rattle.sdl_ledger.specs.declared.ledger.Ledger.{Ledger}
 use Rattle.sdl_ledger.specs.Counts.{CountsFit, IsLedgerOf, waiting_in}
@@ -30,7 +30,7 @@ use Rattle.sdl_transition.specs.declared.block_parts.BlockParts.{BlockParts}
 use Rattle.sdl_transition.specs.Bound.{AreOneSystem}
 use Rattle.sdl_driver.specs.declared.closing.Room.{Room}
 use Rattle.sdl_driver.specs.Closings.{HasRoom, StopsByMemory, NamesRefused, end_by}
-use Rattle.sdl_outcome.specs.Lists.{items_in, held_in}
+use Rattle.sdl_outcome.specs.Lists.{held_in}
 use Rattle.sdl_driver.proofs.Drives.{map_map}
 use Rattle.sdl_balance.proofs.Balanced.{counts_fit}
 use Rattle.sdl_driver.proofs.Finish.{ended, traced, limited}
@@ -41,7 +41,7 @@ unfoldable outcome : List (List Event) → List EnvOut → List Item → List Wo
 outcome logs put received hands rests = record { logs = logs; env_put = put; env_received = received; hands = hands; rests = rests }
 
 -- what the workers leave is what the site shows
-module _ {S I : Type 0} {F : I → Type 0} {g : _} (d : Driver S I F g)
+module _ {S K I : Type 0} {F : I → Type 0} {g : _} (d : Driver S K I F g)
     (logs : List (List Event)) (put : List EnvOut) (received : List Item) (hands : List WorkerHand) (rests : List (Station × Rest)) (logs_are : logs ≡ map (λ w. (worker_of w).core.log) d.blocks.items)
     (put_are : put ≡ d.environment.put) (received_are : received ≡ d.environment.received)
     (hands_are : hands ≡ (map (λ w. block_hand (worker_of w)) d.blocks.items ++ env_hand d.environment ∷ []) ++ map forwarder_hand d.forwarders.items) (rests_are : lists_of rests ≡ d.board) where
@@ -64,7 +64,7 @@ module _ {S I : Type 0} {F : I → Type 0} {g : _} (d : Driver S I F g)
       ∙ ap (λ (x : List (Station × List Item)). outcome o.logs o.env_put o.env_received o.hands x) rests_are)))
 
 -- where the driver stops
-module _ {S I : Type 0} {F : I → Type 0} {g : _} (may : ℕ → Frame → Step → Type 0) (d : Driver S I F g) (driving : IsDriving may d) where
+module _ {S K I : Type 0} {F : I → Type 0} {g : _} (may : ℕ → Frame → Step → Type 0) (d : Driver S K I F g) (driving : IsDriving may d) where
   -- the counts are small
   pub fits : CountsFit (outcome_of (site_of d))
   fits =
@@ -122,17 +122,17 @@ pub names_refused : (refused spent : Option ℕ) (quiet : Bool) (end : RunEnd) �
 names_refused refused spent quiet end e = subst (λ (x : RunEnd). NamesRefused x refused) (sym e) (names_by refused spent quiet)
 
 -- what slices of its lists show is the same
-unfoldable shown : {Z : Type 0} → List (Vec Event Z) → List EnvOut → List Item → List Hand → List (Station × Rest) → Outcome
-shown logs put received hands rests = record { logs = map items_in logs; env_put = put; env_received = received; hands = map held_in hands; rests = lists_of rests }
+unfoldable shown : {K : Type 0} → (K → List Event) → List K → List EnvOut → List Item → List Hand → List (Station × Rest) → Outcome
+shown events logs put received hands rests = record { logs = map events logs; env_put = put; env_received = received; hands = map held_in hands; rests = lists_of rests }
 
-pub same_shown : {Z : Type 0} (logs seen : List (Vec Event Z)) (put outs : List EnvOut) (received came : List Item) (hands held : List Hand) (rests left : List (Station × Rest))
+pub same_shown : {K : Type 0} (events : K → List Event) (logs seen : List K) (put outs : List EnvOut) (received came : List Item) (hands held : List Hand) (rests left : List (Station × Rest))
     → seen ≡ logs → outs ≡ put → came ≡ received → held ≡ hands → left ≡ rests
-    → ◌≡◌ {A = Outcome} (record { logs = map items_in seen; env_put = outs; env_received = came; hands = map held_in held; rests = lists_of left })
-    (record { logs = map items_in logs; env_put = put; env_received = received; hands = map held_in hands; rests = lists_of rests })
+    → ◌≡◌ {A = Outcome} (record { logs = map events seen; env_put = outs; env_received = came; hands = map held_in held; rests = lists_of left })
+    (record { logs = map events logs; env_put = put; env_received = received; hands = map held_in hands; rests = lists_of rests })
 unfolding shown
-same_shown logs seen put outs received came hands held rests left a b c d e =
-    ap (λ x. shown x outs came held left) a
-    ∙ (ap (λ x. shown logs x came held left) b ∙ (ap (λ x. shown logs put x held left) c ∙ (ap (λ x. shown logs put received x left) d ∙ ap (λ x. shown logs put received hands x) e)))
+same_shown events logs seen put outs received came hands held rests left a b c d e =
+    ap (λ x. shown events x outs came held left) a
+    ∙ (ap (λ x. shown events logs x came held left) b ∙ (ap (λ x. shown events logs put x held left) c ∙ (ap (λ x. shown events logs put received x left) d ∙ ap (λ x. shown events logs put received hands x) e)))
 
 -- lists filled one after the other
 pub filled : {X : Type 0} (before after more : List X) → before ≡ [] → after ≡ before ++ more → after ≡ more
@@ -145,5 +145,6 @@ module _ {S I : Type 0} {F : I → Type 0} {g : _} where
   pub system_kept : (may : ℕ → Frame → Step → Type 0) (s : Structure) (routes : List TableRow) (ps qs : List (BlockParts S I F g)) → qs ≡ ps → AreOneSystem may s routes ps → AreOneSystem may s routes qs
   system_kept may s routes ps qs e h = subst (AreOneSystem may s routes) (sym e) h
 
-  pub less_room : (r : Room S I F g) (a b c : ℕ) → c ≤ b → HasRoom a b r → HasRoom a c r
+module _ {S K I : Type 0} {F : I → Type 0} {g : _} where
+  pub less_room : (r : Room S K I F g) (a b c : ℕ) → c ≤ b → HasRoom a b r → HasRoom a c r
   less_room r a b c less h = record { parts = h.parts; logs = h.logs; hands = let k = h.hands in omega arith }

@@ -175,8 +175,8 @@ get_map f [] k d = refl
 get_map f (x ∷ xs) zero d = refl
 get_map f (x ∷ xs) (suc k) d = get_map f xs k d
 
-module _ {S I : Type 0} {F : I → Type 0} {g : _} where
-  pub same_plan : (old new : Driver S I F g) → IsSameSystem old new → plan_of new ≡ plan_of old
+module _ {S K I : Type 0} {F : I → Type 0} {g : _} where
+  pub same_plan : (old new : Driver S K I F g) → IsSameSystem old new → plan_of new ≡ plan_of old
   unfolding plan_by
   same_plan old new same =
       let rules : map (λ w. block_rules (behaviours_of w)) new.blocks.items ≡ map (λ w. block_rules (behaviours_of w)) old.blocks.items =
@@ -185,14 +185,14 @@ module _ {S I : Type 0} {F : I → Type 0} {g : _} where
       ∙ (ap (λ (x : List TableRow). plan_by old.checked x (plan_of new).rules new.budget) same.routes
       ∙ (ap (λ (x : List (List Rules)). plan_by old.checked old.routes x new.budget) rules ∙ ap (λ (x : ℕ). plan_by old.checked old.routes (plan_of old).rules x) same.budget))
 
-  fire_same : (may : ℕ → Frame → Step → Type 0) (old new : List (BlockWorker S I F g)) → map behaviours_of new ≡ map behaviours_of old → All (λ w. CanFire may (behaviours_of w)) old → All (λ w. CanFire may (behaviours_of w)) new
+  fire_same : (may : ℕ → Frame → Step → Type 0) (old new : List (BlockWorker S K I F g)) → map behaviours_of new ≡ map behaviours_of old → All (λ w. CanFire may (behaviours_of w)) old → All (λ w. CanFire may (behaviours_of w)) new
   fire_same may old new same fire k d less =
       let count : length new ≡ length old = sym (length-map new behaviours_of) ∙ (ap length same ∙ length-map old behaviours_of) in
       let at : behaviours_of (get_or old k d) ≡ behaviours_of (get_or new k d) =
       sym (get_map behaviours_of old k d) ∙ (ap (λ ps. get_or ps k (behaviours_of d)) (sym same) ∙ get_map behaviours_of new k d) in
       subst (CanFire may) at (fire k d (omega arith))
 
-  module _ (may : ℕ → Frame → Step → Type 0) (old new : Driver S I F g) (driving : IsDriving may old) (same : IsSameSystem old new) where
+  module _ (may : ℕ → Frame → Step → Type 0) (old new : Driver S K I F g) (driving : IsDriving may old) (same : IsSameSystem old new) where
     drives : IsAtWork may (plan_of old) (site_of new) → IsDriving may new
     drives work =
         record {
@@ -211,7 +211,7 @@ module _ {S I : Type 0} {F : I → Type 0} {g : _} where
     environment_drives answer steps = drives (environment_steps may (plan_of old) driving.plan answer (site_of old) (site_of new) driving.work steps)
 
   -- and one step follows another
-  module _ (first now next : Driver S I F g) (same : IsSameSystem first now) (x y z : Option (List ℕ)) where
+  module _ (first now next : Driver S K I F g) (same : IsSameSystem first now) (x y z : Option (List ℕ)) where
     pub reads_on : ReadsOver (plan_of first) first.environment x now.environment y → ReadsOver (plan_of now) now.environment y next.environment z → ReadsOver (plan_of first) first.environment x next.environment z
     reads_on before after = λ start h. (subst (λ (p : Plan). ReadsOver p now.environment y next.environment z) (same_plan first now same) after) start (before start h)
 

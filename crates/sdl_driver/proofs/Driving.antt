@@ -39,7 +39,7 @@ system_is x y a b c d =
     ∙ (ap (λ (z : List ProcessSet). system y.signals z x.routes x.rules) b
     ∙ (ap (λ (z : List TableRow). system y.signals y.sets z x.rules) c ∙ ap (λ (z : List Rules). system y.signals y.sets y.routes z) d))
 
-module _ {S I : Type 0} {F : I → Type 0} {g : _} (may : ℕ → Frame → Step → Type 0) (d : Driver S I F g) (driving : IsDriving may d) (n : ℕ) (w : BlockWorker S I F g)
+module _ {S K I : Type 0} {F : I → Type 0} {g : _} (may : ℕ → Frame → Step → Type 0) (d : Driver S K I F g) (driving : IsDriving may d) (n : ℕ) (w : BlockWorker S K I F g)
     (within : n < length d.blocks.items) (found : w ≡ get_or d.blocks.items n w) where
   in_list : slice_get d.blocks.items n ≡ Some w
   in_list = slice_get_read d.blocks.items (length d.blocks.items) n w refl within found
@@ -67,7 +67,7 @@ module _ {S I : Type 0} {F : I → Type 0} {g : _} (may : ℕ → Frame → Step
       (All-from_recursion (MayTravel (plan_of d)) (worker_of w).outgoing
       (subst (AllByRecursion (MayTravel (plan_of d))) (of_block_was (λ (k : Working). k.outgoing) d.environment.outgoing (map worker_of d.blocks.items) n (worker_of w) (worker_of w) at_place) (driving.work.outgoing_legal (Block (block n)) tt)))
 
-  module _ (v : BlockWorker S I F g) (answer : Stepped) (board : List (Station × List Item)) where
+  module _ (v : BlockWorker S K I F g) (answer : Stepped) (board : List (Station × List Item)) where
     pub block_step : StepsAs may (system_around w d.routes) (worker_of w) d.board answer (worker_of v) board
         → BlockSteps may (plan_of d) n answer (site_of d) (record { blocks = map worker_of (slice_set d.blocks.items n v); environment = d.environment; forwarders = d.forwarders.items; board = board })
     block_step step =

@@ -5,7 +5,7 @@ use Rattle.std.proofs.lemmas.Bool.{cases_eq, cases_lt, false≢true}
 use Rattle.std.proofs.lemmas.Option.{same_Some, slice_get_within}
 use Rattle.sdl_routes.specs.declared.route.Station.TheVariants.{Line}
 use Rattle.sdl_forward.specs.Boards.{waiting, IsBoardOf}
-use Rattle.sdl_forward.specs.Forwards.{Forwarding, Forwards}
+use Rattle.sdl_forward.specs.Forwards.{Forwarding}
 use Rattle.sdl_forward.specs.declared.forwarder.Forwarded.{Forwarded}
 use Rattle.sdl_forward.specs.declared.forwarder.Forwarded.TheVariants as forwarded
 use Rattle.sdl_behaviour.specs.declared.step.Frame.{Frame}
@@ -14,8 +14,7 @@ use Rattle.sdl_hand.specs.declared.hand.Stepped.{Stepped}
 use Rattle.sdl_hand.specs.declared.hand.Stepped.TheVariants.{Idle, Memory}
 use Rattle.sdl_outcome.specs.Plan.{Plan, blocks_in}
 use Rattle.sdl_outcome.proofs.Lists.{get_set, get_set_other, set_same}
-use Rattle.sdl_order.specs.Driver.{Site, IsAtWork, BlockSteps, EnvironmentSteps, ForwarderSteps}
-use Rattle.sdl_order.specs.Measure.{work_left}
+use Rattle.sdl_order.specs.Driver.{Site, IsAtWork, ForwarderSteps}
 use Rattle.sdl_driver.specs.declared.driver.Driver.{Driver}
 use Rattle.sdl_driver.specs.Drivers.{site_of, plan_of, IsSameSystem, AllFree, IsIdleAt, HasGone, stepped_by}
 use Rattle.sdl_driver.specs.Runs.{numbers_below, WorkerSteps, StepsThrough}
@@ -122,7 +121,7 @@ passed_over may plan site work free first from next is within empty n lower belo
     )
 
 -- a step of a round, and then workers that are passed over
-module _ {S I : Type 0} {F : I → Type 0} {g : _} (may : ℕ → Frame → Step → Type 0) (start next : Driver S I F g) (same : IsSameSystem start next) (a b : ℕ) (from : a ≤ b)
+module _ {S K I : Type 0} {F : I → Type 0} {g : _} (may : ℕ → Frame → Step → Type 0) (start next : Driver S K I F g) (same : IsSameSystem start next) (a b : ℕ) (from : a ≤ b)
     (each : (n : ℕ) → a ≤ n → n < b → WorkerSteps may (plan_of next) n Idle (site_of next) (site_of next) × IsIdleAt (site_of next) n) where
   pub steps_past : StepsThrough may (plan_of start) (numbers_below a) None (site_of start) (site_of next) → StepsThrough may (plan_of start) (numbers_below b) None (site_of start) (site_of next)
   steps_past = pass_steps may (plan_of start) (site_of start) (site_of next) a b from (λ n lower below. worker_by may start next same n Idle (site_of next) (site_of next) (each n lower below).0)

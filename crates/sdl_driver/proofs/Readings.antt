@@ -1,5 +1,5 @@
 -- What was read and written so far, at the start and at the end of a run.
-use Rattle.std.proofs.Common.{ℕ, List, [], ◌++◌, Option, Some, None, ◌≡◌, ◌≢◌, ap, sym, ◌∙◌, subst}
+use Rattle.std.proofs.Common.{ℕ, List, [], Option, Some, None, ◌≡◌, ◌≢◌, ap, sym, ◌∙◌, subst}
 use Rattle.std.proofs.lemmas.List.{append-nil}
 use Rattle.std.specs.Io.KnownBytes.{Appends}
 use Rattle.sdl_signal.specs.declared.ends.InputEnd.{InputEnd}

@@ -21,8 +21,8 @@ map_push f (y ∷ ys) x = ap (λ zs. f y ∷ zs) (map_push f ys x)
 pub fewer_by_one : {X : Type 0} (x : X) (rest fewer : List X) → rest ≡ x ∷ fewer → length rest ≡ length fewer + 1
 fewer_by_one x rest fewer e = let a = ap length e in omega arith
 
-module _ {S I : Type 0} {F : I → Type 0} {g : _} where
-  pub room_as : (r : Room S I F g) (a b c d : ℕ) → a ≡ c → b ≡ d → HasRoom a b r → HasRoom c d r
+module _ {S K I : Type 0} {F : I → Type 0} {g : _} where
+  pub room_as : (r : Room S K I F g) (a b c d : ℕ) → a ≡ c → b ≡ d → HasRoom a b r → HasRoom c d r
   room_as r a b c d e f h = subst (λ (n : ℕ). HasRoom c n r) f (subst (λ (n : ℕ). HasRoom n b r) e h)
 
 unfoldable pub hand : Option Item → List Item → WorkerHand

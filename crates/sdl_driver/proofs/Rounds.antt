@@ -58,14 +58,14 @@ gone_all may plan start now work gone =
       outlet = env.2;
     }
 
-module _ {S I : Type 0} {F : I → Type 0} {g : _} where
-  pub same_itself : (d : Driver S I F g) → IsSameSystem d d
+module _ {S K I : Type 0} {F : I → Type 0} {g : _} where
+  pub same_itself : (d : Driver S K I F g) → IsSameSystem d d
   same_itself d = record { checked = refl; routes = refl; budget = refl; behaviours = refl }
 
-  pub same_still : (a b c : Driver S I F g) → IsSameSystem a b → IsSameSystem b c → IsSameSystem a c
+  pub same_still : (a b c : Driver S K I F g) → IsSameSystem a b → IsSameSystem b c → IsSameSystem a c
   same_still a b c x y = record { checked = y.checked ∙ x.checked; routes = y.routes ∙ x.routes; budget = y.budget ∙ x.budget; behaviours = y.behaviours ∙ x.behaviours }
 
-  module _ (start now next : Driver S I F g) (same : IsSameSystem start now) (n : ℕ) (answer : Stepped) (did : Bool) (gone : HasGone (plan_of start) (site_of start) (site_of now) did n)
+  module _ (start now next : Driver S K I F g) (same : IsSameSystem start now) (n : ℕ) (answer : Stepped) (did : Bool) (gone : HasGone (plan_of start) (site_of start) (site_of now) did n)
       (step : StepAnswers (plan_of now) n answer (site_of now) (site_of next)) where
     answered : (expected : Stepped) → answer ≡ expected → StepAnswers (plan_of start) n expected (site_of now) (site_of next)
     answered expected e = subst (λ (p : Plan). StepAnswers p n expected (site_of now) (site_of next)) (same_plan start now same) (subst (λ (a : Stepped). StepAnswers (plan_of now) n a (site_of now) (site_of next)) e step)
@@ -76,12 +76,12 @@ module _ {S I : Type 0} {F : I → Type 0} {g : _} where
     pub on_idle : answer ≡ stepped.Idle → (d : Bool) → d ≡ did → HasGone (plan_of start) (site_of start) (site_of next) d (n + 1)
     on_idle e d is = subst (λ (b : Bool). HasGone (plan_of start) (site_of start) (site_of next) b (n + 1)) (sym is) (gone_idle (plan_of start) (site_of start) (site_of now) (site_of next) n did gone (answered stepped.Idle e))
 
-  pub at_end : (may : ℕ → Frame → Step → Type 0) (start now : Driver S I F g) (did : Bool) (n : ℕ) → IsDriving may now → IsSameSystem start now
+  pub at_end : (may : ℕ → Frame → Step → Type 0) (start now : Driver S K I F g) (did : Bool) (n : ℕ) → IsDriving may now → IsSameSystem start now
       → HasGone (plan_of start) (site_of start) (site_of now) did n → did ≡ false → n ≡ length (workers_of (plan_of start)) → IsIdle (site_of now)
   at_end may start now did n driving same gone none all =
       gone_all may (plan_of start) (site_of start) (site_of now) (subst (λ (p : Plan). IsAtWork may p (site_of now)) (same_plan start now same) driving.work)
       (subst (λ (k : ℕ). HasGone (plan_of start) (site_of start) (site_of now) false k) all (subst (λ (b : Bool). HasGone (plan_of start) (site_of start) (site_of now) b n) none gone))
 
   -- less of what is left, in terms of the first plan
-  pub less_by : (first now next : Driver S I F g) → IsSameSystem first now → work_left (plan_of now) (site_of next) < work_left (plan_of now) (site_of now) → work_left (plan_of first) (site_of next) < work_left (plan_of first) (site_of now)
+  pub less_by : (first now next : Driver S K I F g) → IsSameSystem first now → work_left (plan_of now) (site_of next) < work_left (plan_of now) (site_of now) → work_left (plan_of first) (site_of next) < work_left (plan_of first) (site_of now)
   less_by first now next same less = subst (λ (p : Plan). work_left p (site_of next) < work_left p (site_of now)) (same_plan first now same) less

@@ -102,7 +102,7 @@ module _ (may : ℕ → Frame → Step → Type 0) (plan : Plan) where
       record { rounds = rounds; steps = through_then (scheduled plan schedule) (rounds_of (length (workers_of plan)) rounds) refused a b c before after; idle = idle }
 
 -- in terms of the first plan
-module _ {S I : Type 0} {F : I → Type 0} {g : _} (may : ℕ → Frame → Step → Type 0) (first now : Driver S I F g) (same : IsSameSystem first now) where
+module _ {S K I : Type 0} {F : I → Type 0} {g : _} (may : ℕ → Frame → Step → Type 0) (first now : Driver S K I F g) (same : IsSameSystem first now) where
   pub worker_by : (n : ℕ) (answer : Stepped) (old new : Site) → WorkerSteps may (plan_of now) n answer old new → WorkerSteps may (plan_of first) n answer old new
   worker_by n answer old new h = subst (λ (p : Plan). WorkerSteps may p n answer old new) (same_plan first now same) h
 
@@ -113,7 +113,7 @@ module _ {S I : Type 0} {F : I → Type 0} {g : _} (may : ℕ → Frame → Step
   pub settles_by : (refused : Option ℕ) (old new : Site) → Settles may (plan_of now) refused old new → Settles may (plan_of first) refused old new
   settles_by refused old new h = subst (λ (p : Plan). Settles may p refused old new) (same_plan first now same) h
 
-module _ {S I : Type 0} {F : I → Type 0} {g : _} (may : ℕ → Frame → Step → Type 0) (first now next : Driver S I F g) (same : IsSameSystem first now) where
+module _ {S K I : Type 0} {F : I → Type 0} {g : _} (may : ℕ → Frame → Step → Type 0) (first now next : Driver S K I F g) (same : IsSameSystem first now) where
   -- one round more
   pub round_after : (is answer : Round) → answer ≡ is → Settles may (plan_of first) None (site_of first) (site_of now)
       → StepsThrough may (plan_of now) (numbers_below (length (workers_of (plan_of now)))) (refused_in answer) (site_of now) (site_of next) → Settles may (plan_of first) (refused_in is) (site_of first) (site_of next)

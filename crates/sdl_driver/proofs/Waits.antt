@@ -1,5 +1,5 @@
 -- What waits in the ports of all blocks of a driver.
-use Rattle.std.proofs.Common.{ℕ, suc, ◌+◌, ◌<◌, ◌≤◌, List, length, map, drop, get_or, ◌≡◌, ap, sym, ◌∙◌, subst, arith, add-one, drop-cons, sum_by}
+use Rattle.std.proofs.Common.{ℕ, suc, ◌+◌, ◌<◌, ◌≤◌, List, length, drop, get_or, ◌≡◌, ap, sym, ◌∙◌, subst, arith, add-one, drop-cons, sum_by}
 use Rattle.std.proofs.lemmas.List.{drop_all}
 use Rattle.std.proofs.lemmas.List.Sums.{sum_by-cons}
 use Rattle.sdl_behaviour.specs.declared.step.Frame.{Frame}
@@ -19,7 +19,7 @@ use Rattle.sdl_balance.proofs.Balanced.{few_waits}
 use Rattle.sdl_driver.proofs.Finish.{traced, limited}
 
 -- what waits at a block
-abbrev pub at_block : {S I : Type 0} {F : I → Type 0} {g : _} → BlockWorker S I F g → ℕ
+abbrev pub at_block : {S K I : Type 0} {F : I → Type 0} {g : _} → BlockWorker S K I F g → ℕ
 at_block w = waiting (worker_of w).core.state.living
 
 -- of a list from a place on, the element there and those behind it
@@ -36,7 +36,7 @@ one_waits f items slice same k x less is =
 pub none_waits : {X : Type 0} (f : X → ℕ) (items slice : List X) → slice ≡ items → (k : ℕ) → length slice ≤ k → sum_by f (drop k items) ≡ 0
 none_waits f items slice same k past = ap (sum_by f) (drop_all k items (subst (λ xs. length xs ≤ k) same past))
 
-module _ {S I : Type 0} {F : I → Type 0} {g : _} (d : Driver S I F g) where
+module _ {S K I : Type 0} {F : I → Type 0} {g : _} (d : Driver S K I F g) where
   pub all_wait : waiting_in (finals_of (site_of d)) ≡ sum_by at_block d.blocks.items
   all_wait =
       ap (λ (ss : List State). sum_by (λ (s : State). waiting s.living) ss) (map_map (λ (w : Working). w.core.state) worker_of d.blocks.items)

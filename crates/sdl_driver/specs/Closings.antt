@@ -17,7 +17,8 @@ use Rattle.sdl_parts.specs.Structure.{lexicon_of}
 use Rattle.sdl_outcome.specs.EnvironmentWork.{HasReadAll, HasWritten, received_text}
 use Rattle.sdl_outcome.specs.Plan.{Plan, blocks_in}
 use Rattle.sdl_outcome.specs.Outcome.{Outcome}
-use Rattle.sdl_outcome.specs.Lists.{items_in, held_in}
+use Rattle.sdl_log.specs.declared.event.Event.{Event}
+use Rattle.sdl_outcome.specs.Lists.{held_in}
 use Rattle.sdl_behaviour.specs.declared.step.Frame.{Frame}
 use Rattle.sdl_behaviour.specs.declared.step.Step.{Step}
 use Rattle.sdl_order.specs.Driver.{Site, IsFresh, outcome_of}
@@ -27,11 +28,11 @@ use Rattle.sdl_driver.specs.Runs.{Runs}
 abbrev pub plan_of_bound : {S I : Type 0} {F : I → Type 0} {g : _} → Bound S I F g → ℕ → Plan
 plan_of_bound b budget = record { structure = structure_of b; routes = routes_of b; rules = map block_rules (blocks_of b); budget = budget }
 
--- what the workers of a run leave
-abbrev pub outcome_left : {S I : Type 0} {F : I → Type 0} {g : _} → Left S I F g → Outcome
-outcome_left l =
+-- what the workers of a run leave, whose logs have these events
+abbrev pub outcome_left : {S K I : Type 0} {F : I → Type 0} {g : _} → (K → List Event) → Left S K I F g → Outcome
+outcome_left events l =
     record {
-      logs = map items_in l.logs.items;
+      logs = map events l.logs.items;
       env_put = l.env_put.items;
       env_received = l.env_received.items;
       hands = map held_in l.hands.items;
@@ -39,9 +40,9 @@ outcome_left l =
     }
 
 -- what a closing shows of its run: what the workers left
-abbrev pub outcome_in : {S I : Type 0} {F : I → Type 0} {g : _} → Closing S I F g → Outcome
-outcome_in c =
-    outcome_left (record {
+abbrev pub outcome_in : {S K I : Type 0} {F : I → Type 0} {g : _} → (K → List Event) → Closing S K I F g → Outcome
+outcome_in events c =
+    outcome_left events (record {
       bound = c.bound;
       logs = c.logs;
       env_put = c.env_put;
@@ -53,10 +54,10 @@ outcome_in c =
     })
 
 -- in a closing, all that the environment read, and all that it wrote
-abbrev pub HasReadIn : {S I : Type 0} {F : I → Type 0} {g : _} → Plan → Option (List ℕ) → Option (List ℕ) → Closing S I F g → Type 0
+abbrev pub HasReadIn : {S K I : Type 0} {F : I → Type 0} {g : _} → Plan → Option (List ℕ) → Option (List ℕ) → Closing S K I F g → Type 0
 HasReadIn plan start now c = HasReadAll plan.structure plan.routes (blocks_in plan) start now c.env_put.items c.input
 
-abbrev pub HasWrittenIn : {S I : Type 0} {F : I → Type 0} {g : _} → Plan → Option (List ℕ) → Option (List ℕ) → Closing S I F g → Type 0
+abbrev pub HasWrittenIn : {S K I : Type 0} {F : I → Type 0} {g : _} → Plan → Option (List ℕ) → Option (List ℕ) → Closing S K I F g → Type 0
 HasWrittenIn plan start now c = HasWritten start now (received_text (lexicon_of plan.structure) plan.routes c.env_received.items) c.output
 
 -- the reading stopped before its end only where memory was refused to a worker
@@ -68,13 +69,13 @@ abbrev pub NamesRefused : RunEnd → Option ℕ → Type 0
 NamesRefused end refused = (w : ℕ) → (end ≡ run_end.Memory w) ↔ (refused ≡ Some w)
 
 -- The closing is what a run under the schedule leaves: from a start at which nothing has happened, where it stops.
-pub record IsRunOf {S I : Type 0} {F : I → Type 0} {g : _} (may : ℕ → Frame → Step → Type 0) (plan : Plan) (schedule : List ℕ) (c : Closing S I F g) : Type 0 where
+pub record IsRunOf {S K I : Type 0} {F : I → Type 0} {g : _} (may : ℕ → Frame → Step → Type 0) (plan : Plan) (schedule : List ℕ) (events : K → List Event) (c : Closing S K I F g) : Type 0 where
   pub start : Site
   pub stop : Site
   pub refused : Option ℕ
   pub fresh : IsFresh may plan start
   pub runs : Runs may plan schedule refused start stop
-  pub left : outcome_in c ≡ outcome_of stop
+  pub left : outcome_in events c ≡ outcome_of stop
   pub ends : NamesRefused c.end refused
 
 -- it is the system that was handed in
@@ -82,7 +83,7 @@ abbrev pub IsSameBound : {S I : Type 0} {F : I → Type 0} {g : _} → Bound S I
 IsSameBound old new = (structure_of new ≡ structure_of old) × (routes_of new ≡ routes_of old) × (blocks_of new ≡ blocks_of old)
 
 -- there is room for so many blocks and hands more
-pub record HasRoom {S I : Type 0} {F : I → Type 0} {g : _} (more_blocks more_hands : ℕ) (r : Room S I F g) : Type 0 where
+pub record HasRoom {S K I : Type 0} {F : I → Type 0} {g : _} (more_blocks more_hands : ℕ) (r : Room S K I F g) : Type 0 where
   pub parts : vec_len r.parts + more_blocks ≤ vec_capacity r.parts
   pub logs : vec_len r.logs + more_blocks ≤ vec_capacity r.logs
   pub hands : vec_len r.hands + more_hands ≤ vec_capacity r.hands
@@ -95,5 +96,5 @@ end_by None None quiet = run_end.Quiet
 end_by None (Some b) quiet = if quiet then run_end.Quiet else run_end.Spent (record { 0 = b })
 
 -- the system is the driver's
-abbrev pub IsSystemOf : {S I : Type 0} {F : I → Type 0} {g : _} → Driver S I F g → Bound S I F g → Type 0
+abbrev pub IsSystemOf : {S K I : Type 0} {F : I → Type 0} {g : _} → Driver S K I F g → Bound S I F g → Type 0
 IsSystemOf d b = (structure_of b ≡ d.checked) × (routes_of b ≡ d.routes) × (blocks_of b ≡ map behaviours_of d.blocks.items)

@@ -27,10 +27,10 @@ use Rattle.sdl_outcome.specs.EnvironmentWork.{EnvWorking, HasReadSoFar, HasWritt
 use Rattle.sdl_order.specs.Driver.{Site, IsAtWork, IsIdle}
 use Rattle.sdl_order.specs.Measure.{work_left}
 
-abbrev pub site_of : {S I : Type 0} {F : I → Type 0} {g : _} → Driver S I F g → Site
+abbrev pub site_of : {S K I : Type 0} {F : I → Type 0} {g : _} → Driver S K I F g → Site
 site_of d = record { blocks = map worker_of d.blocks.items; environment = d.environment; forwarders = d.forwarders.items; board = d.board }
 
-abbrev pub plan_of : {S I : Type 0} {F : I → Type 0} {g : _} → Driver S I F g → Plan
+abbrev pub plan_of : {S K I : Type 0} {F : I → Type 0} {g : _} → Driver S K I F g → Plan
 plan_of d =
     record {
       structure = d.checked;
@@ -40,13 +40,13 @@ plan_of d =
     }
 
 -- What holds of a driver between two steps.
-pub record IsDriving {S I : Type 0} {F : I → Type 0} {g : _} (may : ℕ → Frame → Step → Type 0) (d : Driver S I F g) : Type 0 where
+pub record IsDriving {S K I : Type 0} {F : I → Type 0} {g : _} (may : ℕ → Frame → Step → Type 0) (d : Driver S K I F g) : Type 0 where
   pub plan : IsPlan (plan_of d)
   pub work : IsAtWork may (plan_of d) (site_of d)
   pub fire : All (λ w. CanFire may (behaviours_of w)) d.blocks.items
 
 -- a driver of the same system
-pub record IsSameSystem {S I : Type 0} {F : I → Type 0} {g : _} (old new : Driver S I F g) : Type 0 where
+pub record IsSameSystem {S K I : Type 0} {F : I → Type 0} {g : _} (old new : Driver S K I F g) : Type 0 where
   pub checked : new.checked ≡ old.checked
   pub routes : new.routes ≡ old.routes
   pub budget : new.budget ≡ old.budget

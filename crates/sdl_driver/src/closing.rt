@@ -2,15 +2,15 @@
 ghost use Rattle.std.specs.Prelude.{◌≡◌, ℕ, ◌+◌, ◌<◌, ◌++◌, ◌∷◌, [], map, length};
 ghost use Rattle.sdl_block.specs.Workers.{worker_of, behaviours_of};
 ghost use Rattle.sdl_driver.specs.Closings.{HasRoom, end_by};
-ghost use Rattle.sdl_outcome.specs.Lists.{items_in, held_in};
+ghost use Rattle.sdl_outcome.specs.Lists.{held_in};
 ghost use Rattle.sdl_order.specs.Driver.{block_hand, forwarder_hand};
 
 use arrayvec::ArrayVec;
 use sdl_block::BlockWorker;
 use sdl_forward::Forwarder;
 use sdl_hand::Hand;
-use sdl_instances::Event;
 use sdl_ledger::Ledger;
+use sdl_log::{Event, Keeps};
 use sdl_outcome::{EnvOut, RunEnd};
 use sdl_queue::Rest;
 use sdl_routes::Station;
@@ -19,11 +19,11 @@ use sdl_transition::{Agents, BlockParts, Bound};
 
 /// What a run leaves.
 #[derive(Drop)]
-pub struct Closing<S> {
+pub struct Closing<S, K: Keeps = Vec<Event>> {
     /// The system, as it was handed in.
     pub bound: Bound<S>,
     /// The log of each block, blocks by number.
-    pub logs: Vec<Vec<Event>>,
+    pub logs: Vec<K>,
     /// What became of the lines that the environment read, in order.
     pub env_put: Vec<EnvOut>,
     /// What the environment received, in order.
@@ -44,9 +44,9 @@ pub struct Closing<S> {
 
 /// What the workers of a run and its board leave.
 #[derive(Drop)]
-pub struct Left<S> {
+pub struct Left<S, K: Keeps = Vec<Event>> {
     pub bound: Bound<S>,
-    pub logs: Vec<Vec<Event>>,
+    pub logs: Vec<K>,
     pub env_put: Vec<EnvOut>,
     pub env_received: Vec<Item>,
     pub hands: Vec<Hand>,
@@ -64,13 +64,13 @@ pub enum StartFault<S> {
 
 /// The lists of a closing, with room for what is to come into them.
 #[derive(Drop)]
-pub struct Room<S> {
+pub struct Room<S, K: Keeps = Vec<Event>> {
     pub parts: Vec<BlockParts<S>>,
-    pub logs: Vec<Vec<Event>>,
+    pub logs: Vec<K>,
     pub hands: Vec<Hand>,
 }
 
-impl<S: Agents> Room<S> {
+impl<S: Agents, K: Keeps> Room<S, K> {
     /// Takes what a worker holds.
     pub fn take_hand(&mut self, hand: Hand)
         requires room { HasRoom 0 1 self.old }
@@ -86,10 +86,10 @@ impl<S: Agents> Room<S> {
     }
 
     /// Takes what a block leaves.
-    pub fn take_block(&mut self, worker: BlockWorker<S>)
+    pub fn take_block(&mut self, worker: BlockWorker<S, K>)
         requires room { HasRoom 1 1 self.old }
         ensures parts { self.new.parts.items ≡ self.old.parts.items ++ behaviours_of worker ∷ [] }
-        ensures logs { map items_in self.new.logs.items ≡ map items_in self.old.logs.items ++ (worker_of worker).core.log ∷ [] }
+        ensures logs { map K.events self.new.logs.items ≡ map K.events self.old.logs.items ++ (worker_of worker).core.log ∷ [] }
         ensures hands { map held_in self.new.hands.items ≡ map held_in self.old.hands.items ++ block_hand (worker_of worker) ∷ [] }
         ensures room { (blocks more : ℕ) → HasRoom (blocks + 1) (more + 1) self.old → HasRoom blocks more self.new }
     {
@@ -136,10 +136,10 @@ pub fn take_first<T>(list: &mut Vec<T>) -> T
 }
 
 /// Takes what all blocks leave, in order.
-pub fn take_blocks<S: Agents>(room: &mut Room<S>, blocks: Vec<BlockWorker<S>>)
+pub fn take_blocks<S: Agents, K: Keeps>(room: &mut Room<S, K>, blocks: Vec<BlockWorker<S, K>>)
     requires room { HasRoom (length blocks.items) (length blocks.items) room.old }
     ensures parts { room.new.parts.items ≡ room.old.parts.items ++ map behaviours_of blocks.items }
-    ensures logs { map items_in room.new.logs.items ≡ map items_in room.old.logs.items ++ map (λ w. (worker_of w).core.log) blocks.items }
+    ensures logs { map K.events room.new.logs.items ≡ map K.events room.old.logs.items ++ map (λ w. (worker_of w).core.log) blocks.items }
     ensures hands { map held_in room.new.hands.items ≡ map held_in room.old.hands.items ++ map (λ w. block_hand (worker_of w)) blocks.items }
     ensures room { (more : ℕ) → HasRoom (length blocks.items) (length blocks.items + more) room.old → HasRoom 0 more room.new }
 {
@@ -151,7 +151,7 @@ pub fn take_blocks<S: Agents>(room: &mut Room<S>, blocks: Vec<BlockWorker<S>>)
 }
 
 /// Takes what all forwarders hold, in order.
-pub fn take_forwarders<S: Agents>(room: &mut Room<S>, forwarders: Vec<Forwarder>)
+pub fn take_forwarders<S: Agents, K: Keeps>(room: &mut Room<S, K>, forwarders: Vec<Forwarder>)
     requires room { HasRoom 0 (length forwarders.items) room.old }
     ensures parts { room.new.parts ≡ room.old.parts }
     ensures logs { room.new.logs ≡ room.old.logs }

@@ -9,6 +9,7 @@ use sdl_block::BlockWorker;
 use sdl_environment::EnvWorker;
 use sdl_forward::{Board, Forwarded, Forwarder};
 use sdl_hand::Stepped;
+use sdl_log::Keeps;
 use sdl_parts::Checked;
 use sdl_routes::Routes;
 use sdl_transition::Agents;
@@ -16,13 +17,13 @@ use std::io::{Read, Write};
 
 /// All workers of a run, with the board between them, and the system that they carry out.
 #[derive(Drop)]
-pub struct Driver<S> {
+pub struct Driver<S, K: Keeps> {
     /// The structure of the system.
     pub checked: Checked,
     /// Its routes.
     pub routes: Routes,
     /// The blocks at work, by number.
-    pub blocks: Vec<BlockWorker<S>>,
+    pub blocks: Vec<BlockWorker<S, K>>,
     /// The environment at work.
     pub environment: EnvWorker,
     /// A forwarder for each delaying path that carries a signal: by channel, forth before back.
@@ -43,7 +44,7 @@ pub enum Round {
     Refused(u32),
 }
 
-impl<S: Agents> Driver<S> {
+impl<S: Agents, K: Keeps> Driver<S, K> {
     /// How many workers there are: the blocks, the environment and the forwarders.
     fn workers(&self) -> u32
         requires { IsDriving S.may self.now }

@@ -9,9 +9,10 @@ ghost use Rattle.sdl_driver.specs.Drivers.{site_of, plan_of, IsDriving, AllFree,
 ghost use Rattle.sdl_driver.specs.Runs.{WorkerSteps};
 
 use crate::driver::Driver;
+use sdl_log::Keeps;
 use sdl_transition::Agents;
 
-impl<S: Agents> Driver<S> {
+impl<S: Agents, K: Keeps> Driver<S, K> {
     /// Whether no forwarder holds an item.
     pub(crate) fn are_free(&self) -> bool
         ensures { MatchBool result (AllFree (site_of self.now)) ⊤ }

@@ -13,24 +13,25 @@ ghost use Rattle.sdl_driver.specs.Drivers.{site_of, plan_of, IsDriving, NoneSpen
 use crate::closing::{Closing, Left, Room, end_of, take_blocks, take_forwarders};
 use crate::driver::Driver;
 use sdl_ledger::Ledger;
+use sdl_log::Keeps;
 use sdl_queue::Rest;
 use sdl_routes::Station;
 use sdl_transition::{Agents, Bound};
 
-impl<S: Agents> Driver<S> {
+impl<S: Agents, K: Keeps> Driver<S, K> {
     /// Takes the driver apart where the run stops. The worker is the one that was refused memory.
-    pub fn close(self, room: Room<S>, refused: Option<u32>) -> Closing<S>
+    pub fn close(self, room: Room<S, K>, refused: Option<u32>) -> Closing<S, K>
         requires driving { IsDriving S.may self }
         requires system { AreOneSystem S.may self.checked self.routes (map behaviours_of self.blocks.items) }
         requires room { HasRoom (length self.blocks.items) (length self.blocks.items + (length self.forwarders.items + 1)) room }
         requires empty { (room.parts.items ≡ []) × (room.logs.items ≡ []) × (room.hands.items ≡ []) }
         requires refused { MatchOption refused (IsIdle (site_of self)) (λ w. w < length (workers_of (plan_of self))) }
-        ensures ended { HasEnded S.may (plan_of self) (outcome_in result) result.end result.ledger }
+        ensures ended { HasEnded S.may (plan_of self) (outcome_in K.events result) result.end result.ledger }
         // What the environment has read and written by then is all that it reads and writes.
         ensures reading { (start now : Option (List ℕ)) → HasReadSoFar self.checked self.routes (blocks_in (plan_of self)) start now self.environment → HasReadIn (plan_of self) start now result }
         ensures writing { (start now : Option (List ℕ)) → HasWrittenSoFar self.checked self.routes (blocks_in (plan_of self)) start now self.environment → HasWrittenIn (plan_of self) start now result }
         ensures stopped { StopsByMemory result.input result.end }
-        ensures left { outcome_in result ≡ outcome_of (site_of self) }
+        ensures left { outcome_in K.events result ≡ outcome_of (site_of self) }
         ensures refusal { NamesRefused result.end refused }
         ensures bound { IsSystemOf self result.bound }
     {
@@ -75,12 +76,12 @@ impl<S: Agents> Driver<S> {
     }
 
     /// Takes the driver apart into the system and what all workers and the board leave.
-    fn leave(self, room: Room<S>) -> Left<S>
+    fn leave(self, room: Room<S, K>) -> Left<S, K>
         requires system { AreOneSystem S.may self.checked self.routes (map behaviours_of self.blocks.items) }
         requires room { HasRoom (length self.blocks.items) (length self.blocks.items + (length self.forwarders.items + 1)) room }
         requires empty { (room.parts.items ≡ []) × (room.logs.items ≡ []) × (room.hands.items ≡ []) }
         ensures bound { IsSystemOf self result.bound }
-        ensures outcome { outcome_left result ≡ outcome_of (site_of self) }
+        ensures outcome { outcome_left K.events result ≡ outcome_of (site_of self) }
         ensures input { result.input ≡ input_end self.environment }
         ensures own { OwnEnd self.environment.ended }
         ensures output { result.output ≡ self.environment.output }
@@ -118,8 +119,8 @@ impl<S: Agents> Driver<S> {
         ensures { result ≡ waiting_in (finals_of (site_of self.now)) }
     {
         let mut waiting = 0;
-        for block in self.blocks.iter() {
-            waiting += block.left_in_ports();
+        for number in 0..self.blocks.len() {
+            waiting += self.blocks[number].left_in_ports();
         }
         waiting
     }
@@ -129,8 +130,8 @@ impl<S: Agents> Driver<S> {
         requires { IsDriving S.may self.now }
         ensures { MatchOption result (NoneSpent (plan_of self.now) (site_of self.now).blocks) (FirstSpent (plan_of self.now) (site_of self.now).blocks) }
     {
-        for (number, block) in self.blocks.iter().enumerate() {
-            if block.made() == self.budget {
+        for number in 0..self.blocks.len() {
+            if self.blocks[number].made() == self.budget {
                 return Some(number as u32);
             }
         }
@@ -141,8 +142,8 @@ impl<S: Agents> Driver<S> {
     fn are_settled(&self) -> bool
         ensures { MatchBool result (AllDone (site_of self.now).blocks) (SomeUndone (site_of self.now).blocks) }
     {
-        for block in self.blocks.iter() {
-            if !block.is_settled() {
+        for number in 0..self.blocks.len() {
+            if !self.blocks[number].is_settled() {
                 return false;
             }
         }

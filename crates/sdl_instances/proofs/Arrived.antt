@@ -3,7 +3,7 @@ use Rattle.std.proofs.Common.{◌≡◌, ℕ, [], ◌∷◌, ◌++◌, Result, O
 use Rattle.sdl_signal.specs.declared.values.Item.{Item}
 use Rattle.sdl_behaviour.specs.declared.step.Frame.{Frame}
 use Rattle.sdl_behaviour.specs.declared.step.Step.{Step}
-use Rattle.sdl_instances.specs.declared.event.Arrival.{Arrival}
+use Rattle.sdl_log.specs.declared.event.Arrival.{Arrival}
 use Rattle.sdl_instances.specs.Machine.{System, Arrives}
 use Rattle.sdl_instances.specs.Core.{Core, IsSound, IsLegalIn, arrival_event}
 use Rattle.sdl_instances.proofs.Sound.{sound_after}

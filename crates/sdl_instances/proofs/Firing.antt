@@ -19,24 +19,24 @@ use Rattle.sdl_behaviour.specs.declared.step.Action.TheVariants as action
 use Rattle.sdl_transition.specs.Offers.{Conforms, IsActionOf}
 use Rattle.sdl_transition.specs.Rules.{Rule, Rules, rules_for, row_for}
 use Rattle.sdl_instances.specs.declared.process_set.ProcessSet.{ProcessSet}
-use Rattle.sdl_instances.specs.declared.event.Event.TheVariants as event
-use Rattle.sdl_instances.specs.declared.event.Trigger.{Trigger}
-use Rattle.sdl_instances.specs.declared.event.Trigger.TheVariants as trigger
+use Rattle.sdl_log.specs.declared.event.Event.TheVariants as event
+use Rattle.sdl_log.specs.declared.event.Trigger.{Trigger}
+use Rattle.sdl_log.specs.declared.event.Trigger.TheVariants as trigger
 use Rattle.sdl_processes.specs.Record.{Record, consumed, is_ready}
 use Rattle.sdl_instances.specs.Machine.{State, System, Transits, rules_at, set_of, frame_of}
-use Rattle.sdl_instances.specs.Run.{turns, origins, sent}
+use Rattle.sdl_instances.specs.Run.{turns, origins, sent, done_in}
 use Rattle.sdl_instances.specs.Core.{Core, IsSound, IsOfferIn, IsLegalIn, IsLegalInstance, HasSerial}
 use Rattle.sdl_instances.specs.Calls.{TurnAnswers}
 use Rattle.sdl_instances.specs.Living.{StandsAt, HaveSerials, written, CanAct, CanCarryOut, TakesAt, next_frame}
 use Rattle.sdl_instances.specs.Turning.{Completes, Fires}
 use Rattle.sdl_instances.specs.Ready.{number_ready, IsReadyAtPlace}
-use Rattle.sdl_instances.specs.declared.event.Turned.TheVariants as turned
+use Rattle.sdl_log.specs.declared.event.Turned.TheVariants as turned
 use Rattle.arrayvec.specs.declared.array_vec.ArrayVec.{ArrayVec}
 use Rattle.sdl_processes.proofs.Readiness.{is_so}
 use Rattle.sdl_instances.proofs.SoundTurn.{sound_turn_after}
 use Rattle.sdl_instances.proofs.Sound.{all_at}
 use Rattle.sdl_instances.proofs.Conforming.{conforms}
-use Rattle.sdl_instances.proofs.Numbered.{sent-one}
+use Rattle.sdl_instances.proofs.Numbered.{sent-one, few_sent}
 use Rattle.sdl_instances.proofs.Acting.{with_serial, written_serials, get_written}
 use Rattle.std.proofs.lemmas.List.{length-set}
 
@@ -246,6 +246,13 @@ module _ (may : ℕ → Frame → Step → Type 0) (sys : System) (pick place : 
 
   pub fired_sound : IsSound may sys new
   fired_sound = sound_after_turn.0
+
+  pub fired_few : length hand ≤ 8
+  fired_few =
+      let sends : length (sent (fired.event ∷ [])) ≤ length (done_in fired.event) = rw (sent-one fired.event) (few_sent (done_in fired.event)) in
+      let is : length hand ≡ length (sent (fired.event ∷ [])) = ap length fired.hand_is in
+      let few = fired.few in
+      omega (arith, sends, is, few)
 
   pub fired_legal : All (IsLegalIn sys) hand
   fired_legal = subst (All (IsLegalIn sys)) (sym fired.hand_is) sound_after_turn.1

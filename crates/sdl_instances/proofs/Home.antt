@@ -22,13 +22,13 @@ use Rattle.sdl_behaviour.specs.declared.step.Next.TheVariants as next_is
 use Rattle.sdl_behaviour.specs.declared.offer.Offer.{Offer}
 use Rattle.sdl_transition.specs.Offers.{IsActionOf}
 use Rattle.sdl_instances.specs.declared.process_set.ProcessSet.{ProcessSet}
-use Rattle.sdl_instances.specs.declared.event.Cause.TheVariants as cause
-use Rattle.sdl_instances.specs.declared.event.Done.{Done}
-use Rattle.sdl_instances.specs.declared.event.Done.TheVariants as done
-use Rattle.sdl_instances.specs.declared.event.Event.{Event}
-use Rattle.sdl_instances.specs.declared.event.Event.TheVariants as event
-use Rattle.sdl_instances.specs.declared.event.Trigger.{Trigger}
-use Rattle.sdl_instances.specs.declared.event.Trigger.TheVariants as trigger
+use Rattle.sdl_log.specs.declared.event.Cause.TheVariants as cause
+use Rattle.sdl_log.specs.declared.event.Done.{Done}
+use Rattle.sdl_log.specs.declared.event.Done.TheVariants as done
+use Rattle.sdl_log.specs.declared.event.Event.{Event}
+use Rattle.sdl_log.specs.declared.event.Event.TheVariants as event
+use Rattle.sdl_log.specs.declared.event.Trigger.{Trigger}
+use Rattle.sdl_log.specs.declared.event.Trigger.TheVariants as trigger
 use Rattle.sdl_processes.specs.Record.{Record, consumed}
 use Rattle.sdl_transition.specs.Rules.{Rule, Rules, rules_for}
 use Rattle.sdl_instances.specs.Machine.{State, System, FitsAt, Becomes, Leaves, Does, DoesAll, Finishes, Transits, Turns, IsCreated, set_of, next_any, next_at}

@@ -8,11 +8,11 @@ use Rattle.sdl_signal.specs.declared.values.Item.{Item}
 use Rattle.sdl_behaviour.specs.declared.step.Frame.{Frame}
 use Rattle.sdl_behaviour.specs.declared.step.Step.{Step}
 use Rattle.sdl_transition.specs.Offers.{IsLegalPid, IsLegalValue}
-use Rattle.sdl_instances.specs.declared.event.Done.{Done}
-use Rattle.sdl_instances.specs.declared.event.Event.{Event}
-use Rattle.sdl_instances.specs.declared.event.Event.TheVariants as event
-use Rattle.sdl_instances.specs.declared.event.Trigger.{Trigger}
-use Rattle.sdl_instances.specs.declared.event.Trigger.TheVariants as trigger
+use Rattle.sdl_log.specs.declared.event.Done.{Done}
+use Rattle.sdl_log.specs.declared.event.Event.{Event}
+use Rattle.sdl_log.specs.declared.event.Event.TheVariants as event
+use Rattle.sdl_log.specs.declared.event.Trigger.{Trigger}
+use Rattle.sdl_log.specs.declared.event.Trigger.TheVariants as trigger
 use Rattle.sdl_processes.specs.Record.{Record, consumed}
 use Rattle.sdl_transition.specs.Rules.{Rule, Rules}
 use Rattle.sdl_instances.specs.Machine.{State, System, FitsAt, LivesAs, Transits, Turns, rules_at, next_any, next_at}

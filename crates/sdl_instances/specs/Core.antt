@@ -19,10 +19,10 @@ use Rattle.sdl_behaviour.specs.declared.offer.SignalSorts.{SignalSorts}
 use Rattle.sdl_transition.specs.Offers.{IsLegalPid, IsLegalValue}
 use Rattle.sdl_signal.specs.Sorts.{sort_of, AreOfSorts}
 use Rattle.sdl_instances.specs.declared.process_set.ProcessSet.{ProcessSet}
-use Rattle.sdl_instances.specs.declared.event.Event.{Event}
-use Rattle.sdl_instances.specs.declared.event.Event.TheVariants as event
-use Rattle.sdl_instances.specs.declared.event.Arrival.{Arrival}
-use Rattle.sdl_instances.specs.declared.event.Arrival.TheVariants as arrival
+use Rattle.sdl_log.specs.declared.event.Event.{Event}
+use Rattle.sdl_log.specs.declared.event.Event.TheVariants as event
+use Rattle.sdl_log.specs.declared.event.Arrival.{Arrival}
+use Rattle.sdl_log.specs.declared.event.Arrival.TheVariants as arrival
 use Rattle.sdl_processes.specs.Record.{Record}
 use Rattle.sdl_transition.specs.Rules.{Rules, RowRule, rules_for}
 use Rattle.sdl_instances.specs.Legal.{IsLegal}

@@ -21,8 +21,8 @@ use Rattle.sdl_behaviour.specs.declared.step.Action.TheVariants as action
 use Rattle.sdl_behaviour.specs.declared.step.Next.{Next}
 use Rattle.sdl_behaviour.specs.declared.step.Next.TheVariants as next_is
 use Rattle.sdl_instances.specs.declared.process_set.ProcessSet.{ProcessSet}
-use Rattle.sdl_instances.specs.declared.event.Done.{Done}
-use Rattle.sdl_instances.specs.declared.event.Done.TheVariants as done
+use Rattle.sdl_log.specs.declared.event.Done.{Done}
+use Rattle.sdl_log.specs.declared.event.Done.TheVariants as done
 use Rattle.sdl_instances.specs.declared.living.Living.{Living}
 use Rattle.sdl_instances.specs.declared.outputs.Mark.{Mark}
 use Rattle.sdl_processes.specs.Record.{Record, created_record, front_of}

@@ -29,15 +29,15 @@ use Rattle.sdl_behaviour.specs.declared.step.Next.{Next}
 use Rattle.sdl_behaviour.specs.declared.step.Next.TheVariants as next_is
 use Rattle.sdl_transition.specs.Offers.{Conforms}
 use Rattle.sdl_transition.specs.Rules.{Rule, Rules, rules_for, row_for}
-use Rattle.sdl_instances.specs.declared.event.Cause.TheVariants as cause
-use Rattle.sdl_instances.specs.declared.event.Arrival.{Arrival}
-use Rattle.sdl_instances.specs.declared.event.Arrival.TheVariants as arrival
-use Rattle.sdl_instances.specs.declared.event.Trigger.{Trigger}
-use Rattle.sdl_instances.specs.declared.event.Trigger.TheVariants as trigger
-use Rattle.sdl_instances.specs.declared.event.Done.{Done}
-use Rattle.sdl_instances.specs.declared.event.Done.TheVariants as done
-use Rattle.sdl_instances.specs.declared.event.Event.{Event}
-use Rattle.sdl_instances.specs.declared.event.Event.TheVariants as event
+use Rattle.sdl_log.specs.declared.event.Cause.TheVariants as cause
+use Rattle.sdl_log.specs.declared.event.Arrival.{Arrival}
+use Rattle.sdl_log.specs.declared.event.Arrival.TheVariants as arrival
+use Rattle.sdl_log.specs.declared.event.Trigger.{Trigger}
+use Rattle.sdl_log.specs.declared.event.Trigger.TheVariants as trigger
+use Rattle.sdl_log.specs.declared.event.Done.{Done}
+use Rattle.sdl_log.specs.declared.event.Done.TheVariants as done
+use Rattle.sdl_log.specs.declared.event.Event.{Event}
+use Rattle.sdl_log.specs.declared.event.Event.TheVariants as event
 use Rattle.sdl_processes.specs.Record.{Record}
 pub use Rattle.sdl_processes.specs.Record.{created_record, consumed}
 pub use Rattle.sdl_processes.specs.Places.{is_of}

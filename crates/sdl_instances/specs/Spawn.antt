@@ -21,15 +21,15 @@ use Rattle.sdl_behaviour.specs.declared.step.Next.TheVariants as next_is
 use Rattle.sdl_behaviour.specs.declared.step.Action.TheVariants as action
 use Rattle.sdl_behaviour.specs.declared.step.Dest.TheVariants as dest
 use Rattle.sdl_routes.specs.declared.route.Via.TheVariants as via
-use Rattle.sdl_instances.specs.declared.event.Done.TheVariants as done
+use Rattle.sdl_log.specs.declared.event.Done.TheVariants as done
 use Rattle.sdl_routes.specs.declared.route.Hop.{Hop}
 use Rattle.sdl_routes.specs.declared.route.EndPoint.{EndPoint}
 use Rattle.sdl_routes.specs.declared.route.Station.{Station}
 use Rattle.sdl_transition.specs.Rules.{Rules}
-use Rattle.sdl_instances.specs.declared.event.Event.{Event}
-use Rattle.sdl_instances.specs.declared.event.Event.TheVariants as event
-use Rattle.sdl_instances.specs.declared.event.Cause.TheVariants as cause
-use Rattle.sdl_instances.specs.declared.event.Trigger.TheVariants as trigger
+use Rattle.sdl_log.specs.declared.event.Event.{Event}
+use Rattle.sdl_log.specs.declared.event.Event.TheVariants as event
+use Rattle.sdl_log.specs.declared.event.Cause.TheVariants as cause
+use Rattle.sdl_log.specs.declared.event.Trigger.TheVariants as trigger
 use Rattle.sdl_processes.specs.Record.{Record}
 use Rattle.sdl_instances.specs.Machine.{State, System}
 

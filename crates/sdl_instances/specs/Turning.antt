@@ -5,10 +5,10 @@ use Rattle.sdl_signal.specs.declared.values.Pid.{Pid}
 use Rattle.sdl_signal.specs.declared.values.Item.{Item}
 use Rattle.sdl_behaviour.specs.declared.step.Frame.{Frame}
 use Rattle.sdl_behaviour.specs.declared.step.Step.{Step}
-use Rattle.sdl_instances.specs.declared.event.Done.{Done}
-use Rattle.sdl_instances.specs.declared.event.Event.{Event}
-use Rattle.sdl_instances.specs.declared.event.Event.TheVariants as event
-use Rattle.sdl_instances.specs.declared.event.Trigger.{Trigger}
+use Rattle.sdl_log.specs.declared.event.Done.{Done}
+use Rattle.sdl_log.specs.declared.event.Event.{Event}
+use Rattle.sdl_log.specs.declared.event.Event.TheVariants as event
+use Rattle.sdl_log.specs.declared.event.Trigger.{Trigger}
 use Rattle.sdl_processes.specs.Record.{Record, consumed}
 use Rattle.sdl_instances.specs.Machine.{State, System, DoesAll, Finishes, next_at}
 use Rattle.sdl_instances.specs.Run.{IsNumbered, sent_by, done_in, sent, arrived, origins, next_stamp}

@@ -10,66 +10,76 @@ ghost use Rattle.sdl_instances.specs.Living.{state_of, creatable_of, StandsAt, C
 ghost use Rattle.std.specs.List.{AllByRecursion, flat_map};
 ghost use Rattle.sdl_instances.specs.Run.{origin_by, sent_by};
 
-use crate::event::Done;
 use crate::living::Living;
-use crate::outputs::{Mark, output};
+use crate::outputs::Mark;
 use crate::process_set::ProcessSet;
 use arrayvec::ArrayVec;
+use sdl_log::Done;
 use sdl_processes::copies::copied_item;
 use sdl_routes::Routes;
 use sdl_signal::Item;
 use sdl_transition::{Action, Agents, BlockParts};
 
-/// Carries out an action of the instance at this place.
+/// The instance that makes a turn: its place among the living ones, the behaviours of its block, and the routes of the
+/// structure.
+#[derive(Drop)]
+pub struct Actor<'a, S> {
+    pub routes: &'a Routes,
+    pub parts: &'a BlockParts<S>,
+    pub place: usize,
+}
+
+/// Carries out an action of the actor.
 fn act<S: Agents>(
     living: &mut Living,
-    routes: &Routes,
-    parts: &BlockParts<S>,
     sets: &[ProcessSet],
-    place: usize,
+    actor: &Actor<S>,
     action: &Action,
     mark: Mark,
 ) -> Done
-    requires indexed { IsIndexed parts.now }
-    requires ready { CanCarryOut sets.now place 1 (creatable_of living.old) (state_of living.old) }
-    requires creatable { CanAct sets.now (block_rules parts.now) action.now }
-    ensures does { (d : _) → CarriesOut S.may sets.now routes.now (block_rules parts.now) place mark (action.now ∷ []) d (d ++ result ∷ []) (state_of living.old) (state_of living.new) }
-    ensures ready { (n : ℕ) → CanCarryOut sets.now place (n + 1) (creatable_of living.old) (state_of living.old) → CanCarryOut sets.now place n (creatable_of living.new) (state_of living.new) }
+    requires indexed { IsIndexed actor.now.parts.now }
+    requires ready { CanCarryOut sets.now actor.now.place 1 (creatable_of living.old) (state_of living.old) }
+    requires creatable { CanAct sets.now (block_rules actor.now.parts.now) action.now }
+    ensures does { (d : _) → CarriesOut S.may sets.now actor.now.routes.now (block_rules actor.now.parts.now) actor.now.place mark (action.now ∷ []) d (d ++ result ∷ []) (state_of living.old) (state_of living.new) }
+    ensures ready { (n : ℕ) → CanCarryOut sets.now actor.now.place (n + 1) (creatable_of living.old) (state_of living.old) → CanCarryOut sets.now actor.now.place n (creatable_of living.new) (state_of living.new) }
 {
     match action {
         Action::Output { signal, dest, via } => living.output(
-            routes, place, signal, *dest, *via, mark,
+            actor.routes,
+            actor.place,
+            signal,
+            *dest,
+            *via,
+            mark,
         ),
-        Action::Create(set) => Done::Made(living.create(sets, place, *set, parts.variables(*set))),
+        Action::Create(set) => {
+            let vars = actor.parts.variables(*set);
+            Done::Made(living.create(sets, actor.place, *set, vars))
+        }
     }
 }
 
-/// Carries out the actions of the instance at this place, in order, and adds what each did.
+/// Carries out the actions of the actor, in order, and adds what each did.
 pub fn act_all<S: Agents>(
     living: &mut Living,
-    routes: &Routes,
-    parts: &BlockParts<S>,
     sets: &[ProcessSet],
-    place: usize,
+    actor: &Actor<S>,
     actions: &[Action],
     mark: Mark,
     done: &mut ArrayVec<Done, 8>,
 )
-    requires indexed { IsIndexed parts.now }
-    requires ready { CanCarryOut sets.now place (length actions.now) (creatable_of living.old) (state_of living.old) }
-    requires creatable { AllByRecursion (CanAct sets.now (block_rules parts.now)) actions.now }
+    requires indexed { IsIndexed actor.now.parts.now }
+    requires ready { CanCarryOut sets.now actor.now.place (length actions.now) (creatable_of living.old) (state_of living.old) }
+    requires creatable { AllByRecursion (CanAct sets.now (block_rules actor.now.parts.now)) actions.now }
     requires room { length done.old.items + length actions.now ≤ 8 }
     requires numbers { mark.origin.number + length actions.now < 2 ^ 64 }
-    ensures { CarriesOut S.may sets.now routes.now (block_rules parts.now) place mark actions.now done.old.items done.new.items (state_of living.old) (state_of living.new) }
+    ensures { CarriesOut S.may sets.now actor.now.routes.now (block_rules actor.now.parts.now) actor.now.place mark actions.now done.old.items done.new.items (state_of living.old) (state_of living.new) }
 {
     if let Some((action, rest)) = actions.split_first() {
-        let one = act(living, routes, parts, sets, place, action, mark);
+        let one = act(living, sets, actor, action, mark);
         let next = mark.after(&one);
-        match done.try_push(one) {
-            Ok(()) => {}
-            Err(_) => unreachable!(),
-        }
-        act_all(living, routes, parts, sets, place, rest, next, done);
+        done.push(one);
+        act_all(living, sets, actor, rest, next, done);
     }
 }
 
@@ -80,10 +90,7 @@ pub fn add_sent(done: &[Done], sent: &mut ArrayVec<Item, 8>)
 {
     if let Some((one, rest)) = done.split_first() {
         if let Done::Sent(item) = one {
-            match sent.try_push(copied_item(item)) {
-                Ok(()) => {}
-                Err(_) => unreachable!(),
-            }
+            sent.push(copied_item(item));
         }
         add_sent(rest, sent);
     }

@@ -13,11 +13,12 @@ use crate::block::BlockCore;
 use crate::process_set::ProcessSet;
 use crate::table::Table;
 use arrayvec::ArrayVec;
+use sdl_log::Keeps;
 use sdl_routes::{EndPoint, Routes};
 use sdl_signal::{BlockId, Item, Pid, SetId, Signal, Sort, Value};
 use sdl_transition::Agents;
 
-impl<S: Agents> BlockCore<S> {
+impl<S: Agents, K: Keeps> BlockCore<S, K> {
     ghost use Rattle.sdl_instances.specs.CoreOf.{core_of, system_in};
 
     /// The number of the block. No memory is taken.
@@ -43,7 +44,7 @@ impl<S: Agents> BlockCore<S> {
     }
 }
 
-impl Table {
+impl<K: Keeps> Table<K> {
     /// Whether the budget is used.
     pub fn is_spent(&self) -> bool
         ensures { IsTrue result ↔ (turns self.now.core.log ≡ self.now.core.budget) }

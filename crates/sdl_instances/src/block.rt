@@ -3,7 +3,7 @@ ghost use Rattle.std.specs.Prelude.{◌≡◌, List, ◌≤◌, ◌++◌, ◌∷
 ghost use Rattle.sdl_signal.specs.declared.ids.SetId.{SetId};
 ghost use Rattle.sdl_signal.specs.declared.values.Pid.{Pid};
 ghost use Rattle.sdl_instances.specs.Legal.{GoesTo, IsOfSet};
-ghost use Rattle.sdl_instances.specs.declared.event.Arrival.TheVariants as arrival;
+ghost use Rattle.sdl_log.specs.declared.event.Arrival.TheVariants as arrival;
 ghost use Rattle.sdl_instances.specs.Machine.{Arrives, number_living};
 ghost use Rattle.std.specs.Prelude.{IsTrue, ◌↔◌};
 ghost use Rattle.sdl_instances.specs.Core.{IsReady, arrival_event, IsLivingAt, IsLegalIn, IsSound, IsBoundIn, signals_of, sets_of};
@@ -11,26 +11,25 @@ ghost use Rattle.sdl_instances.specs.Run.{turns, waiting, initial};
 ghost use Rattle.sdl_transition.specs.Rules.{block_rules};
 ghost use Rattle.sdl_routes.specs.declared.route.TableRow.{TableRow};
 
-use crate::event::{Arrival, Event, Trigger, Turned};
-use crate::outputs::{set_of, signal_of};
 use crate::ready::Look;
 use crate::table::Table;
 use arrayvec::ArrayVec;
+use sdl_log::{Arrival, Event, Keeps, Turn, Turned};
 use sdl_parts::Checked;
 use sdl_routes::Routes;
-use sdl_signal::{Item, StateId};
-use sdl_transition::{Agents, BlockParts, Frame};
+use sdl_signal::Item;
+use sdl_transition::{Agents, BlockParts};
 use std::alloc::{AllocError, Global};
 
 /// The instances of a block with their input ports, the log of all that happened to them, and the behaviours of the
 /// block's sets.
 #[derive(Drop)]
-pub struct BlockCore<S> {
-    pub(crate) table: Table,
-    parts: BlockParts<S>,
+pub struct BlockCore<S, K: Keeps = Vec<Event>> {
+    pub(crate) table: Table<K>,
+    pub(crate) parts: BlockParts<S>,
 }
 
-impl<S: Agents> BlockCore<S> {
+impl<S: Agents, K: Keeps> BlockCore<S, K> {
     ghost use Rattle.std.specs.Prelude.{OnOk, OnErr, All, Some, true};
     ghost use Rattle.sdl_processes.specs.Record.{is_ready, Record};
     ghost use Rattle.sdl_signal.specs.declared.values.Item.{Item};
@@ -46,7 +45,7 @@ impl<S: Agents> BlockCore<S> {
         parts: BlockParts<S>,
         checked: &Checked,
         budget: u32,
-    ) -> Result<BlockCore<S>, (BlockParts<S>, AllocError)>
+    ) -> Result<BlockCore<S, K>, (BlockParts<S>, AllocError)>
         requires budget { (1 ≤ budget) × (budget ≤ 1000000) }
         requires bound { IsBoundIn (signals_of checked.now) (sets_of checked.now) (block_rules parts) parts.block }
         ensures initial { IfOk result (λ c. core_of c ≡ record { block = parts.block; signals = signals_of checked.now; sets = sets_of checked.now; state = initial (block_rules parts) (sets_of checked.now) parts.block; log = []; budget = budget }) }
@@ -98,98 +97,11 @@ impl<S: Agents> BlockCore<S> {
         ensures parts { parts_of self.new ≡ parts_of self.old }
         ensures err { OnErr result (core_of self.new ≡ core_of self.old) }
     {
-        match self.table.look(pick) {
-            Look::Idle => Ok(Turned::Idle),
-            Look::Spent => Ok(Turned::Spent),
-            Look::Next(place) => {
-                self.table.make_room()?;
-                let frame = self.table.frame(place);
-                let pid = frame.self_pid;
-                Ok(Turned::Fired(pid, self.turn_at(routes, pick, place, frame)))
-            }
-        }
-    }
-
-    /// Lets the ready instance at this place make a turn, and gives the items that it sent.
-    fn turn_at(
-        &mut self,
-        routes: &Routes,
-        pick: u32,
-        place: usize,
-        frame: Frame,
-    ) -> ArrayVec<Item, 8>
-        requires sound { IsSound S.may (system_in self.old routes.now) (core_of self.old) }
-        requires parts { CanFire S.may (parts_of self.old) }
-        requires next { (r : Record) × StandsAt (core_of self.old).state place frame.self_pid r × (frame ≡ next_frame frame.self_pid r) × (is_ready r ≡ true) }
-        requires room { HasTurnRoom self.old }
-        ensures fires { Fires S.may (system_in self.old routes.now) pick frame.self_pid (core_of self.old) result.items (core_of self.new) }
-        ensures parts { parts_of self.new ≡ parts_of self.old }
-    {
-        match frame.state {
-            None => self.start(routes, pick, place, frame),
-            Some(state) => self.fire(routes, pick, place, state, frame),
-        }
-    }
-
-    /// Lets the instance at this place make its start transition.
-    fn start(&mut self, routes: &Routes, pick: u32, place: usize, frame: Frame) -> ArrayVec<Item, 8>
-        requires sound { IsSound S.may (system_in self.old routes.now) (core_of self.old) }
-        requires parts { CanFire S.may (parts_of self.old) }
-        requires next { (r : Record) × StandsAt (core_of self.old).state place frame.self_pid r × (frame ≡ next_frame frame.self_pid r) × (r.state ≡ None) }
-        requires room { HasTurnRoom self.old }
-        ensures fires { Fires S.may (system_in self.old routes.now) pick frame.self_pid (core_of self.old) result.items (core_of self.new) }
-        ensures parts { parts_of self.new ≡ parts_of self.old }
-    {
-        let step = self.parts.start(set_of(frame.self_pid)).fire(&frame);
-        self.table.complete(
-            routes,
-            &self.parts,
-            pick,
-            place,
-            Trigger::Start,
-            frame,
-            step,
-        )
-    }
-
-    /// Lets the instance at this place consume the signal at the front of its port, in this state.
-    fn fire(
-        &mut self,
-        routes: &Routes,
-        pick: u32,
-        place: usize,
-        state: StateId,
-        frame: Frame,
-    ) -> ArrayVec<Item, 8>
-        requires sound { IsSound S.may (system_in self.old routes.now) (core_of self.old) }
-        requires parts { CanFire S.may (parts_of self.old) }
-        requires next { (r : Record) × (i : Item) × (rest : List Item) × StandsAt (core_of self.old).state place frame.self_pid r × (frame ≡ next_frame frame.self_pid r) × (r.state ≡ Some state) × (r.port ≡ i ∷ rest) }
-        requires room { HasTurnRoom self.old }
-        ensures fires { Fires S.may (system_in self.old routes.now) pick frame.self_pid (core_of self.old) result.items (core_of self.new) }
-        ensures parts { parts_of self.new ≡ parts_of self.old }
-    {
-        match self
-            .parts
-            .row(set_of(frame.self_pid), state, signal_of(&frame))
-        {
-            Some(transition) => {
-                let step = transition.fire(&frame);
-                let item = self.table.consume(place);
-                self.table.complete(
-                    routes,
-                    &self.parts,
-                    pick,
-                    place,
-                    Trigger::Fire(item),
-                    frame,
-                    step,
-                )
-            }
-            None => {
-                let item = self.table.consume(place);
-                self.table.skip(frame, item);
-                ArrayVec::new()
-            }
+        let mut hand = ArrayVec::new();
+        match self.turn_into(routes, pick, &mut hand)? {
+            Turn::Idle => Ok(Turned::Idle),
+            Turn::Spent => Ok(Turned::Spent),
+            Turn::Fired(pid) => Ok(Turned::Fired(pid, hand)),
         }
     }
 
@@ -219,16 +131,16 @@ impl<S: Agents> BlockCore<S> {
     }
 
     /// The log so far, the earliest event first. No memory is taken.
-    pub fn log(&self) -> &Vec<Event>
-        ensures { result.now.items ≡ (core_of self.now).log }
+    pub fn log(&self) -> &K
+        ensures { K.events result.now ≡ (core_of self.now).log }
     {
         self.table.log()
     }
 
     /// The parts of the block, the log, and the number of signals in all ports. No memory is taken.
-    pub fn into_parts(self) -> (BlockParts<S>, Vec<Event>, u64)
+    pub fn into_parts(self) -> (BlockParts<S>, K, u64)
         ensures parts { result.0 ≡ parts_of self }
-        ensures log { result.1.items ≡ (core_of self).log }
+        ensures log { K.events result.1 ≡ (core_of self).log }
         ensures left { result.2 ≡ waiting (core_of self).state.living }
     {
         let left = self.table.left_in_ports();

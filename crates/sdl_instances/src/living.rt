@@ -5,11 +5,11 @@ ghost use Rattle.sdl_signal.specs.declared.values.Item.{Item};
 ghost use Rattle.sdl_processes.specs.Record.{Record, consumed};
 ghost use Rattle.sdl_instances.specs.Living.{state_of, creatable_of, StandsAt, HaveSerials, written, with_created, next_of, next_frame, CreatesAt, FinishesAt, OutputsAs};
 
-use crate::event::Done;
 use crate::first::numbers_at;
 use crate::outputs::{Mark, output};
 use crate::process_set::ProcessSet;
 use arrayvec::ArrayVec;
+use sdl_log::Done;
 use sdl_processes::copies::{copied_signal, copied_values};
 use sdl_processes::{Instance, Instances};
 use sdl_routes::{Routes, Via};

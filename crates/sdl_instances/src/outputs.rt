@@ -5,7 +5,7 @@ ghost use Rattle.sdl_signal.specs.declared.values.Signal.{Signal};
 ghost use Rattle.sdl_instances.specs.Machine.{set_of, addressee, goal_at, goal_of};
 ghost use Rattle.sdl_instances.specs.Living.{OutputsAs, mark_after};
 
-use crate::event::Done;
+use sdl_log::Done;
 use sdl_processes::Instance;
 use sdl_processes::copies::copied_signal;
 use sdl_routes::{Goal, Routes, Source, Via, Wish};

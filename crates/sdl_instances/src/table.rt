@@ -1,5 +1,5 @@
 //! The instances of a block with its log.
-ghost use Rattle.std.specs.Prelude.{◌≡◌, ℕ, ◌++◌, ◌∷◌, ◌<◌, ◌≤◌, ◌%◌, ◌^◌, ◌-◌, [], OnOk, OnErr, IfOk, IfErr, slice_get, length, None, Some};
+ghost use Rattle.std.specs.Prelude.{◌≡◌, ℕ, ◌++◌, ◌∷◌, ◌<◌, ◌≤◌, ◌%◌, ◌^◌, ◌-◌, [], OnOk, OnErr, IfOk, IfErr, slice_get, length, None, Some, vec_len, vec_capacity};
 ghost use Rattle.sdl_signal.specs.declared.ids.SetId.{SetId};
 ghost use Rattle.sdl_signal.specs.declared.values.Pid.{Pid};
 ghost use Rattle.sdl_routes.specs.declared.route.TableRow.{TableRow};
@@ -11,14 +11,14 @@ ghost use Rattle.sdl_instances.specs.Core.{arrival_event, IsLivingAt, signals_of
 ghost use Rattle.sdl_instances.specs.Living.{state_of, creatable_of};
 ghost use Rattle.sdl_instances.specs.Run.{turns, waiting, initial};
 ghost use Rattle.sdl_transition.specs.Rules.{block_rules};
-ghost use Rattle.sdl_instances.specs.declared.event.Arrival.TheVariants as arrival;
+ghost use Rattle.sdl_log.specs.declared.event.Arrival.TheVariants as arrival;
 
-use crate::event::{Arrival, Cause, Event};
 use crate::first::{first_living, first_serials, numbers_of_sets, sorts_of};
 use crate::living::Living;
 use crate::process_set::ProcessSet;
 use crate::ready::Look;
 use arrayvec::ArrayVec;
+use sdl_log::{Arrival, Cause, Keeps};
 use sdl_parts::Structure;
 use sdl_processes::Instances;
 use sdl_processes::copies::copied_item;
@@ -31,39 +31,39 @@ use std::marker::Model;
 /// The living instances of a block in the order of their creation, the serial numbers given out, and the log. The sorts
 /// of the signals and the numbers of the sets are those of the whole structure.
 #[derive(Drop)]
-pub struct Table {
+pub struct Table<K: Keeps> {
     pub(crate) block: BlockId,
     pub(crate) signals: Vec<ArrayVec<Sort, 4>>,
     pub(crate) sets: Vec<ProcessSet>,
     pub(crate) living: Living,
-    pub(crate) log: Vec<Event>,
+    pub(crate) log: K,
     pub(crate) outputs: u64,
     pub(crate) stamp: u64,
     pub(crate) made: u32,
     pub(crate) budget: u32,
 }
 
-impl Model for Table {
-    ghost use Rattle.std.specs.Prelude.{map, vec_capacity};
+impl<K: Keeps> Model for Table<K> {
+    ghost use Rattle.std.specs.Prelude.{map};
     ghost use Rattle.sdl_instances.specs.Core.{CoreWithRoom};
     ghost use Rattle.sdl_instances.specs.Living.{state_of, creatable_of};
     ghost use Rattle.sdl_instances.specs.Run.{IsCounted};
 
     ghost Value = { CoreWithRoom };
 
-    ghost view = { λ t. record { core = record { block = t.block; signals = map (λ s. s.items) t.signals.items; sets = t.sets.items; state = state_of t.living; log = t.log.items; budget = t.budget }; capacity = vec_capacity t.log; creatable = creatable_of t.living } };
+    ghost view = { λ t. record { core = record { block = t.block; signals = map (λ s. s.items) t.signals.items; sets = t.sets.items; state = state_of t.living; log = K.events t.log; budget = t.budget }; capacity = K.capacity t.log; creatable = creatable_of t.living } };
 
-    ghost invariant = { λ t. IsCounted t.log.items (state_of t.living).living t.outputs t.stamp t.made t.budget };
+    ghost invariant = { λ t. IsCounted (K.events t.log) (state_of t.living).living t.outputs t.stamp t.made t.budget };
 }
 
-impl Table {
+impl<K: Keeps> Table<K> {
     /// The table before any event: the initial instances, none started.
     pub fn first<S>(
         alloc: Global,
         parts: &BlockParts<S>,
         structure: &Structure,
         budget: u32,
-    ) -> Result<Table, AllocError>
+    ) -> Result<Table<K>, AllocError>
         requires { length structure.now.sets ≤ 64 }
         ensures { IfOk result (λ t. t.core ≡ record { block = parts.now.block; signals = signals_of structure.now; sets = sets_of structure.now; state = initial (block_rules parts.now) (sets_of structure.now) parts.now.block; log = []; budget = budget }) }
     {
@@ -80,7 +80,7 @@ impl Table {
                 instances,
                 last,
             },
-            log: Vec::new(alloc),
+            log: K::new(alloc),
             outputs: 0,
             stamp: 0,
             made: 0,
@@ -103,7 +103,7 @@ fn end_of(routes: &Routes, route: RouteId) -> SetId
     }
 }
 
-impl Table {
+impl<K: Keeps> Table<K> {
     /// Puts the item into the port of the instance at this place. A refusal changes nothing.
     fn enter(&mut self, place: usize, item: Item) -> Result<Pid, (Item, AllocError)>
         requires stamp { item.stamp < 2 ^ 64 - 1 }
@@ -114,7 +114,7 @@ impl Table {
         ensures rest { (self.new.core.block ≡ self.old.core.block) × (self.new.core.signals ≡ self.old.core.signals) × (self.new.core.sets ≡ self.old.core.sets) × (self.new.core.budget ≡ self.old.core.budget) }
         ensures err { IfErr result (λ e. (e.0 ≡ item) × (self.new.core ≡ self.old.core)) }
     {
-        if self.log.reserve(1).is_err() {
+        if self.log.make_room().is_err() {
             return Err((item, AllocError));
         }
         let copy = copied_item(&item);
@@ -123,10 +123,8 @@ impl Table {
             Err(_) => return Err((item, AllocError)),
         };
         self.stamp = self.stamp.max(item.stamp + 1);
-        match self.log.push(Event::Entered(item, pid)) {
-            Ok(()) => Ok(pid),
-            Err(_) => unreachable!(),
-        }
+        self.log.enter(item, pid);
+        Ok(pid)
     }
 
     /// Discards the item. A refusal changes nothing.
@@ -137,18 +135,16 @@ impl Table {
         ensures rest { (self.new.core.block ≡ self.old.core.block) × (self.new.core.signals ≡ self.old.core.signals) × (self.new.core.sets ≡ self.old.core.sets) × (self.new.core.budget ≡ self.old.core.budget) }
         ensures err { IfErr result (λ e. (e.0 ≡ item) × (self.new.core ≡ self.old.core)) }
     {
-        if self.log.reserve(1).is_err() {
+        if self.log.make_room().is_err() {
             return Err((item, AllocError));
         }
         self.stamp = self.stamp.max(item.stamp + 1);
-        match self.log.push(Event::Discarded(item, cause)) {
-            Ok(()) => Ok(()),
-            Err(_) => unreachable!(),
-        }
+        self.log.discard(item, cause);
+        Ok(())
     }
 }
 
-impl Table {
+impl<K: Keeps> Table<K> {
     ghost use Rattle.sdl_instances.specs.Calls.{LookFinds};
 
     /// Lets an item arrive: it enters the port of a living instance that it admits, or is discarded where there is none. A refusal changes nothing.
@@ -188,8 +184,8 @@ impl Table {
     }
 
     /// The log so far.
-    pub fn log(&self) -> &Vec<Event>
-        ensures { result.now.items ≡ self.now.core.log }
+    pub fn log(&self) -> &K
+        ensures { K.events result.now ≡ self.now.core.log }
     {
         &self.log
     }
@@ -219,6 +215,7 @@ impl Table {
     pub fn left_in_ports(&self) -> u64
         ensures { result ≡ waiting self.now.core.state.living }
     {
+        let _events = self.log.number();
         let mut count: u64 = 0;
         for instance in self.living.instances.values() {
             count += instance.port_len();
@@ -227,8 +224,8 @@ impl Table {
     }
 
     /// The log.
-    pub fn into_log(self) -> Vec<Event>
-        ensures { result.items ≡ self.core.log }
+    pub fn into_log(self) -> K
+        ensures { K.events result ≡ self.core.log }
     {
         self.log
     }

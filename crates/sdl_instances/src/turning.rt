@@ -3,8 +3,8 @@ ghost use Rattle.std.specs.Prelude.{◌≡◌, ℕ, ◌+◌, ◌*◌, ◌++◌, 
 ghost use Rattle.std.specs.List.{AllByRecursion};
 ghost use Rattle.sdl_signal.specs.declared.values.Pid.{Pid};
 ghost use Rattle.sdl_signal.specs.declared.values.Item.{Item};
-ghost use Rattle.sdl_instances.specs.declared.event.Event.TheVariants as event;
-ghost use Rattle.sdl_instances.specs.declared.event.Trigger.TheVariants as trigger;
+ghost use Rattle.sdl_log.specs.declared.event.Event.TheVariants as event;
+ghost use Rattle.sdl_log.specs.declared.event.Trigger.TheVariants as trigger;
 ghost use Rattle.sdl_processes.specs.Record.{Record};
 ghost use Rattle.sdl_transition.specs.Rules.{block_rules};
 ghost use Rattle.sdl_transition.specs.Index.{IsIndexed};
@@ -13,23 +13,22 @@ ghost use Rattle.sdl_instances.specs.Core.{system_of};
 ghost use Rattle.sdl_instances.specs.Living.{StandsAt, CanAct, CanCarryOut, next_frame};
 ghost use Rattle.sdl_instances.specs.Turning.{Completes, Consumes};
 
-use crate::actions::{act_all, add_sent, number_of_outputs};
-use crate::event::{Event, Trigger};
+use crate::actions::{Actor, act_all, add_sent, number_of_outputs};
 use crate::outputs::Mark;
 use crate::table::Table;
 use arrayvec::ArrayVec;
-use sdl_routes::Routes;
+use sdl_log::{Keeps, Trigger};
 use sdl_signal::{Item, Origin};
-use sdl_transition::{Agents, BlockParts, Frame, Step};
+use sdl_transition::{Agents, Frame, Step};
 use std::alloc::AllocError;
 
-impl Table {
+impl<K: Keeps> Table<K> {
     /// Takes the room for a turn: for its event, and for as many instances as it can create. A refusal changes nothing.
     pub fn make_room(&mut self) -> Result<(), AllocError>
         ensures same { self.new.core ≡ self.old.core }
         ensures room { OnOk result ((length self.new.core.log < self.new.capacity) × (8 ≤ self.new.creatable)) }
     {
-        self.log.reserve(1)?;
+        self.log.make_room()?;
         self.living.make_room()?;
         Ok(())
     }
@@ -59,38 +58,35 @@ impl Table {
         requires budget { turns self.old.core.log < self.old.core.budget }
         ensures { self.new.core ≡ record self.old.core { log = self.old.core.log ++ event.Turn frame.self_pid (trigger.Implicit item) frame None (record { items = [] }) None ∷ [] } }
     {
-        let event = Event::Turn {
-            pid: frame.self_pid,
-            trigger: Trigger::Implicit(item),
-            frame,
-            step: None,
-            done: ArrayVec::new(),
-            stopped: None,
-        };
         self.made += 1;
-        match self.log.push(event) {
-            Ok(()) => {}
-            Err(_) => unreachable!(),
-        }
+        let pid = frame.self_pid;
+        self.log.turn(
+            pid,
+            Trigger::Implicit(item),
+            frame,
+            None,
+            ArrayVec::new(),
+            None,
+        );
     }
 
-    /// Carries out the step of the instance at this place, notes its turn, and gives the items that it sent.
+    /// Carries out the step of the actor, notes its turn, and puts the items that it sent into the hand, which is empty.
     pub fn complete<S: Agents>(
         &mut self,
-        routes: &Routes,
-        parts: &BlockParts<S>,
+        actor: &Actor<S>,
         pick: u32,
-        place: usize,
         trigger: Trigger,
         frame: Frame,
         step: Step,
-    ) -> ArrayVec<Item, 8>
-        requires indexed { IsIndexed parts.now }
-        requires ready { CanCarryOut self.old.core.sets place 8 self.old.creatable self.old.core.state }
-        requires creatable { AllByRecursion (CanAct self.old.core.sets (block_rules parts.now)) step.actions.items }
+        hand: &mut ArrayVec<Item, 8>,
+    )
+        requires indexed { IsIndexed actor.now.parts.now }
+        requires ready { CanCarryOut self.old.core.sets actor.now.place 8 self.old.creatable self.old.core.state }
+        requires creatable { AllByRecursion (CanAct self.old.core.sets (block_rules actor.now.parts.now)) step.actions.items }
         requires room { length self.old.core.log < self.old.capacity }
         requires budget { (turns self.old.core.log < self.old.core.budget) × (length (origins self.old.core.log) + 8 < 2 ^ 64) }
-        ensures { (r : Record) → StandsAt self.old.core.state place frame.self_pid r → Completes S.may (system_of self.old.core routes.now (block_rules parts.now)) pick frame.self_pid trigger frame step self.old.core result.items self.new.core }
+        requires hand { hand.old.items ≡ [] }
+        ensures { (r : Record) → StandsAt self.old.core.state actor.now.place frame.self_pid r → Completes S.may (system_of self.old.core actor.now.routes.now (block_rules actor.now.parts.now)) pick frame.self_pid trigger frame step self.old.core hand.new.items self.new.core }
     {
         let mark = Mark {
             origin: Origin {
@@ -103,31 +99,18 @@ impl Table {
         let mut done = ArrayVec::new();
         act_all(
             &mut self.living,
-            routes,
-            parts,
             self.sets.as_slice(),
-            place,
+            actor,
             step.actions.as_slice(),
             mark,
             &mut done,
         );
-        let stopped = self.living.finish(place, &step.vars, step.next);
-        let mut hand = ArrayVec::new();
-        add_sent(done.as_slice(), &mut hand);
+        let stopped = self.living.finish(actor.place, &step.vars, step.next);
+        add_sent(done.as_slice(), hand);
         self.outputs += number_of_outputs(done.as_slice());
         self.made += 1;
-        let event = Event::Turn {
-            pid: frame.self_pid,
-            trigger,
-            frame,
-            step: Some(step),
-            done,
-            stopped,
-        };
-        match self.log.push(event) {
-            Ok(()) => {}
-            Err(_) => unreachable!(),
-        }
-        hand
+        let pid = frame.self_pid;
+        self.log
+            .turn(pid, trigger, frame, Some(step), done, stopped);
     }
 }

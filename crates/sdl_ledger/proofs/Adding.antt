@@ -1,22 +1,17 @@
 -- A ledger that is added up part by part counts the whole.
-use Rattle.std.proofs.Common.{◌≡◌, ℕ, ◌+◌, ◌<◌, ◌≤◌, ◌^◌, List, [], ◌∷◌, Option, Some, length, map, take, get_or, sum_by, unwrap_or, refl, ap, sym, ◌∙◌, subst, arith}
+use Rattle.std.proofs.Common.{◌≡◌, ℕ, ◌+◌, ◌<◌, ◌≤◌, List, [], ◌∷◌, length, map, take, get_or, sum_by, refl, ap, sym, ◌∙◌, subst, arith}
 use Rattle.std.proofs.lemmas.List.{take_all}
 use Rattle.std.proofs.lemmas.List.Sums.{sum_by-cons, sum_by_more_le}
-use Rattle.arrayvec.specs.ArrayVec.{ArrayVec}
 use Rattle.sdl_signal.specs.declared.values.Item.{Item}
-use Rattle.sdl_signal.specs.declared.values.Pid.{Pid}
 use Rattle.sdl_routes.specs.declared.route.Station.{Station}
-use Rattle.sdl_behaviour.specs.declared.step.Frame.{Frame}
-use Rattle.sdl_behaviour.specs.declared.step.Step.{Step}
-use Rattle.sdl_instances.specs.declared.event.Done.{Done}
-use Rattle.sdl_instances.specs.declared.event.Trigger.{Trigger}
-use Rattle.sdl_instances.specs.declared.event.Event.{Event}
-use Rattle.sdl_instances.specs.declared.event.Event.TheVariants as event
-use Rattle.sdl_instances.specs.Run.{done_in}
+use Rattle.sdl_log.specs.declared.event.Event.{Event}
+use Rattle.sdl_log.specs.Log.{done_in}
+use Rattle.sdl_log.specs.Counts.{AreCountsOf}
+use Rattle.sdl_log.specs.declared.counts.Counts.{Counts}
 use Rattle.sdl_outcome.specs.declared.environment_output.EnvOut.{EnvOut}
 use Rattle.sdl_ledger.specs.declared.ledger.Ledger.{Ledger}
 use Rattle.sdl_outcome.specs.Outcome.{Outcome, WorkerHand}
-use Rattle.sdl_ledger.specs.Counts.{IsLedgerOf, CountsFit, Adds, CanAdd, summed, of_event, of_trigger, of_done, of_output, of_hand, of_rest, output_by, no_route_by, entered_in, no_instance_in, gone_in, fired_in, implicit_in, stopped_in, items_held, items_at}
+use Rattle.sdl_ledger.specs.Counts.{IsLedgerOf, CountsFit, Adds, CanAdd, summed, of_event, of_counts, of_output, of_hand, of_rest, output_by, no_route_by, entered_in, no_instance_in, gone_in, fired_in, implicit_in, stopped_in, items_held, items_at}
 
 pub no_sum : {X : Type 0} (xs : List X) → sum_by (λ x. 0) xs ≡ 0
 no_sum [] = refl
@@ -34,69 +29,38 @@ sum_map f g (x ∷ xs) =
     let c = sum_map f g xs in
     omega arith
 
--- a turn adds its trigger, then what was done, and then what was stopped
-module _ (p : Pid) (t : Trigger) (f : Frame) (s : Option Step) (did : ArrayVec Done) (stopped : Option ℕ) (e : Event) (is : e ≡ event.Turn p t f s did stopped) (old mid : Ledger)
-    (room : CanAdd old (of_event e)) (triggers : Adds old (of_trigger t) mid) where
-  roomy : CanAdd old (of_event (event.Turn p t f s did stopped))
-  roomy = subst (λ (x : Event). CanAdd old (of_event x)) is room
-
-  pub done_room : CanAdd mid (summed of_done did.items)
-  done_room =
-      let none = no_sum did.items in
+-- what is counted of a log is what its events add, one by one
+module _ (log : List Event) (c : Counts) (are : AreCountsOf log c) (old : Ledger) where
+  pub counts_fit : CanAdd old (summed of_event log) → CanAdd old (of_counts c)
+  counts_fit fits =
       record {
-        output = omega (arith, roomy.output, triggers.output, none);
-        no_route = omega (arith, roomy.no_route, triggers.no_route, none);
-        entered = omega (arith, roomy.entered, triggers.entered, none);
-        no_instance = omega (arith, roomy.no_instance, triggers.no_instance, none);
-        gone = omega (arith, roomy.gone, triggers.gone, none);
-        left = omega (arith, roomy.left, triggers.left, none);
-        fired = omega (arith, roomy.fired, triggers.fired, none);
-        implicit = omega (arith, roomy.implicit, triggers.implicit, none);
-        stopped = omega (arith, roomy.stopped, triggers.stopped, none);
+        output = omega (arith, fits.output, are.output);
+        no_route = omega (arith, fits.no_route, are.no_route);
+        entered = omega (arith, fits.entered, are.entered);
+        no_instance = omega (arith, fits.no_instance, are.no_instance);
+        gone = omega (arith, fits.gone, are.gone);
+        left = let none = no_sum log in omega (arith, fits.left, none);
+        fired = omega (arith, fits.fired, are.fired);
+        implicit = omega (arith, fits.implicit, are.implicit);
+        stopped = omega (arith, fits.stopped, are.stopped);
       }
 
-  module _ (new : Ledger) (adds : Adds mid (summed of_done did.items) new) where
-    pub stopped_fits : (n : ℕ) → stopped ≡ Some n → new.stopped + n < 2 ^ 64
-    stopped_fits n some =
-        let none = no_sum did.items in
-        let count : unwrap_or stopped 0 ≡ n = ap (λ (o : Option ℕ). unwrap_or o 0) some in
-        omega (arith, roomy.stopped, triggers.stopped, adds.stopped, none, count)
-
-    pub turn_adds : (n : ℕ) → unwrap_or stopped 0 ≡ n → Adds old (of_event e) (record new { stopped = new.stopped + n })
-    turn_adds n count =
-        let none = no_sum did.items in
-        subst (λ (x : Event). Adds old (of_event x) (record new { stopped = new.stopped + n })) (sym is)
-        (record {
-          output = omega (arith, triggers.output, adds.output, none);
-          no_route = omega (arith, triggers.no_route, adds.no_route, none);
-          entered = omega (arith, triggers.entered, adds.entered, none);
-          no_instance = omega (arith, triggers.no_instance, adds.no_instance, none);
-          gone = omega (arith, triggers.gone, adds.gone, none);
-          left = omega (arith, triggers.left, adds.left, none);
-          fired = omega (arith, triggers.fired, adds.fired, none);
-          implicit = omega (arith, triggers.implicit, adds.implicit, none);
-          stopped = omega (arith, triggers.stopped, adds.stopped, none, count);
-          waiting = omega (arith, triggers.waiting, adds.waiting, none);
-          environment = omega (arith, triggers.environment, adds.environment, none);
-        })
-
-    pub turn_adds_none : unwrap_or stopped 0 ≡ 0 → Adds old (of_event e) new
-    turn_adds_none count =
-        let none = no_sum did.items in
-        subst (λ (x : Event). Adds old (of_event x) new) (sym is)
-        (record {
-          output = omega (arith, triggers.output, adds.output, none);
-          no_route = omega (arith, triggers.no_route, adds.no_route, none);
-          entered = omega (arith, triggers.entered, adds.entered, none);
-          no_instance = omega (arith, triggers.no_instance, adds.no_instance, none);
-          gone = omega (arith, triggers.gone, adds.gone, none);
-          left = omega (arith, triggers.left, adds.left, none);
-          fired = omega (arith, triggers.fired, adds.fired, none);
-          implicit = omega (arith, triggers.implicit, adds.implicit, none);
-          stopped = omega (arith, triggers.stopped, adds.stopped, none, count);
-          waiting = omega (arith, triggers.waiting, adds.waiting, none);
-          environment = omega (arith, triggers.environment, adds.environment, none);
-        })
+  pub counts_add : (new : Ledger) → Adds old (of_counts c) new → Adds old (summed of_event log) new
+  counts_add new adds =
+      let none = no_sum log in
+      record {
+        output = omega (arith, adds.output, are.output);
+        no_route = omega (arith, adds.no_route, are.no_route);
+        entered = omega (arith, adds.entered, are.entered);
+        no_instance = omega (arith, adds.no_instance, are.no_instance);
+        gone = omega (arith, adds.gone, are.gone);
+        left = omega (arith, adds.left, none);
+        fired = omega (arith, adds.fired, are.fired);
+        implicit = omega (arith, adds.implicit, are.implicit);
+        stopped = omega (arith, adds.stopped, are.stopped);
+        waiting = omega (arith, adds.waiting, none);
+        environment = omega (arith, adds.environment, none);
+      }
 
 -- the ledger before the logs: what the environment received, and what waits
 pub record Begins (received held : ℕ) (l : Ledger) : Type 0 where

@@ -1,5 +1,5 @@
 -- The ledger of a run: how often each thing became of a signal. (This project's own.)
-use Rattle.std.specs.Prelude.{◌≡◌, ℕ, ◌+◌, ◌*◌, ◌<◌, ◌≤◌, ◌^◌, List, [], length, sum_by, unwrap_or}
+use Rattle.std.specs.Prelude.{◌≡◌, ℕ, ◌+◌, ◌*◌, ◌<◌, ◌≤◌, ◌^◌, List, [], length, sum_by}
 use Rattle.std.specs.Option.{option_to_list}
 use Rattle.std.specs.List.{AllByRecursion}
 use Rattle.sdl_signal.specs.declared.values.Item.{Item}
@@ -8,13 +8,10 @@ use Rattle.sdl_routes.specs.declared.route.Hop.{Hop}
 use Rattle.sdl_routes.specs.declared.route.Station.{Station}
 use Rattle.sdl_behaviour.specs.declared.step.Frame.{Frame}
 use Rattle.sdl_behaviour.specs.declared.step.Step.{Step}
-use Rattle.sdl_instances.specs.declared.event.Cause.TheVariants as cause
-use Rattle.sdl_instances.specs.declared.event.Trigger.{Trigger}
-use Rattle.sdl_instances.specs.declared.event.Trigger.TheVariants as trigger
-use Rattle.sdl_instances.specs.declared.event.Done.{Done}
-use Rattle.sdl_instances.specs.declared.event.Done.TheVariants as done
-use Rattle.sdl_instances.specs.declared.event.Event.{Event}
-use Rattle.sdl_instances.specs.declared.event.Event.TheVariants as event
+use Rattle.sdl_log.specs.declared.event.Done.{Done}
+use Rattle.sdl_log.specs.declared.event.Event.{Event}
+use Rattle.sdl_log.specs.declared.counts.Counts.{Counts}
+pub use Rattle.sdl_log.specs.Counts.{output_by, no_route_by, entered_in, no_instance_in, gone_in, fired_in, implicit_in, stopped_in, fired_by, implicit_by}
 use Rattle.sdl_instances.specs.Machine.{State}
 use Rattle.sdl_instances.specs.Core.{IsBoundIn, signals_of, sets_of}
 use Rattle.sdl_instances.specs.Run.{done_in, origins, turns, waiting}
@@ -27,66 +24,10 @@ use Rattle.sdl_outcome.specs.Books.{InOrder}
 use Rattle.sdl_outcome.specs.Plan.{Plan, IsPlan, blocks_in, rules_at, ways_of}
 use Rattle.sdl_outcome.specs.Outcome.{WorkerHand, Outcome, IsComplete, IsLawful, books_of}
 
--- an output, with or without a route
-abbrev pub output_by : Done → ℕ
-output_by (done.Sent i) = 1
-output_by (done.NoRoute origin id) = 1
-output_by (done.Made p) = 0
-
--- an output that no route fits, of a block or of the environment
-abbrev pub no_route_by : Done → ℕ
-no_route_by (done.Sent i) = 0
-no_route_by (done.NoRoute origin id) = 1
-no_route_by (done.Made p) = 0
-
+-- a line of the environment that no route fits
 abbrev pub no_route_at : EnvOut → ℕ
 no_route_at (env_out.Sent i) = 0
 no_route_at (env_out.NoRoute origin line) = 1
-
--- a signal that entered a port, or was discarded on its arrival, by the cause
-abbrev pub entered_in : Event → ℕ
-entered_in (event.Entered i p) = 1
-entered_in (event.Discarded i c) = 0
-entered_in (event.Turn p t frame step did stopped) = 0
-
-abbrev pub no_instance_in : Event → ℕ
-no_instance_in (event.Discarded i cause.NoInstance) = 1
-no_instance_in (event.Discarded i cause.Gone) = 0
-no_instance_in (event.Entered i p) = 0
-no_instance_in (event.Turn p t frame step did stopped) = 0
-
-abbrev pub gone_in : Event → ℕ
-gone_in (event.Discarded i cause.NoInstance) = 0
-gone_in (event.Discarded i cause.Gone) = 1
-gone_in (event.Entered i p) = 0
-gone_in (event.Turn p t frame step did stopped) = 0
-
--- a signal that a turn consumed, by a row or by the implicit transition; a start consumes none
-abbrev pub fired_by : Trigger → ℕ
-fired_by trigger.Start = 0
-fired_by (trigger.Fire i) = 1
-fired_by (trigger.Implicit i) = 0
-
-abbrev pub implicit_by : Trigger → ℕ
-implicit_by trigger.Start = 0
-implicit_by (trigger.Fire i) = 0
-implicit_by (trigger.Implicit i) = 1
-
-abbrev pub fired_in : Event → ℕ
-fired_in (event.Turn p t frame step did stopped) = fired_by t
-fired_in (event.Entered i p) = 0
-fired_in (event.Discarded i c) = 0
-
-abbrev pub implicit_in : Event → ℕ
-implicit_in (event.Turn p t frame step did stopped) = implicit_by t
-implicit_in (event.Entered i p) = 0
-implicit_in (event.Discarded i c) = 0
-
--- the signals that were in the port of an instance that stopped
-abbrev pub stopped_in : Event → ℕ
-stopped_in (event.Turn p t frame step did stopped) = unwrap_or stopped 0
-stopped_in (event.Entered i p) = 0
-stopped_in (event.Discarded i c) = 0
 
 -- the items in a hand: the one that is kept, and those that are yet to be put
 abbrev pub items_held : WorkerHand → ℕ
@@ -203,12 +144,6 @@ no_counts =
       environment = 0;
     }
 
-abbrev pub of_done : Done → Ledger
-of_done d = record no_counts { output = output_by d; no_route = no_route_by d }
-
-abbrev pub of_trigger : Trigger → Ledger
-of_trigger t = record no_counts { fired = fired_by t; implicit = implicit_by t }
-
 abbrev pub of_event : Event → Ledger
 of_event e =
     record no_counts {
@@ -220,6 +155,20 @@ of_event e =
       fired = fired_in e;
       implicit = implicit_in e;
       stopped = stopped_in e;
+    }
+
+-- what is counted of a log
+abbrev pub of_counts : Counts → Ledger
+of_counts c =
+    record no_counts {
+      output = c.output;
+      no_route = c.no_route;
+      entered = c.entered;
+      no_instance = c.no_instance;
+      gone = c.gone;
+      fired = c.fired;
+      implicit = c.implicit;
+      stopped = c.stopped;
     }
 
 abbrev pub of_output : EnvOut → Ledger

@@ -2,12 +2,12 @@
 ghost use Rattle.std.specs.Prelude.{map};
 ghost use Rattle.sdl_forward.specs.Boards.{lists_of};
 ghost use Rattle.sdl_queue.specs.Rest.{left_in};
-ghost use Rattle.sdl_outcome.specs.Lists.{items_in, held_in};
+ghost use Rattle.sdl_outcome.specs.Lists.{held_in};
 ghost use Rattle.sdl_outcome.specs.Outcome.{Outcome};
-ghost use Rattle.sdl_ledger.specs.Counts.{IsLedgerOf, CountsFit, Adds, CanAdd, summed, of_event, of_trigger, of_done, of_output, of_hand, of_rest};
+ghost use Rattle.sdl_ledger.specs.Counts.{IsLedgerOf, CountsFit, Adds, CanAdd, summed, of_event, of_counts, of_output, of_hand, of_rest};
 
 use sdl_hand::Hand;
-use sdl_instances::{Cause, Done, Event, Trigger};
+use sdl_log::{Counts, Keeps};
 use sdl_outcome::EnvOut;
 use sdl_queue::Rest;
 use sdl_routes::Station;
@@ -43,18 +43,18 @@ pub struct Ledger {
 }
 
 impl Ledger {
-    /// The ledger of what a run left: the logs of its blocks, the outputs of the environment and what it received, what the
+    /// The ledger of what a run left: the logs of its blocks, stored or counted, the outputs of the environment and what it received, what the
     /// workers hold, what rests at the stations, and how many signals wait in the ports. No memory is taken.
-    pub fn of(
-        logs: &[Vec<Event>],
+    pub fn of<K: Keeps>(
+        logs: &[K],
         env_put: &[EnvOut],
         env_received: &[Item],
         hands: &[Hand],
         rests: &[(Station, Rest)],
         waiting: u64,
     ) -> Ledger
-        requires { CountsFit (record { logs = map items_in logs.now; env_put = env_put.now; env_received = env_received.now; hands = map held_in hands.now; rests = lists_of rests.now }) }
-        ensures { IsLedgerOf (record { logs = map items_in logs.now; env_put = env_put.now; env_received = env_received.now; hands = map held_in hands.now; rests = lists_of rests.now }) waiting result }
+        requires { CountsFit (record { logs = map K.events logs.now; env_put = env_put.now; env_received = env_received.now; hands = map held_in hands.now; rests = lists_of rests.now }) }
+        ensures { IsLedgerOf (record { logs = map K.events logs.now; env_put = env_put.now; env_received = env_received.now; hands = map held_in hands.now; rests = lists_of rests.now }) waiting result }
     {
         let received = env_received.len() as u64;
         let mut ledger = Ledger {
@@ -64,7 +64,7 @@ impl Ledger {
             ..Ledger::default()
         };
         for log in logs {
-            ledger.add_log(log.as_slice());
+            ledger.add_log(log);
         }
         ledger.add_outputs(env_put);
         ledger.add_hands(hands);
@@ -72,65 +72,25 @@ impl Ledger {
         ledger
     }
 
-    fn add_log(&mut self, log: &[Event])
-        requires { CanAdd self.old (summed of_event log.now) }
-        ensures { Adds self.old (summed of_event log.now) self.new }
+    fn add_log<K: Keeps>(&mut self, log: &K)
+        requires { CanAdd self.old (summed of_event (K.events log.now)) }
+        ensures { Adds self.old (summed of_event (K.events log.now)) self.new }
     {
-        for event in log {
-            self.add_event(event);
-        }
+        self.add_counts(&log.counts());
     }
 
-    fn add_event(&mut self, event: &Event)
-        requires { CanAdd self.old (of_event event.now) }
-        ensures { Adds self.old (of_event event.now) self.new }
+    fn add_counts(&mut self, counts: &Counts)
+        requires { CanAdd self.old (of_counts counts.now) }
+        ensures { Adds self.old (of_counts counts.now) self.new }
     {
-        match event {
-            Event::Entered(_, _) => self.entered += 1,
-            Event::Discarded(_, Cause::NoInstance) => self.no_instance += 1,
-            Event::Discarded(_, Cause::Gone) => self.gone += 1,
-            Event::Turn {
-                pid: _,
-                trigger,
-                frame: _,
-                step: _,
-                done,
-                stopped,
-            } => {
-                self.add_trigger(trigger);
-                self.add_done(done.as_slice());
-                if let Some(dropped) = stopped {
-                    self.stopped += *dropped;
-                }
-            }
-        }
-    }
-
-    fn add_trigger(&mut self, trigger: &Trigger)
-        requires { CanAdd self.old (of_trigger trigger.now) }
-        ensures { Adds self.old (of_trigger trigger.now) self.new }
-    {
-        match trigger {
-            Trigger::Start => {}
-            Trigger::Fire(_) => self.fired += 1,
-            Trigger::Implicit(_) => self.implicit += 1,
-        }
-    }
-
-    fn add_done(&mut self, done: &[Done])
-        requires { CanAdd self.old (summed of_done done.now) }
-        ensures { Adds self.old (summed of_done done.now) self.new }
-    {
-        for one in done {
-            match one {
-                Done::Sent(_) => self.output += 1,
-                Done::NoRoute(_, _) => {
-                    self.output += 1;
-                    self.no_route += 1;
-                }
-                Done::Made(_) => {}
-            }
-        }
+        self.output += counts.output as u64;
+        self.no_route += counts.no_route as u64;
+        self.entered += counts.entered as u64;
+        self.no_instance += counts.no_instance as u64;
+        self.gone += counts.gone as u64;
+        self.fired += counts.fired as u64;
+        self.implicit += counts.implicit as u64;
+        self.stopped += counts.stopped as u64;
     }
 
     fn add_outputs(&mut self, outputs: &[EnvOut])

@@ -14,7 +14,7 @@ use Rattle.sdl_routes.specs.declared.route.Station.{Station}
 use Rattle.sdl_routes.specs.declared.route.Station.TheVariants.{Line, Inlet, Outlet}
 use Rattle.sdl_behaviour.specs.declared.step.Frame.{Frame}
 use Rattle.sdl_behaviour.specs.declared.step.Step.{Step}
-use Rattle.sdl_instances.specs.declared.event.Event.{Event}
+use Rattle.sdl_log.specs.declared.event.Event.{Event}
 use Rattle.sdl_instances.specs.Run.{arrived, arrived_in, sent, sent_by, done_in, all_done}
 use Rattle.sdl_forward.specs.Boards.{waiting, AreAllStations}
 use Rattle.sdl_outcome.specs.declared.worker.Worker.{Worker}

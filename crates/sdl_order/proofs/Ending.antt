@@ -10,7 +10,7 @@ use Rattle.sdl_routes.specs.declared.route.Hop.{Hop}
 use Rattle.sdl_routes.specs.declared.route.Station.{Station}
 use Rattle.sdl_behaviour.specs.declared.step.Frame.{Frame}
 use Rattle.sdl_behaviour.specs.declared.step.Step.{Step}
-use Rattle.sdl_instances.specs.declared.event.Event.{Event}
+use Rattle.sdl_log.specs.declared.event.Event.{Event}
 use Rattle.sdl_instances.specs.Run.{IsRun, arrived, sent, turns}
 use Rattle.sdl_forward.specs.Boards.{same_hop, waiting}
 use Rattle.sdl_forward.specs.Forwards.{Forwarding}

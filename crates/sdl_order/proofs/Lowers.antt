@@ -12,8 +12,8 @@ use Rattle.sdl_routes.specs.Routes.{EachOnce}
 use Rattle.sdl_routes.specs.Table.{IsTableRoute}
 use Rattle.sdl_behaviour.specs.declared.step.Frame.{Frame}
 use Rattle.sdl_behaviour.specs.declared.step.Step.{Step}
-use Rattle.sdl_instances.specs.declared.event.Event.{Event}
-use Rattle.sdl_instances.specs.declared.event.Event.TheVariants as event
+use Rattle.sdl_log.specs.declared.event.Event.{Event}
+use Rattle.sdl_log.specs.declared.event.Event.TheVariants as event
 use Rattle.sdl_instances.specs.Run.{arrived, sent, turns, turn_in}
 use Rattle.sdl_forward.specs.Boards.{same_station}
 use Rattle.sdl_outcome.specs.declared.worker.Worker.{Worker}

@@ -3,7 +3,7 @@ use Rattle.std.proofs.Common.{ℕ, ◌+◌, ◌<◌, ◌≤◌, max, List, [], �
 use Rattle.std.proofs.lemmas.List.Concat.{flat_map-append}
 use Rattle.std.specs.List.{flat_map, AllByRecursion}
 use Rattle.sdl_signal.specs.declared.values.Item.{Item}
-use Rattle.sdl_instances.specs.declared.event.Event.{Event}
+use Rattle.sdl_log.specs.declared.event.Event.{Event}
 use Rattle.sdl_outcome.specs.Stations.{Among}
 use Rattle.sdl_instances.specs.Run.{arrived_in, sent_by, done_in, all_done, sent, above, IsStamped}
 use Rattle.sdl_outcome.specs.Causes.{Precedes, IsCause, direct, further}

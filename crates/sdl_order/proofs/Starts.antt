@@ -13,7 +13,7 @@ use Rattle.sdl_routes.specs.declared.route.TableRow.{TableRow}
 use Rattle.sdl_behaviour.specs.declared.step.Frame.{Frame}
 use Rattle.sdl_behaviour.specs.declared.step.Step.{Step}
 use Rattle.sdl_instances.specs.declared.process_set.ProcessSet.{ProcessSet}
-use Rattle.sdl_instances.specs.declared.event.Event.{Event}
+use Rattle.sdl_log.specs.declared.event.Event.{Event}
 use Rattle.sdl_instances.specs.Machine.{State}
 use Rattle.sdl_instances.specs.Run.{Leads, done_in, sent_by, sent, all_done, initial}
 use Rattle.sdl_instances.specs.Core.{Core, IsSound, IsBoundIn, numbers_of, sets_of}

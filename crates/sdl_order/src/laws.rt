@@ -12,7 +12,7 @@ ghost use Rattle.sdl_routes.specs.declared.route.TableRow.{TableRow};
 ghost use Rattle.sdl_outcome.specs.declared.environment_output.EnvOut.TheVariants as env_out;
 ghost use Rattle.sdl_outcome.specs.EnvironmentWork.{HasReadAll, HasWritten, AreCounted, received_text, env_origins};
 ghost use Rattle.sdl_signal.specs.declared.values.Item.{Item};
-ghost use Rattle.sdl_instances.specs.declared.event.Trigger.TheVariants as trigger;
+ghost use Rattle.sdl_log.specs.declared.event.Trigger.TheVariants as trigger;
 ghost use Rattle.sdl_instances.specs.Run.{IsStamped};
 ghost use Rattle.sdl_outcome.specs.declared.worker.Worker.TheVariants.{Block, Environment, Forwarder};
 ghost use Rattle.sdl_outcome.specs.Ends.{IsSpentAt, IsQuiet};

@@ -7,7 +7,7 @@ use Rattle.sdl_signal.specs.declared.values.Origin.{Origin}
 use Rattle.sdl_routes.specs.declared.route.Station.{Station}
 use Rattle.sdl_behaviour.specs.declared.step.Frame.{Frame}
 use Rattle.sdl_behaviour.specs.declared.step.Step.{Step}
-use Rattle.sdl_instances.specs.declared.event.Event.{Event}
+use Rattle.sdl_log.specs.declared.event.Event.{Event}
 use Rattle.sdl_instances.specs.Machine.{State}
 use Rattle.sdl_instances.specs.Run.{IsRun, arrived, sent, origins}
 use Rattle.sdl_forward.specs.Boards.{waiting, IsBoardOf}

@@ -49,6 +49,11 @@ impl Instance {
         ensures ok { OnOk result (self.new ≡ record self.old { port = self.old.port ++ item ∷ [] }) }
         ensures err { OnErr result (self.new ≡ self.old) }
     {
+        // where there is room, no answer with an item in it is made and moved
+        if self.port.len() < self.port.capacity() {
+            self.port.push_back_reserved(item);
+            return Ok(());
+        }
         match self.port.push_back(item) {
             Ok(()) => Ok(()),
             Err(_) => Err(AllocError),

@@ -43,6 +43,11 @@ impl SerialQueue {
     pub fn put(&mut self, item: Item) -> Result<(), (Item, AllocError)>
         ensures { MatchResult result (λ _. self.new ≡ self.old ++ item ∷ []) (λ back. (back.0 ≡ item) × (self.new ≡ self.old)) }
     {
+        // where there is room, no answer with an item in it is made and moved
+        if self.items.len() < self.items.capacity() {
+            self.items.push_back_reserved(item);
+            return Ok(());
+        }
         match self.items.push_back(item) {
             Ok(()) => Ok(()),
             Err(refused) => Err((refused.value, AllocError)),

@@ -59,7 +59,7 @@ all_fewer P x rest fewer e h = λ n y less. (subst (All P) e h) (suc n) y (omega
 pub all_first : {X : Type 0} (P : X → Type 0) (x : X) (rest fewer : List X) → rest ≡ x ∷ fewer → All P rest → P x
 all_first P x rest fewer e h = (subst (All P) e h) 0 x (omega arith)
 
-module _ {S I : Type 0} {F : I → Type 0} {g : _} (may : ℕ → Frame → Step → Type 0) (s : Structure) (budget : ℕ) (p : BlockParts S I F g) (c : BlockCore S I F g) (w : BlockWorker S I F g) where
+module _ {S K I : Type 0} {F : I → Type 0} {g : _} (may : ℕ → Frame → Step → Type 0) (s : Structure) (budget : ℕ) (p : BlockParts S I F g) (c : BlockCore S K I F g) (w : BlockWorker S K I F g) where
   pub new_parts : behaviours_of w ≡ parts_of c → parts_of c ≡ p → behaviours_of w ≡ p
   new_parts e h = e ∙ h
 

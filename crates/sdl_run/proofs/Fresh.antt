@@ -25,6 +25,7 @@ use Rattle.sdl_block.specs.Workers.{worker_of, behaviours_of, system_around}
 use Rattle.sdl_driver.specs.declared.driver.Driver.{Driver}
 use Rattle.sdl_outcome.specs.declared.end.RunEnd.{RunEnd}
 use Rattle.sdl_driver.specs.declared.closing.Room.{Room}
+use Rattle.sdl_log.specs.declared.event.Event.{Event}
 use Rattle.sdl_driver.specs.Closings.{HasRoom, HasReadIn, HasWrittenIn, IsRunOf, plan_of_bound}
 use Rattle.sdl_driver.specs.declared.closing.Closing.{Closing}
 use Rattle.sdl_outcome.specs.EnvironmentWork.{EnvWorking, HasReadSoFar, HasWrittenSoFar, IsEnvFresh}
@@ -93,9 +94,9 @@ parts_count f done y rest all e =
     let d = ap length e in
     omega (arith, a, b, d)
 
-module _ {S I : Type 0} {F : I → Type 0} {g : _} (may : ℕ → Frame → Step → Type 0) (d : Driver S I F g) (new : AllByRecursion (IsNew may d.checked d.budget) d.blocks.items)
+module _ {S K I : Type 0} {F : I → Type 0} {g : _} (may : ℕ → Frame → Step → Type 0) (d : Driver S K I F g) (new : AllByRecursion (IsNew may d.checked d.budget) d.blocks.items)
     (system : AreOneSystem may d.checked d.routes (map behaviours_of d.blocks.items)) where
-  core_new : (n : ℕ) (w : BlockWorker S I F g) → slice_get d.blocks.items n ≡ Some w → IsNew may d.checked d.budget w → IsCoreAt may (plan_of d) n (worker_of w).core
+  core_new : (n : ℕ) (w : BlockWorker S K I F g) → slice_get d.blocks.items n ≡ Some w → IsNew may d.checked d.budget w → IsCoreAt may (plan_of d) n (worker_of w).core
   unfolding block
   core_new n w found is =
       let here : get_or (map behaviours_of d.blocks.items) n (behaviours_of w) ≡ behaviours_of w = place_read behaviours_of d.blocks.items n w found in
@@ -143,15 +144,23 @@ module _ {S I : Type 0} {F : I → Type 0} {g : _} (may : ℕ → Frame → Step
           fire = λ n w less. record { allowed = a n w less; indexed = i n w less };
         }
 
+-- the plan of a bound system is that of its parts
 module _ {S I : Type 0} {F : I → Type 0} {g : _} (may : ℕ → Frame → Step → Type 0) where
+  pub ended_bound : (b : Bound S I F g) (s : Structure) (rows : List TableRow) (ps : List (BlockParts S I F g)) (budget : ℕ) (o : Outcome) (end : RunEnd) (l : Ledger) → s ≡ structure_of b → rows ≡ routes_of b → ps ≡ blocks_of b
+      → HasEnded may (plan_of_parts s rows ps budget) o end l → HasEnded may (plan_of_bound b budget) o end l
+  ended_bound b s rows ps budget o end l e f h ended =
+      subst (λ (x : Structure). HasEnded may (plan_of_parts x (routes_of b) (blocks_of b) budget) o end l) e
+      (subst (λ (x : List TableRow). HasEnded may (plan_of_parts s x (blocks_of b) budget) o end l) f (subst (λ (x : List (BlockParts S I F g)). HasEnded may (plan_of_parts s rows x budget) o end l) h ended))
+
+module _ {S K I : Type 0} {F : I → Type 0} {g : _} (may : ℕ → Frame → Step → Type 0) where
   -- what a run keeps of a driver
-  pub system_same : (old new : Driver S I F g) → IsSameSystem old new → AreOneSystem may old.checked old.routes (map behaviours_of old.blocks.items) → AreOneSystem may new.checked new.routes (map behaviours_of new.blocks.items)
+  pub system_same : (old new : Driver S K I F g) → IsSameSystem old new → AreOneSystem may old.checked old.routes (map behaviours_of old.blocks.items) → AreOneSystem may new.checked new.routes (map behaviours_of new.blocks.items)
   system_same old new same h =
       subst (λ (s : Structure). AreOneSystem may s new.routes (map behaviours_of new.blocks.items)) (sym same.checked)
       (subst (λ (r : List TableRow). AreOneSystem may old.checked r (map behaviours_of new.blocks.items)) (sym same.routes)
       (subst (λ (ps : List (BlockParts S I F g)). AreOneSystem may old.checked old.routes ps) (sym same.behaviours) h))
 
-  pub room_same : (old new : Driver S I F g) (r : Room S I F g) → IsSameSystem old new → IsDriving may old → IsDriving may new
+  pub room_same : (old new : Driver S K I F g) (r : Room S K I F g) → IsSameSystem old new → IsDriving may old → IsDriving may new
       → HasRoom (length old.blocks.items) (length old.blocks.items + (length old.forwarders.items + 1)) r → HasRoom (length new.blocks.items) (length new.blocks.items + (length new.forwarders.items + 1)) r
   room_same old new r same was is h =
       let blocks : length old.blocks.items ≡ length new.blocks.items = sym (length-map old.blocks.items behaviours_of) ∙ (ap length (sym same.behaviours) ∙ length-map new.blocks.items behaviours_of) in
@@ -160,36 +169,30 @@ module _ {S I : Type 0} {F : I → Type 0} {g : _} (may : ℕ → Frame → Step
       ∙ (ap length was.work.forwarders ∙ (ap (λ (s : Structure). length (lines_from 0 s.channels)) (sym same.checked) ∙ (sym (ap length is.work.forwarders) ∙ length-map new.forwarders.items (λ (f : Forwarding). f.hop)))) in
       room_as r (length old.blocks.items) (length old.blocks.items + (length old.forwarders.items + 1)) (length new.blocks.items) (length new.blocks.items + (length new.forwarders.items + 1)) blocks (omega (arith, blocks, lines)) h
 
-  pub ended_same : (old new : Driver S I F g) (o : Outcome) (end : RunEnd) (l : Ledger) → IsSameSystem old new → HasEnded may (plan_of new) o end l → HasEnded may (plan_of old) o end l
+  pub ended_same : (old new : Driver S K I F g) (o : Outcome) (end : RunEnd) (l : Ledger) → IsSameSystem old new → HasEnded may (plan_of new) o end l → HasEnded may (plan_of old) o end l
   ended_same old new o end l same h = subst (λ (p : Plan). HasEnded may p o end l) (same_plan old new same) h
 
   -- the plan of a driver is that of its parts
-  pub ended_of : (d : Driver S I F g) (ps : List (BlockParts S I F g)) (o : Outcome) (end : RunEnd) (l : Ledger) → map behaviours_of d.blocks.items ≡ ps → HasEnded may (plan_of d) o end l
+  pub ended_of : (d : Driver S K I F g) (ps : List (BlockParts S I F g)) (o : Outcome) (end : RunEnd) (l : Ledger) → map behaviours_of d.blocks.items ≡ ps → HasEnded may (plan_of d) o end l
       → HasEnded may (plan_of_parts d.checked d.routes ps d.budget) o end l
   ended_of d ps o end l e h =
       let rules : map (λ w. block_rules (behaviours_of w)) d.blocks.items ≡ map block_rules ps = sym (map_map block_rules behaviours_of d.blocks.items) ∙ ap (map block_rules) e in
       subst (λ (r : List (List Rules)). HasEnded may (record { structure = d.checked; routes = d.routes; rules = r; budget = d.budget }) o end l) rules h
 
-  pub run_of : (d : Driver S I F g) (ps : List (BlockParts S I F g)) (schedule : List ℕ) (c : Closing S I F g) → map behaviours_of d.blocks.items ≡ ps → IsRunOf may (plan_of d) schedule c
-      → IsRunOf may (plan_of_parts d.checked d.routes ps d.budget) schedule c
-  run_of d ps schedule c e h =
+  pub run_of : (d : Driver S K I F g) (ps : List (BlockParts S I F g)) (schedule : List ℕ) (events : K → List Event) (c : Closing S K I F g) → map behaviours_of d.blocks.items ≡ ps → IsRunOf may (plan_of d) schedule events c
+      → IsRunOf may (plan_of_parts d.checked d.routes ps d.budget) schedule events c
+  run_of d ps schedule events c e h =
       let rules : map (λ w. block_rules (behaviours_of w)) d.blocks.items ≡ map block_rules ps = sym (map_map block_rules behaviours_of d.blocks.items) ∙ ap (map block_rules) e in
-      subst (λ (r : List (List Rules)). IsRunOf may (record { structure = d.checked; routes = d.routes; rules = r; budget = d.budget }) schedule c) rules h
+      subst (λ (r : List (List Rules)). IsRunOf may (record { structure = d.checked; routes = d.routes; rules = r; budget = d.budget }) schedule events c) rules h
 
-  pub run_bound : (b : Bound S I F g) (s : Structure) (rows : List TableRow) (ps : List (BlockParts S I F g)) (budget : ℕ) (schedule : List ℕ) (c : Closing S I F g) → s ≡ structure_of b → rows ≡ routes_of b → ps ≡ blocks_of b
-      → IsRunOf may (plan_of_parts s rows ps budget) schedule c → IsRunOf may (plan_of_bound b budget) schedule c
-  run_bound b s rows ps budget schedule c e f h run =
-      subst (λ (x : Structure). IsRunOf may (plan_of_parts x (routes_of b) (blocks_of b) budget) schedule c) e
-      (subst (λ (x : List TableRow). IsRunOf may (plan_of_parts s x (blocks_of b) budget) schedule c) f (subst (λ (x : List (BlockParts S I F g)). IsRunOf may (plan_of_parts s rows x budget) schedule c) h run))
-
-  pub ended_bound : (b : Bound S I F g) (s : Structure) (rows : List TableRow) (ps : List (BlockParts S I F g)) (budget : ℕ) (o : Outcome) (end : RunEnd) (l : Ledger) → s ≡ structure_of b → rows ≡ routes_of b → ps ≡ blocks_of b
-      → HasEnded may (plan_of_parts s rows ps budget) o end l → HasEnded may (plan_of_bound b budget) o end l
-  ended_bound b s rows ps budget o end l e f h ended =
-      subst (λ (x : Structure). HasEnded may (plan_of_parts x (routes_of b) (blocks_of b) budget) o end l) e
-      (subst (λ (x : List TableRow). HasEnded may (plan_of_parts s x (blocks_of b) budget) o end l) f (subst (λ (x : List (BlockParts S I F g)). HasEnded may (plan_of_parts s rows x budget) o end l) h ended))
+  pub run_bound : (b : Bound S I F g) (s : Structure) (rows : List TableRow) (ps : List (BlockParts S I F g)) (budget : ℕ) (schedule : List ℕ) (events : K → List Event) (c : Closing S K I F g) → s ≡ structure_of b → rows ≡ routes_of b → ps ≡ blocks_of b
+      → IsRunOf may (plan_of_parts s rows ps budget) schedule events c → IsRunOf may (plan_of_bound b budget) schedule events c
+  run_bound b s rows ps budget schedule events c e f h run =
+      subst (λ (x : Structure). IsRunOf may (plan_of_parts x (routes_of b) (blocks_of b) budget) schedule events c) e
+      (subst (λ (x : List TableRow). IsRunOf may (plan_of_parts s x (blocks_of b) budget) schedule events c) f (subst (λ (x : List (BlockParts S I F g)). IsRunOf may (plan_of_parts s rows x budget) schedule events c) h run))
 
   -- a driver that has read nothing reads, in a run, all that its closing shows
-  module _ (old new : Driver S I F g) (same : IsSameSystem old new) (fresh : IsEnvFresh (blocks_in (plan_of old)) old.environment) (c : Closing S I F g) (x y : Option (List ℕ)) where
+  module _ (old new : Driver S K I F g) (same : IsSameSystem old new) (fresh : IsEnvFresh (blocks_in (plan_of old)) old.environment) (c : Closing S K I F g) (x y : Option (List ℕ)) where
     pub reading_same : ReadsOver (plan_of old) old.environment x new.environment y
         → ((start now : Option (List ℕ)) → HasReadSoFar new.checked new.routes (blocks_in (plan_of new)) start now new.environment → HasReadIn (plan_of new) start now c) → HasReadIn (plan_of old) x y c
     reading_same over ends =
@@ -203,7 +206,7 @@ module _ {S I : Type 0} {F : I → Type 0} {g : _} (may : ℕ → Frame → Step
         (ends x y (subst (λ (p : Plan). HasWrittenSoFar p.structure p.routes (blocks_in p) x y new.environment) (sym (same_plan old new same)) (over x (writes_none old.checked old.routes (blocks_in (plan_of old)) old.environment fresh x))))
 
   -- the same of a bound system
-  module _ (b : Bound S I F g) (s : Structure) (rows : List TableRow) (ps : List (BlockParts S I F g)) (budget : ℕ) (c : Closing S I F g) (x y : Option (List ℕ)) (e : s ≡ structure_of b) (f : rows ≡ routes_of b) where
+  module _ (b : Bound S I F g) (s : Structure) (rows : List TableRow) (ps : List (BlockParts S I F g)) (budget : ℕ) (c : Closing S K I F g) (x y : Option (List ℕ)) (e : s ≡ structure_of b) (f : rows ≡ routes_of b) where
     pub reading_bound : HasReadIn (plan_of_parts s rows ps budget) x y c → HasReadIn (plan_of_bound b budget) x y c
     reading_bound h =
         subst (λ (t : Structure). HasReadIn (plan_of_parts t (routes_of b) (blocks_of b) budget) x y c) e

@@ -35,12 +35,12 @@ first_core s budget p =
     }
 
 -- a worker that has done nothing
-pub record IsNew {S I : Type 0} {F : I → Type 0} {g : _} (may : ℕ → Frame → Step → Type 0) (s : Structure) (budget : ℕ) (w : BlockWorker S I F g) : Type 0 where
+pub record IsNew {S K I : Type 0} {F : I → Type 0} {g : _} (may : ℕ → Frame → Step → Type 0) (s : Structure) (budget : ℕ) (w : BlockWorker S K I F g) : Type 0 where
   pub worker : worker_of w ≡ with_core (first_core s budget (behaviours_of w))
   pub sound : (routes : List TableRow) → IsSound may (system_around w routes) (worker_of w).core
 
 -- there is all that a run of so many blocks needs beside them
-pub record IsStartRoom {S I : Type 0} {F : I → Type 0} {g : _} (s : Structure) (routes : List TableRow) (blocks : ℕ) (start_room : StartRoom S I F g) : Type 0 where
+pub record IsStartRoom {S K I : Type 0} {F : I → Type 0} {g : _} (s : Structure) (routes : List TableRow) (blocks : ℕ) (start_room : StartRoom S K I F g) : Type 0 where
   pub board : IsBoardOf routes start_room.board
   pub empty : (t : Station) → waiting start_room.board t ≡ []
   pub forwarders : start_room.forwarders.items ≡ map idle_at (lines_from 0 s.channels)

@@ -9,6 +9,7 @@ ghost use Rattle.sdl_run.specs.Serial.{IsNew};
 use sdl_block::BlockWorker;
 use sdl_driver::closing::take_first;
 use sdl_instances::BlockCore;
+use sdl_log::Keeps;
 use sdl_parts::Checked;
 use sdl_transition::{Agents, BlockParts};
 use std::alloc::Global;
@@ -27,13 +28,13 @@ fn put_last<T: Drop>(list: &mut Vec<T>, element: T)
 
 /// Makes a worker of each block, in order. A refusal hands back the workers so far, the parts that were refused, and the
 /// parts of the blocks behind.
-pub fn start_blocks<S: Agents>(
+pub fn start_blocks<S: Agents, K: Keeps>(
     alloc: Global,
     checked: &Checked,
     budget: u32,
     blocks: Vec<BlockParts<S>>,
-    workers: Vec<BlockWorker<S>>,
-) -> Result<Vec<BlockWorker<S>>, (Vec<BlockWorker<S>>, BlockParts<S>, Vec<BlockParts<S>>)>
+    workers: Vec<BlockWorker<S, K>>,
+) -> Result<Vec<BlockWorker<S, K>>, (Vec<BlockWorker<S, K>>, BlockParts<S>, Vec<BlockParts<S>>)>
     requires budget { (1 ≤ budget) × (budget ≤ 1000000) }
     requires bound { All (λ p. IsBoundIn (signals_of checked.now) (sets_of checked.now) (block_rules p) p.block) blocks.items }
     requires empty { workers.items ≡ [] }
@@ -55,7 +56,7 @@ pub fn start_blocks<S: Agents>(
 }
 
 /// Takes the parts of all these workers, in order.
-fn regain<S: Agents>(parts: &mut Vec<BlockParts<S>>, workers: Vec<BlockWorker<S>>)
+fn regain<S: Agents, K: Keeps>(parts: &mut Vec<BlockParts<S>>, workers: Vec<BlockWorker<S, K>>)
     requires room { vec_len parts.old + length workers.items ≤ vec_capacity parts.old }
     ensures parts { parts.new.items ≡ parts.old.items ++ map behaviours_of workers.items }
     ensures room { (more : ℕ) → vec_len parts.old + (length workers.items + more) ≤ vec_capacity parts.old → vec_len parts.new + more ≤ vec_capacity parts.new }
@@ -82,9 +83,9 @@ fn take_all<T: Drop>(list: &mut Vec<T>, more: Vec<T>)
 }
 
 /// The parts of all blocks, in order, where some have started.
-pub fn gather<S: Agents>(
+pub fn gather<S: Agents, K: Keeps>(
     empty: Vec<BlockParts<S>>,
-    workers: Vec<BlockWorker<S>>,
+    workers: Vec<BlockWorker<S, K>>,
     refused: BlockParts<S>,
     rest: Vec<BlockParts<S>>,
 ) -> Vec<BlockParts<S>>

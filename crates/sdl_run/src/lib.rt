@@ -15,4 +15,4 @@ mod start;
 pub use sdl_driver::{Closing, StartFault};
 pub use sdl_ledger::Ledger;
 pub use sdl_outcome::{EnvOut, RunEnd, Worker};
-pub use serial::run_serial;
+pub use serial::{run_keeping, run_serial};

@@ -8,6 +8,7 @@ ghost use Rattle.sdl_run.specs.Starting.{idle_at};
 use sdl_block::BlockWorker;
 use sdl_driver::closing::Room;
 use sdl_forward::{Board, Forwarder};
+use sdl_log::{Event, Keeps};
 use sdl_parts::{Channel, Checked};
 use sdl_routes::{Hop, Routes};
 use sdl_signal::{ChannelId, SignalId};
@@ -16,15 +17,19 @@ use std::alloc::{AllocError, Global};
 
 /// What a run takes before its blocks: the board, the forwarders, the lists of its closing, and room for the blocks.
 #[derive(Drop)]
-pub struct StartRoom<S> {
+pub struct StartRoom<S, K: Keeps = Vec<Event>> {
     pub board: Board,
     pub forwarders: Vec<Forwarder>,
-    pub room: Room<S>,
-    pub workers: Vec<BlockWorker<S>>,
+    pub room: Room<S, K>,
+    pub workers: Vec<BlockWorker<S, K>>,
 }
 
 /// Empty lists, with room for what so many blocks and so many workers leave.
-fn make_room<S: Agents>(alloc: Global, blocks: usize, workers: usize) -> Result<Room<S>, AllocError>
+fn make_room<S: Agents, K: Keeps>(
+    alloc: Global,
+    blocks: usize,
+    workers: usize,
+) -> Result<Room<S, K>, AllocError>
     ensures empty { IfOk result (λ r. (r.parts.items ≡ []) × (r.logs.items ≡ []) × (r.hands.items ≡ [])) }
     ensures room { IfOk result (λ r. HasRoom blocks workers r) }
 {
@@ -35,12 +40,12 @@ fn make_room<S: Agents>(alloc: Global, blocks: usize, workers: usize) -> Result<
 }
 
 /// Takes what a run of so many blocks needs, before any block starts.
-pub fn make_start_room<S: Agents>(
+pub fn make_start_room<S: Agents, K: Keeps>(
     alloc: Global,
     checked: &Checked,
     routes: &Routes,
     blocks: usize,
-) -> Result<StartRoom<S>, AllocError>
+) -> Result<StartRoom<S, K>, AllocError>
     requires { blocks ≤ 16 }
     ensures { IfOk result (IsStartRoom checked.now routes.now blocks) }
 {

@@ -8,7 +8,7 @@ use Rattle.sdl_signal.specs.declared.values.Signal.{Signal}
 use Rattle.sdl_routes.specs.declared.route.Station.{Station}
 use Rattle.sdl_routes.specs.declared.route.Station.TheVariants as station
 use Rattle.sdl_agents.specs.Tables.{EchoMay}
-use Rattle.sdl_instances.specs.declared.event.Done.TheVariants as done
+use Rattle.sdl_log.specs.declared.event.Done.TheVariants as done
 use Rattle.sdl_instances.specs.Machine.{State, FitsAt, DoesAll, next_any}
 use Rattle.sdl_outcome.specs.declared.worker.Worker.{Worker}
 use Rattle.sdl_outcome.specs.declared.worker.Worker.TheVariants.{Block, Environment, Forwarder}

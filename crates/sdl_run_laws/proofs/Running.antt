@@ -7,7 +7,7 @@ use Rattle.sdl_behaviour.specs.declared.step.Action.TheVariants as action
 use Rattle.sdl_behaviour.specs.declared.step.Dest.TheVariants as dest
 use Rattle.sdl_transition.specs.Offers.{Conforms, IsActionOf, IsLegalValue}
 use Rattle.sdl_agents.specs.Tables.{EchoMay}
-use Rattle.sdl_instances.specs.declared.event.Event.TheVariants as event
+use Rattle.sdl_log.specs.declared.event.Event.TheVariants as event
 use Rattle.sdl_instances.specs.Record.{Record}
 use Rattle.sdl_instances.specs.Machine.{System, next_any}
 use Rattle.sdl_instances.specs.Run.{IsRun}

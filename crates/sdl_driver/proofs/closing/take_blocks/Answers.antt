@@ -1,6 +1,6 @@
 use Rattle.std.proofs.Common.{◌≡◌, ◌+◌, map, length, arith}
 use Rattle.sdl_block.specs.Workers.{worker_of, behaviours_of}
-use Rattle.sdl_outcome.specs.Lists.{items_in, held_in}
+use Rattle.sdl_outcome.specs.Lists.{held_in}
 use Rattle.sdl_order.specs.Driver.{block_hand}
 use Rattle.sdl_driver.proofs.Rooms.{come_over, fewer_by_one, room_as}
 use Rattle.sdl_driver.proofs.closing.take_blocks.Goals as goal
@@ -16,7 +16,7 @@ loop-rest-preserved g c =
     record {
       room = c.take_block.ensures.room (length fewer) (length fewer) (room_as c.loop-rest.room (length rest) (length rest) (length fewer + 1) (length fewer + 1) one one inv.room);
       parts = come_over behaviours_of c.loop-rest.room.parts.items c.take_block.new.self.parts.items _ w rest fewer cut c.take_block.ensures.parts inv.parts;
-      logs = come_over (λ v. (worker_of v).core.log) (map items_in c.loop-rest.room.logs.items) (map items_in c.take_block.new.self.logs.items) _ w rest fewer cut c.take_block.ensures.logs inv.logs;
+      logs = come_over (λ v. (worker_of v).core.log) (map g.K.Keeps.events c.loop-rest.room.logs.items) (map g.K.Keeps.events c.take_block.new.self.logs.items) _ w rest fewer cut c.take_block.ensures.logs inv.logs;
       hands = come_over (λ v. block_hand (worker_of v)) (map held_in c.loop-rest.room.hands.items) (map held_in c.take_block.new.self.hands.items) _ w rest fewer cut c.take_block.ensures.hands inv.hands;
       more = λ m h. c.take_block.ensures.room (length fewer) (length fewer + m) (room_as c.loop-rest.room (length rest) (length rest + m) (length fewer + 1) (length fewer + m + 1) one (omega arith) (inv.more m h));
     }

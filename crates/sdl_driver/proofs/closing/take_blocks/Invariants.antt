@@ -1,7 +1,7 @@
 use Rattle.std.proofs.Common.{◌≡◌, ℕ, ◌+◌, ◌++◌, map, length}
 use Rattle.sdl_block.specs.Workers.{worker_of, behaviours_of}
 use Rattle.sdl_driver.specs.Closings.{HasRoom}
-use Rattle.sdl_outcome.specs.Lists.{items_in, held_in}
+use Rattle.sdl_outcome.specs.Lists.{held_in}
 use Rattle.sdl_order.specs.Driver.{block_hand}
 use Rattle.sdl_driver.proofs.closing.take_blocks.Given as goal
 
@@ -9,7 +9,7 @@ abbrev pub invariant-loop-rest : goal.invariant-loop-rest
 invariant-loop-rest g l = record {
   room : HasRoom (length l.rest.items) (length l.rest.items) l.room;
   parts : l.room.parts.items ++ map behaviours_of l.rest.items ≡ l.fn.room.parts.items ++ map behaviours_of l.fn.blocks.items;
-  logs : map items_in l.room.logs.items ++ map (λ w. (worker_of w).core.log) l.rest.items ≡ map items_in l.fn.room.logs.items ++ map (λ w. (worker_of w).core.log) l.fn.blocks.items;
+  logs : map g.K.Keeps.events l.room.logs.items ++ map (λ w. (worker_of w).core.log) l.rest.items ≡ map g.K.Keeps.events l.fn.room.logs.items ++ map (λ w. (worker_of w).core.log) l.fn.blocks.items;
   hands : map held_in l.room.hands.items ++ map (λ w. block_hand (worker_of w)) l.rest.items ≡ map held_in l.fn.room.hands.items ++ map (λ w. block_hand (worker_of w)) l.fn.blocks.items;
   more : (more : ℕ) → HasRoom (length l.fn.blocks.items) (length l.fn.blocks.items + more) l.fn.room → HasRoom (length l.rest.items) (length l.rest.items + more) l.room;
 }

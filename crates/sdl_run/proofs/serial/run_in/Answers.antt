@@ -44,9 +44,9 @@ of_blocks-requires g c = system_kept g.S.Agents.may c.args.system.checked c.args
 pub returns-in-Ok-clause-ended : goal.returns-in-Ok-clause-ended
 returns-in-Ok-clause-ended g c =
     ended_of g.S.Agents.may (record { checked = c.args.system.checked; routes = c.args.system.routes; blocks = c.in-Ok.blocks; environment = c.new-environment.result; forwarders = c.args.start_room.forwarders; board = c.args.start_room.board; budget = c.args.budget })
-    c.args.system.blocks.items (outcome_in c.drive.result) c.drive.result.end c.drive.result.ledger c.in-Ok.ensures.parts c.drive.ensures.ended
+    c.args.system.blocks.items (outcome_in g.K.Keeps.events c.drive.result) c.drive.result.end c.drive.result.ledger c.in-Ok.ensures.parts c.drive.ensures.ended
 
 pub returns-in-Ok-clause-run : goal.returns-in-Ok-clause-run
 returns-in-Ok-clause-run g c =
     run_of g.S.Agents.may (record { checked = c.args.system.checked; routes = c.args.system.routes; blocks = c.in-Ok.blocks; environment = c.new-environment.result; forwarders = c.args.start_room.forwarders; board = c.args.start_room.board; budget = c.args.budget })
-    c.args.system.blocks.items c.args.schedule.now c.drive.result c.in-Ok.ensures.parts c.drive.ensures.run
+    c.args.system.blocks.items c.args.schedule.now g.K.Keeps.events c.drive.result c.in-Ok.ensures.parts c.drive.ensures.run

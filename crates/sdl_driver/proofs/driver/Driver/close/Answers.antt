@@ -19,7 +19,7 @@ pub of-ledger-requires : goal.of-ledger-requires
 of-ledger-requires g c =
     let left = c.leave-bound.result in
     subst CountsFit
-    (sym (same_shown left.logs.items c.as_slice-2.result.now left.env_put.items c.as_slice-3.result.now left.env_received.items c.as_slice-4.result.now left.hands.items c.as_slice-5.result.now left.rests.items c.as_slice-6.result.now
+    (sym (same_shown g.K.Keeps.events left.logs.items c.as_slice-2.result.now left.env_put.items c.as_slice-3.result.now left.env_received.items c.as_slice-4.result.now left.hands.items c.as_slice-5.result.now left.rests.items c.as_slice-6.result.now
     c.as_slice-2.ensures.value c.as_slice-3.ensures.value c.as_slice-4.ensures.value c.as_slice-5.ensures.value c.as_slice-6.ensures.value ∙ c.leave-bound.ensures.outcome))
     (fits g.S.Agents.may c.args.self c.requires.driving)
 
@@ -33,19 +33,19 @@ returns-clause-ended g c =
     let spent = c.first_spent-spent.result in
     let ledger = c.of-ledger.result in
     let slices =
-    same_shown left.logs.items c.as_slice-2.result.now left.env_put.items c.as_slice-3.result.now left.env_received.items c.as_slice-4.result.now left.hands.items c.as_slice-5.result.now rests c.as_slice-6.result.now
+    same_shown g.K.Keeps.events left.logs.items c.as_slice-2.result.now left.env_put.items c.as_slice-3.result.now left.env_received.items c.as_slice-4.result.now left.hands.items c.as_slice-5.result.now rests c.as_slice-6.result.now
     c.as_slice-2.ensures.value c.as_slice-3.ensures.value c.as_slice-4.ensures.value c.as_slice-5.ensures.value c.as_slice-6.ensures.value in
-    let counts : IsLedgerOf (outcome_left left) (waiting_in (finals_of (site_of d))) ledger =
-    subst (λ (n : ℕ). IsLedgerOf (outcome_left left) n ledger) c.waiting-waiting.ensures (subst (λ (o : Outcome). IsLedgerOf o c.waiting-waiting.result ledger) slices c.of-ledger.ensures) in
-    let P : RunEnd → Type 0 = λ e. HasEnded may (plan_of d) (outcome_left left) e ledger in
+    let counts : IsLedgerOf (outcome_left g.K.Keeps.events left) (waiting_in (finals_of (site_of d))) ledger =
+    subst (λ (n : ℕ). IsLedgerOf (outcome_left g.K.Keeps.events left) n ledger) c.waiting-waiting.ensures (subst (λ (o : Outcome). IsLedgerOf o c.waiting-waiting.result ledger) slices c.of-ledger.ensures) in
+    let P : RunEnd → Type 0 = λ e. HasEnded may (plan_of d) (outcome_left g.K.Keeps.events left) e ledger in
     let settled : (b : Bool) → c.are_settled-settled.result ≡ b → MatchBool b (AllDone (site_of d).blocks) (SomeUndone (site_of d).blocks) =
     λ b e. subst (λ (x : Bool). MatchBool x (AllDone (site_of d).blocks) (SomeUndone (site_of d).blocks)) e c.are_settled-settled.ensures in
     elim c.if-settled.branch [
       | then-settled w ↦ subst P (sym (c.end_of.ensures ∙ ap (λ (q : Bool). end_by c.args.refused spent q) w.quiet-is))
-          (closes may d c.requires.driving (outcome_left left) same rests (ap (λ (o : Outcome). o.rests) same) ledger counts c.args.refused spent c.requires.refused c.first_spent-spent.ensures true w.is_all_empty-quiet.result
+          (closes may d c.requires.driving (outcome_left g.K.Keeps.events left) same rests (ap (λ (o : Outcome). o.rests) same) ledger counts c.args.refused spent c.requires.refused c.first_spent-spent.ensures true w.is_all_empty-quiet.result
           (settled true w.if-settled.true) (subst (λ (rs : List (Station × Rest)). MatchBool w.is_all_empty-quiet.result (AllLeft rs) (SomeLeft rs)) w.as_slice.ensures.value w.is_all_empty-quiet.ensures))
       | else-settled w ↦ subst P (sym (c.end_of.ensures ∙ ap (λ (q : Bool). end_by c.args.refused spent q) w.quiet-is))
-          (closes_unsettled may d c.requires.driving (outcome_left left) same rests (ap (λ (o : Outcome). o.rests) same) ledger counts c.args.refused spent c.requires.refused c.first_spent-spent.ensures (settled false w.if-settled.false))
+          (closes_unsettled may d c.requires.driving (outcome_left g.K.Keeps.events left) same rests (ap (λ (o : Outcome). o.rests) same) ledger counts c.args.refused spent c.requires.refused c.first_spent-spent.ensures (settled false w.if-settled.false))
     ]
 
 pub returns-clause-reading : goal.returns-clause-reading

@@ -1,4 +1,4 @@
-use Rattle.std.proofs.Common.{◌≡◌, sym, ◌∙◌}
+use Rattle.std.proofs.Common.{◌≡◌, refl, sym, ◌∙◌, arith}
 use Rattle.sdl_instances.specs.Run.{turns}
 use Rattle.sdl_hand.specs.Work.{Working}
 use Rattle.sdl_block.specs.Workers.{worker_of}
@@ -9,8 +9,8 @@ use Rattle.sdl_driver.proofs.driver.Driver.first_spent.Goals as goal
 pub returns-then-made-self : goal.returns-then-made-self
 returns-then-made-self g c = (
   (
-    worker_of c.block-item.result,
-    mapped_in worker_of c.args.self.now.blocks.items c.deref-block-items.result.now c.deref-block-items.ensures.value c.loop-number.number c.block-item.result c.loop-number-test.true c.block-item.is,
+    worker_of c.index.result.now,
+    mapped_in worker_of c.args.self.now.blocks.items c.args.self.now.blocks.items refl c.loop-number.number c.index.result.now (omega (arith, c.loop-number-test.true, c.len-number-end.ensures)) c.index.ensures,
     sym c.made.ensures ∙ c.if-made-self.true,
   ),
   λ a v less at used. c.loop-number.invariant a v less at used,
@@ -18,10 +18,10 @@ returns-then-made-self g c = (
 
 pub loop-number-preserved : goal.loop-number-preserved
 loop-number-preserved g c =
-    one_further (λ (w : Working). turns w.core.log ≡ c.args.self.now.budget → ⊥) (site_of c.args.self.now).blocks c.loop-number.number (worker_of c.block-item.result)
-    (mapped_in worker_of c.args.self.now.blocks.items c.deref-block-items.result.now c.deref-block-items.ensures.value c.loop-number.number c.block-item.result c.loop-number-test.true c.block-item.is)
+    one_further (λ (w : Working). turns w.core.log ≡ c.args.self.now.budget → ⊥) (site_of c.args.self.now).blocks c.loop-number.number (worker_of c.index.result.now)
+    (mapped_in worker_of c.args.self.now.blocks.items c.args.self.now.blocks.items refl c.loop-number.number c.index.result.now (omega (arith, c.loop-number-test.true, c.len-number-end.ensures)) c.index.ensures)
     (λ used. c.if-made-self.false (c.made.ensures ∙ used)) c.loop-number.invariant
 
 pub returns : goal.returns
 returns g c = all_seen (λ (w : Working). turns w.core.log ≡ c.args.self.now.budget → ⊥) (site_of c.args.self.now).blocks c.loop-number.number
-    (past_in worker_of c.args.self.now.blocks.items c.deref-block-items.result.now c.deref-block-items.ensures.value c.loop-number.number c.loop-number-test.false) c.loop-number.invariant
+    (past_in worker_of c.args.self.now.blocks.items c.args.self.now.blocks.items refl c.loop-number.number (omega (arith, c.loop-number-test.false, c.len-number-end.ensures))) c.loop-number.invariant

@@ -2,7 +2,7 @@ use Rattle.std.proofs.Common.{◌+◌, ◌++◌, ◌∷◌, List, [], length, ma
 use Rattle.sdl_block.specs.Workers.{worker_of, behaviours_of}
 use Rattle.sdl_outcome.specs.Outcome.{WorkerHand}
 use Rattle.sdl_order.specs.Driver.{block_hand, env_hand, forwarder_hand}
-use Rattle.sdl_outcome.specs.Lists.{items_in, held_in}
+use Rattle.sdl_outcome.specs.Lists.{held_in}
 use Rattle.sdl_driver.proofs.Rooms.{hand, hand_is, map_push}
 use Rattle.sdl_driver.proofs.Closes.{same_outcome, filled, joined, system_kept, less_room}
 use Rattle.sdl_driver.proofs.driver.Driver.leave.Goals as goal
@@ -30,11 +30,11 @@ unfolding hand
 returns-clause-outcome g c =
     let d = c.args.self in
     let room = c.take_forwarders.new.room in
-    let logs = map items_in room.logs.items in
+    let logs = map g.K.Keeps.events room.logs.items in
     let hands = map held_in room.hands.items in
     let logs_are : logs ≡ map (λ w. (worker_of w).core.log) d.blocks.items =
-    ap (λ v. map items_in v.items) (c.take_forwarders.ensures.logs ∙ c.take_hand.ensures.logs)
-    ∙ filled (map items_in c.args.room.logs.items) (map items_in c.take_blocks.new.room.logs.items) (map (λ w. (worker_of w).core.log) d.blocks.items) (ap (map items_in) c.requires.empty.1) c.take_blocks.ensures.logs in
+    ap (λ v. map g.K.Keeps.events v.items) (c.take_forwarders.ensures.logs ∙ c.take_hand.ensures.logs)
+    ∙ filled (map g.K.Keeps.events c.args.room.logs.items) (map g.K.Keeps.events c.take_blocks.new.room.logs.items) (map (λ w. (worker_of w).core.log) d.blocks.items) (ap (map g.K.Keeps.events) c.requires.empty.1) c.take_blocks.ensures.logs in
     let blocks_are : map held_in c.take_blocks.new.room.hands.items ≡ map (λ w. block_hand (worker_of w)) d.blocks.items =
     filled (map held_in c.args.room.hands.items) (map held_in c.take_blocks.new.room.hands.items) (map (λ w. block_hand (worker_of w)) d.blocks.items) (ap (map held_in) c.requires.empty.2) c.take_blocks.ensures.hands in
     let parts = c.into_parts-env.result in

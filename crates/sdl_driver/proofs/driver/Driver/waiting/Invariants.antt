@@ -2,5 +2,5 @@ use Rattle.std.proofs.Common.{◌≡◌, ◌+◌, drop, sum_by}
 use Rattle.sdl_driver.proofs.Waits.{at_block}
 use Rattle.sdl_driver.proofs.driver.Driver.waiting.Given as goal
 
-abbrev pub invariant-loop-block : goal.invariant-loop-block
-invariant-loop-block g l = l.waiting + sum_by at_block (drop l.block-index l.self.blocks.items) ≡ sum_by at_block l.self.blocks.items
+abbrev pub invariant-loop-number : goal.invariant-loop-number
+invariant-loop-number g l = l.waiting + sum_by at_block (drop l.number l.self.blocks.items) ≡ sum_by at_block l.self.blocks.items

@@ -5,7 +5,7 @@ use Rattle.sdl_signal.specs.declared.ids.SignalId.{SignalId}
 use Rattle.sdl_behaviour.specs.declared.step.Frame.{Frame}
 use Rattle.sdl_transition.specs.Offers.{IsFrameOf}
 use Rattle.sdl_transition.specs.Rules.{rule_of, row_for, block_rules}
-use Rattle.sdl_instances.specs.declared.event.Trigger.TheVariants as trigger
+use Rattle.sdl_log.specs.declared.event.Trigger.TheVariants as trigger
 use Rattle.sdl_processes.specs.Record.{consumed}
 use Rattle.sdl_instances.specs.Core.{Core, system_of}
 use Rattle.sdl_instances.specs.CoreOf.{core_of, system_in}
@@ -96,8 +96,8 @@ returns-in-Some-clause-fires g c =
     let signal = c.signal_of.ensures item.signal (shown_signal c.args.frame p next.0 c.args.state item taken.0 next.5 taken.1 next.4) in
     let row : row_for rules.0.rows c.args.state item.signal.id ≡ Some rule = ap (λ (s : SignalId). row_for rules.0.rows c.args.state s) (sym signal) ∙ c.in-Some.ensures.row rules.0 of_set in
     let stands = subst (λ (m : Core). StandsAt m.state place p t) (sym taken.2) (stands_consumed core.state place p next.0 t next.3) in
-    let done = subst (λ (m : Core). Completes may (system_of m c.args.routes.now (block_rules c.args.self.now.parts)) c.args.pick p (trigger.Fire item) c.args.frame c.fire-step.result m c.complete.result.items c.complete.new.self.core) taken.2 (c.complete.ensures t stands) in
-    fires_row may sys c.args.pick place p c.args.frame core c.complete.result.items c.complete.new.self.core next.0 next.3 rules.0 rule c.fire-step.result c.args.state item taken.0 mid
+    let done = subst (λ (m : Core). Completes may (system_of m c.args.routes.now (block_rules c.args.self.now.parts)) c.args.pick p (trigger.Fire item) c.args.frame c.fire-step.result m c.complete.new.hand.items c.complete.new.self.core) taken.2 (c.complete.ensures t stands) in
+    fires_row may sys c.args.pick place p c.args.frame core c.complete.new.hand.items c.complete.new.self.core next.0 next.3 rules.0 rule c.fire-step.result c.args.state item taken.0 mid
     next.5 taken.1 rules.1 row next.4 c.fire-step.ensures.allowed c.fire-step.ensures.conforms refl done
 
 pub returns-in-None-clause-fires : goal.returns-in-None-clause-fires
@@ -114,5 +114,5 @@ returns-in-None-clause-fires g c =
     let taken = c.consume-item-in-None.ensures.consumed p next.0 next.3 in
     let signal = c.signal_of.ensures item.signal (shown_signal c.args.frame p next.0 c.args.state item taken.0 next.5 taken.1 next.4) in
     let none : row_for rules.0.rows c.args.state item.signal.id ≡ None = ap (λ (s : SignalId). row_for rules.0.rows c.args.state s) (sym signal) ∙ c.in-None.ensures.row rules.0 of_set in
-    lets_go may sys c.args.pick place p c.args.frame core c.new.result.items c.skip.new.self.core next.0 next.3 rules.0 c.args.state item taken.0 c.consume-item-in-None.new.self.core
-    next.5 taken.1 rules.1 none next.4 c.new.ensures taken.2 c.skip.ensures
+    lets_go may sys c.args.pick place p c.args.frame core c.args.hand.now.items c.skip.new.self.core next.0 next.3 rules.0 c.args.state item taken.0 c.consume-item-in-None.new.self.core
+    next.5 taken.1 rules.1 none next.4 c.requires.hand taken.2 c.skip.ensures

@@ -61,7 +61,7 @@ returns-clause-fires g c =
     let rules = rules_at_place may sys core c.requires.sound c.args.place p next.0 next.1 in
     let of_set = sym (rules_of_set sys p c.set_of.result c.set_of.ensures) ∙ rules.1 in
     let is = c.start.ensures.start rules.0 of_set in
-    starts may sys c.args.pick c.args.place p c.args.frame core c.complete.result.items c.complete.new.self.core next.0 next.1 rules.0 c.fire-step.result next.3 rules.1 next.2
+    starts may sys c.args.pick c.args.place p c.args.frame core c.complete.new.hand.items c.complete.new.self.core next.0 next.1 rules.0 c.fire-step.result next.3 rules.1 next.2
     (subst (λ (x : Rule). may x.number c.args.frame c.fire-step.result) is c.fire-step.ensures.allowed)
     (subst (λ (x : Rule). ∥ Conforms x.offer c.fire-step.result ∥₁) is c.fire-step.ensures.conforms)
     (c.complete.ensures next.0 next.1)

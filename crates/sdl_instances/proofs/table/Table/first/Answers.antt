@@ -6,7 +6,7 @@ use Rattle.sdl_instances.proofs.table.Table.first.Goals as goal
 pub invariant_of-result : goal.invariant_of-result
 invariant_of-result g c =
     let none = initial_waiting c.args.parts.now.block (block_rules c.args.parts.now) 0 c.as_slice-2.result.now in
-    rw (c.new.ensures.items, c.in_ok-instances.ensures, c.in_ok-first_living.ensures) (record {
+    rw (c.new.ensures, c.in_ok-instances.ensures, c.in_ok-first_living.ensures) (record {
       outputs_are = refl;
       stamp_is = refl;
       made_are = refl;

@@ -1,7 +1,7 @@
 //! The events of a block, as its log keeps them.
 use arrayvec::ArrayVec;
+use sdl_behaviour::{Frame, Step};
 use sdl_signal::{Item, Origin, Pid, SignalId};
-use sdl_transition::{Frame, Step};
 
 /// Why a signal was discarded on its arrival. (Z.101 discards a signal that no instance can take; the moment is this
 /// project's own.)
@@ -67,6 +67,17 @@ pub enum Event {
         /// After a stop, the number of signals that were in the port, which are discarded with it.
         stopped: Option<u64>,
     },
+}
+
+/// What a turn of the block did, where the items that it sent were put into a hand.
+#[derive(Clone, Copy, Debug, PartialEq, Eq)]
+pub enum Turn {
+    /// No instance is ready: each has started, and each port is empty.
+    Idle,
+    /// One is ready, and the budget is used.
+    Spent,
+    /// The instance made a transition, and the items in the hand are to be put on their way.
+    Fired(Pid),
 }
 
 /// What a turn of the block did.

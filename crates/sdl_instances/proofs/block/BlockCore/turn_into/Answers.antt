@@ -6,8 +6,8 @@ use Rattle.sdl_instances.specs.Core.{Core, system_of}
 use Rattle.sdl_instances.specs.CoreOf.{core_of, system_in}
 use Rattle.sdl_instances.specs.Living.{StandsAt, next_frame}
 use Rattle.sdl_instances.specs.Turning.{Fires}
-use Rattle.sdl_instances.proofs.Firing.{fired_answers, fired_sound, fired_legal}
-use Rattle.sdl_instances.proofs.block.BlockCore.turn.Goals as goal
+use Rattle.sdl_instances.proofs.Firing.{fired_answers, fired_sound, fired_legal, fired_few}
+use Rattle.sdl_instances.proofs.block.BlockCore.turn_into.Goals as goal
 
 pub turn_at-requires-clause-next : goal.turn_at-requires-clause-next
 turn_at-requires-clause-next g c =
@@ -35,8 +35,8 @@ returns-in_ok-make_room-in-Next-clause-answers g c =
     let at = subst (λ (m : Core). StandsAt m.state c.in-Next.place p r) (sym c.in_ok-make_room-in-Next.ensures.same) found.1.1.1 in
     let pid : q ≡ p = ap (λ (f : Frame). f.self_pid) (c.frame-frame.ensures p r at) in
     let new = core_of c.turn_at.new.self in
-    let fired = subst (λ (m : Core). Fires may (system_of m c.args.routes.now (block_rules c.args.self.now.parts)) c.args.pick q m c.turn_at.result.items new) c.in_ok-make_room-in-Next.ensures.same c.turn_at.ensures.fires in
-    fired_answers may sys c.args.pick c.in-Next.place p q core c.turn_at.result.items new c.requires.sound found.0 fired pid found.1.1 c.turn_at.result refl
+    let fired = subst (λ (m : Core). Fires may (system_of m c.args.routes.now (block_rules c.args.self.now.parts)) c.args.pick q m c.turn_at.new.hand.items new) c.in_ok-make_room-in-Next.ensures.same c.turn_at.ensures.fires in
+    fired_answers may sys c.args.pick c.in-Next.place p q core c.turn_at.new.hand.items new c.requires.sound found.0 fired pid found.1.1 c.turn_at.new.hand refl
 
 pub returns-in_ok-make_room-in-Next-clause-sound : goal.returns-in_ok-make_room-in-Next-clause-sound
 returns-in_ok-make_room-in-Next-clause-sound g c =
@@ -46,8 +46,8 @@ returns-in_ok-make_room-in-Next-clause-sound g c =
     let found = c.in-Next.ensures in
     let q = c.frame-frame.result.self_pid in
     let new = core_of c.turn_at.new.self in
-    let fired = subst (λ (m : Core). Fires may (system_of m c.args.routes.now (block_rules c.args.self.now.parts)) c.args.pick q m c.turn_at.result.items new) c.in_ok-make_room-in-Next.ensures.same c.turn_at.ensures.fires in
-    fired_sound may sys c.args.pick c.in-Next.place q q core c.turn_at.result.items new c.requires.sound found.0 fired
+    let fired = subst (λ (m : Core). Fires may (system_of m c.args.routes.now (block_rules c.args.self.now.parts)) c.args.pick q m c.turn_at.new.hand.items new) c.in_ok-make_room-in-Next.ensures.same c.turn_at.ensures.fires in
+    fired_sound may sys c.args.pick c.in-Next.place q q core c.turn_at.new.hand.items new c.requires.sound found.0 fired
 
 pub returns-in_ok-make_room-in-Next-clause-legal : goal.returns-in_ok-make_room-in-Next-clause-legal
 returns-in_ok-make_room-in-Next-clause-legal g c =
@@ -57,5 +57,16 @@ returns-in_ok-make_room-in-Next-clause-legal g c =
     let found = c.in-Next.ensures in
     let q = c.frame-frame.result.self_pid in
     let new = core_of c.turn_at.new.self in
-    let fired = subst (λ (m : Core). Fires may (system_of m c.args.routes.now (block_rules c.args.self.now.parts)) c.args.pick q m c.turn_at.result.items new) c.in_ok-make_room-in-Next.ensures.same c.turn_at.ensures.fires in
-    fired_legal may sys c.args.pick c.in-Next.place q q core c.turn_at.result.items new c.requires.sound found.0 fired
+    let fired = subst (λ (m : Core). Fires may (system_of m c.args.routes.now (block_rules c.args.self.now.parts)) c.args.pick q m c.turn_at.new.hand.items new) c.in_ok-make_room-in-Next.ensures.same c.turn_at.ensures.fires in
+    fired_legal may sys c.args.pick c.in-Next.place q q core c.turn_at.new.hand.items new c.requires.sound found.0 fired
+
+pub returns-in_ok-make_room-in-Next-clause-few : goal.returns-in_ok-make_room-in-Next-clause-few
+returns-in_ok-make_room-in-Next-clause-few g c =
+    let may = g.S.Agents.may in
+    let sys = system_in c.args.self.now c.args.routes.now in
+    let core = core_of c.args.self.now in
+    let found = c.in-Next.ensures in
+    let q = c.frame-frame.result.self_pid in
+    let new = core_of c.turn_at.new.self in
+    let fired = subst (λ (m : Core). Fires may (system_of m c.args.routes.now (block_rules c.args.self.now.parts)) c.args.pick q m c.turn_at.new.hand.items new) c.in_ok-make_room-in-Next.ensures.same c.turn_at.ensures.fires in
+    fired_few may sys c.args.pick c.in-Next.place q q core c.turn_at.new.hand.items new c.requires.sound found.0 fired

@@ -1,0 +1,13 @@
+use Rattle.std.proofs.Common.{ap, ◌∙◌, ◌++◌, ◌∷◌, [], List}
+use Rattle.sdl_log.specs.declared.event.Event.{Event}
+use Rattle.sdl_log.specs.declared.event.Event.TheVariants as event
+use Rattle.sdl_log.proofs.Counting.{noted}
+use Rattle.sdl_log.proofs.unstored.UnstoredKeeps.turn.Goals as goal
+
+pub invariant_of-self : goal.invariant_of-self
+invariant_of-self c =
+    let u = c.self.inside in
+    let a = c.args in
+    let e : Event = event.Turn a.pid a.trigger a.frame a.step a.done a.stopped in
+    noted u.events u.history c.and_turn.result u.counts c.add_turn.new.self e c.self.invariant.0 c.self.invariant.1
+    (c.and_turn.ensures ∙ ap (λ (l : List Event). l ++ e ∷ []) c.replace-before.ensures.value) (c.add_turn.ensures.adds a.pid a.frame a.step) (c.add_turn.ensures.within u.events c.self.invariant.2)

@@ -1,0 +1,3 @@
+pub mod Log
+pub mod Past
+pub mod Counts

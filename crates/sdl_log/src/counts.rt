@@ -1,0 +1,128 @@
+//! What is counted of a block's log.
+ghost use Rattle.std.specs.Prelude.{◌≡◌, ◌+◌, ◌-◌, ◌^◌, ◌<◌, ◌≤◌, ℕ, Option, length, sum_by};
+ghost use Rattle.sdl_signal.specs.declared.values.Pid.{Pid};
+ghost use Rattle.sdl_signal.specs.declared.values.Item.{Item};
+ghost use Rattle.sdl_behaviour.specs.declared.step.Frame.{Frame};
+ghost use Rattle.sdl_behaviour.specs.declared.step.Step.{Step};
+ghost use Rattle.sdl_log.specs.declared.event.Event.TheVariants as event;
+ghost use Rattle.sdl_log.specs.Counts.{AddsEvent, AreWithin, CanCount, output_by, no_route_by};
+
+use crate::event::{Cause, Done, Event, Trigger};
+use arrayvec::ArrayVec;
+
+/// What became of a block's signals, counted (this project's own). Fewer than 2^64 events fill no count.
+#[derive(Clone, Copy, Debug, Default, PartialEq, Eq)]
+pub struct Counts {
+    /// The outputs, with or without a route.
+    pub output: u128,
+    /// The outputs that no route fits.
+    pub no_route: u128,
+    /// The signals that entered an input port.
+    pub entered: u128,
+    /// The signals that were discarded since their set had no living instance.
+    pub no_instance: u128,
+    /// The signals that were discarded since the instance that TO named did not live.
+    pub gone: u128,
+    /// The signals that were consumed by a row.
+    pub fired: u128,
+    /// The signals that were consumed by the implicit transition.
+    pub implicit: u128,
+    /// The signals that were in the port of an instance when it stopped.
+    pub stopped: u128,
+}
+
+impl Counts {
+    /// Counts an event.
+    pub(crate) fn add(&mut self, event: &Event)
+        requires { CanCount self.old }
+        ensures adds { AddsEvent self.old event.now self.new }
+        ensures within { (n : ℕ) → AreWithin n self.old → AreWithin (n + 1) self.new }
+    {
+        match event {
+            Event::Entered(_, _) => self.add_entered(),
+            Event::Discarded(_, cause) => self.add_discarded(*cause),
+            Event::Turn {
+                pid: _,
+                trigger,
+                frame: _,
+                step: _,
+                done,
+                stopped,
+            } => self.add_turn(trigger, done, *stopped),
+        }
+    }
+
+    /// Counts a signal that entered a port.
+    pub(crate) fn add_entered(&mut self)
+        requires { CanCount self.old }
+        ensures adds { (i : Item) (p : Pid) → AddsEvent self.old (event.Entered i p) self.new }
+        ensures within { (n : ℕ) → AreWithin n self.old → AreWithin (n + 1) self.new }
+    {
+        self.entered += 1;
+    }
+
+    /// Counts a signal that was discarded on its arrival.
+    pub(crate) fn add_discarded(&mut self, cause: Cause)
+        requires { CanCount self.old }
+        ensures adds { (i : Item) → AddsEvent self.old (event.Discarded i cause) self.new }
+        ensures within { (n : ℕ) → AreWithin n self.old → AreWithin (n + 1) self.new }
+    {
+        match cause {
+            Cause::NoInstance => self.no_instance += 1,
+            Cause::Gone => self.gone += 1,
+        }
+    }
+
+    /// Counts what a turn consumed, put out and dropped.
+    pub(crate) fn add_turn(
+        &mut self,
+        trigger: &Trigger,
+        done: &ArrayVec<Done, 8>,
+        stopped: Option<u64>,
+    )
+        requires { CanCount self.old }
+        ensures adds { (p : Pid) (f : Frame) (s : Option Step) → AddsEvent self.old (event.Turn p trigger.now f s done.now stopped) self.new }
+        ensures within { (n : ℕ) → AreWithin n self.old → AreWithin (n + 1) self.new }
+    {
+        match trigger {
+            Trigger::Start => {}
+            Trigger::Fire(_) => self.fired += 1,
+            Trigger::Implicit(_) => self.implicit += 1,
+        }
+        self.output += number_of_outputs(done.as_slice()) as u128;
+        self.no_route += number_without_route(done.as_slice()) as u128;
+        if let Some(dropped) = stopped {
+            self.stopped += dropped as u128;
+        }
+    }
+}
+
+/// The number of outputs, with or without a route.
+fn number_of_outputs(done: &[Done]) -> u64
+    ensures counted { result ≡ sum_by output_by done.now }
+    ensures few { result ≤ length done.now }
+{
+    let mut outputs: u64 = 0;
+    for one in done {
+        match one {
+            Done::Sent(_) => outputs += 1,
+            Done::NoRoute(_, _) => outputs += 1,
+            Done::Made(_) => {}
+        }
+    }
+    outputs
+}
+
+/// The number of outputs that no route fits.
+fn number_without_route(done: &[Done]) -> u64
+    ensures counted { result ≡ sum_by no_route_by done.now }
+    ensures few { result ≤ length done.now }
+{
+    let mut outputs: u64 = 0;
+    for one in done {
+        if let Done::NoRoute(_, _) = one {
+            outputs += 1;
+        }
+    }
+    outputs
+}

@@ -1,0 +1,67 @@
+//! How a block keeps its log: whole, or counted alone.
+ghost use Rattle.std.specs.Prelude.{◌≡◌, ◌⊎◌, ◌++◌, ◌∷◌, ◌<◌, [], OnOk, length};
+ghost use Rattle.sdl_log.specs.declared.event.Event.TheVariants as event;
+ghost use Rattle.sdl_log.specs.Counts.{AreCountsOf};
+
+use crate::counts::Counts;
+use crate::event::{Cause, Done, Event, Trigger};
+use arrayvec::ArrayVec;
+use sdl_behaviour::{Frame, Step};
+use sdl_signal::{Item, Pid};
+use std::alloc::{AllocError, Global};
+
+/// A way to keep a log (this project's own). Whether its events are stored or not, contracts see the list of them.
+pub trait Keeps: Drop {
+    ghost use Rattle.std.specs.Prelude.{List, ℕ};
+    ghost use Rattle.sdl_log.specs.declared.event.Event.{Event};
+
+    /// The events of the log, the earliest first.
+    ghost events: { Self → List Event };
+
+    /// How many events it can hold without taking memory.
+    ghost capacity: { Self → ℕ };
+
+    /// The log without events. No memory is taken.
+    fn new(alloc: Global) -> Self
+        ensures { events result ≡ [] };
+
+    /// Makes room for one more event. A refusal changes nothing.
+    fn make_room(&mut self) -> Result<(), AllocError>
+        ensures same { events self.new ≡ events self.old }
+        ensures room { OnOk result (length (events self.new) < capacity self.new) };
+
+    /// Notes that the item entered the port of the instance.
+    fn enter(&mut self, item: Item, pid: Pid)
+        requires { length (events self.old) < capacity self.old }
+        ensures { events self.new ≡ events self.old ++ event.Entered item pid ∷ [] };
+
+    /// Notes that the item was discarded.
+    fn discard(&mut self, item: Item, cause: Cause)
+        requires { length (events self.old) < capacity self.old }
+        ensures { events self.new ≡ events self.old ++ event.Discarded item cause ∷ [] };
+
+    /// Notes a turn, by its parts.
+    fn turn(
+        &mut self,
+        pid: Pid,
+        trigger: Trigger,
+        frame: Frame,
+        step: Option<Step>,
+        done: ArrayVec<Done, 8>,
+        stopped: Option<u64>,
+    )
+        requires { length (events self.old) < capacity self.old }
+        ensures { events self.new ≡ events self.old ++ event.Turn pid trigger frame step done stopped ∷ [] };
+
+    /// The events that are stored: all, or none. No memory is taken.
+    fn stored(&self) -> &[Event]
+        ensures { (result.now ≡ events self.now) ⊎ (result.now ≡ []) };
+
+    /// The number of events. No memory is taken.
+    fn number(&self) -> u64
+        ensures { result ≡ length (events self.now) };
+
+    /// What became of the signals of the events, counted. No memory is taken.
+    fn counts(&self) -> Counts
+        ensures { AreCountsOf (events self.now) result };
+}

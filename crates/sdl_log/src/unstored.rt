@@ -1,0 +1,96 @@
+//! A log that is counted, and not stored.
+use crate::counts::Counts;
+use crate::event::{Cause, Done, Event, Trigger};
+use crate::keeps::Keeps;
+use crate::past::History;
+use arrayvec::ArrayVec;
+use sdl_behaviour::{Frame, Step};
+use sdl_signal::{Item, Pid};
+use std::alloc::{AllocError, Global};
+use std::marker::Model;
+
+/// A log whose events are counted and not stored. It takes no memory, and has room for 2^64 - 1 events.
+#[derive(Drop)]
+pub struct Unstored {
+    events: u64,
+    counts: Counts,
+    history: History,
+}
+
+impl Model for Unstored {
+    ghost use Rattle.std.specs.Prelude.{List, ◌≡◌, length};
+    ghost use Rattle.sdl_log.specs.declared.event.Event.{Event};
+    ghost use Rattle.sdl_log.specs.Counts.{AreCountsOf, AreWithin};
+
+    ghost Value = { List Event };
+
+    ghost view = { λ u. u.history };
+
+    ghost invariant = { λ u. (u.events ≡ length u.history) × AreCountsOf u.history u.counts × AreWithin u.events u.counts };
+}
+
+impl Keeps for Unstored {
+    ghost use Rattle.std.specs.Prelude.{◌^◌, ◌-◌};
+
+    ghost events = { λ u. u };
+
+    ghost capacity = { λ _. 2 ^ 64 - 1 };
+
+    fn new(alloc: Global) -> Self {
+        let _ = alloc;
+        Unstored {
+            events: 0,
+            counts: Counts::default(),
+            history: History::new(),
+        }
+    }
+
+    fn make_room(&mut self) -> Result<(), AllocError> {
+        if self.events < u64::MAX {
+            Ok(())
+        } else {
+            Err(AllocError)
+        }
+    }
+
+    fn enter(&mut self, item: Item, pid: Pid) {
+        self.counts.add_entered();
+        self.events += 1;
+        let before = std::mem::replace(&mut self.history, History::new());
+        self.history = before.and_entered(&item, pid);
+    }
+
+    fn discard(&mut self, item: Item, cause: Cause) {
+        self.counts.add_discarded(cause);
+        self.events += 1;
+        let before = std::mem::replace(&mut self.history, History::new());
+        self.history = before.and_discarded(&item, cause);
+    }
+
+    fn turn(
+        &mut self,
+        pid: Pid,
+        trigger: Trigger,
+        frame: Frame,
+        step: Option<Step>,
+        done: ArrayVec<Done, 8>,
+        stopped: Option<u64>,
+    ) {
+        self.counts.add_turn(&trigger, &done, stopped);
+        self.events += 1;
+        let before = std::mem::replace(&mut self.history, History::new());
+        self.history = before.and_turn(pid, &trigger, &frame, &step, &done, stopped);
+    }
+
+    fn stored(&self) -> &[Event] {
+        &[]
+    }
+
+    fn number(&self) -> u64 {
+        self.events
+    }
+
+    fn counts(&self) -> Counts {
+        self.counts
+    }
+}
