@@ -1,0 +1,5 @@
+pub mod Stations
+pub mod Ends
+pub mod Index
+pub mod Held
+pub mod Shelves

@@ -1,0 +1,101 @@
+//! The ends of one worker.
+ghost use Rattle.std.specs.Prelude.{◌≡◌, ◌≢◌, [], ◌∷◌, ◌++◌, None, Some, map, IfOk, MatchOption, MatchResult};
+ghost use Rattle.sdl_routes.specs.declared.route.Station.{Station};
+ghost use Rattle.sdl_routes.specs.Routes.{EachOnce};
+ghost use Rattle.sdl_ends.specs.Stations.{stations_of};
+ghost use Rattle.sdl_ends.specs.Ends.{put_at, taken_by, HasFeed, IsSameEnds};
+ghost use Rattle.sdl_ends.specs.Held.{filled};
+
+use crate::Index;
+use sdl_queue::{Feed, Tap};
+use sdl_routes::Station;
+use sdl_signal::Item;
+use std::alloc::{AllocError, Global};
+use std::marker::Model;
+use std::sync::Wait;
+
+/// The ends of one worker: the tap of the station that it takes from, and a feed for each station that it puts at.
+#[derive(Drop)]
+pub struct Ends {
+    pub(crate) tap: Option<(Station, Tap)>,
+    /// `None` where the feed was given back.
+    pub(crate) feeds: Vec<(Station, Option<Feed>)>,
+    pub(crate) index: Index,
+}
+
+impl Model for Ends {
+    ghost use Rattle.sdl_ends.specs.Stations.{stations_of};
+    ghost use Rattle.sdl_ends.specs.Ends.{WorkerEnds};
+    ghost use Rattle.sdl_ends.specs.Held.{feeds_held};
+    ghost use Rattle.sdl_ends.specs.Index.{IsIndexOf};
+
+    ghost Value = { WorkerEnds };
+
+    ghost view = { λ e. record { tap = e.tap; feeds = feeds_held e.feeds.items } };
+
+    ghost invariant = { λ e. IsIndexOf e.index (stations_of e.feeds.items) };
+}
+
+impl Ends {
+    /// The ends of one worker: its tap, and its feeds, at most one for each station.
+    pub fn new(
+        alloc: Global,
+        tap: Option<(Station, Tap)>,
+        feeds: Vec<(Station, Feed)>,
+    ) -> Result<Ends, AllocError>
+        requires { EachOnce (stations_of feeds.items) }
+        ensures { IfOk result (λ e. e ≡ record { tap = tap; feeds = feeds.items }) }
+    {
+        let index = Index::of(alloc, feeds.as_slice())?;
+        let feeds = places_of(alloc, feeds)?;
+        Ok(Ends { tap, feeds, index })
+    }
+
+    /// Takes the item at the front of the worker's station. `None` where it was empty at some moment of the call, and for a
+    /// worker that takes from none. Takes no memory. May wait for other threads.
+    pub fn take<R: Wait>(&mut self, rt: &R) -> Option<Item>
+        ensures taken { MatchOption result (taken_by self.new ≡ taken_by self.old) (λ item. taken_by self.new ≡ taken_by self.old ++ item ∷ []) }
+        ensures feeds { self.new.feeds ≡ self.old.feeds }
+        ensures none { self.old.tap ≡ None → result ≡ None }
+        ensures same { IsSameEnds self.old self.new }
+    {
+        match &mut self.tap {
+            Some((_, tap)) => tap.take(rt),
+            None => None,
+        }
+    }
+
+    /// Puts the item at the station, where the worker has a feed. `Err` hands it back where memory was refused; nothing is put
+    /// then. May wait for other threads.
+    pub fn put<R: Wait>(&mut self, rt: &R, station: Station, item: Item) -> Result<(), Item>
+        requires { HasFeed self.old station }
+        ensures put { MatchResult result
+            (λ _. put_at self.new station ≡ put_at self.old station ++ item ∷ [])
+            (λ back. (back ≡ item) × (put_at self.new station ≡ put_at self.old station)) }
+        ensures others { (s : Station) → s ≢ station → put_at self.new s ≡ put_at self.old s }
+        ensures tap { self.new.tap ≡ self.old.tap }
+        ensures same { IsSameEnds self.old self.new }
+    {
+        let Some(place) = self.index.get(station) else {
+            unreachable!()
+        };
+        match &mut self.feeds[place].1 {
+            Some(feed) => feed.put(rt, item),
+            None => unreachable!(),
+        }
+    }
+}
+
+/// A place for each of the feeds, with the feed.
+fn places_of(
+    alloc: Global,
+    feeds: Vec<(Station, Feed)>,
+) -> Result<Vec<(Station, Option<Feed>)>, AllocError>
+    ensures { IfOk result (λ places. places.items ≡ map filled feeds.items) }
+{
+    let mut places = Vec::with_capacity(alloc, feeds.len())?;
+    for (station, feed) in feeds {
+        places.push((station, Some(feed)))?;
+    }
+    Ok(places)
+}

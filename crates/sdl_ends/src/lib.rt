@@ -1,0 +1,10 @@
+//! The ends of one worker, by station, and how the ends of all workers come back.
+#![tactic(auto)]
+
+pub mod ends;
+pub mod index;
+pub mod shelf;
+
+pub use ends::Ends;
+pub use index::Index;
+pub use shelf::{Shelf, ends_rejoin};

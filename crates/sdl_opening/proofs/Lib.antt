@@ -1,0 +1,10 @@
+pub mod Collected
+pub mod Counted
+pub mod Giving
+pub mod Dealing
+pub mod Laid
+pub mod Laying
+pub mod Bringing
+pub mod Takers
+pub mod Opened
+pub mod Using
