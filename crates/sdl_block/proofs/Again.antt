@@ -1,10 +1,9 @@
 -- After a step the next one can be made.
-use Rattle.std.proofs.Common.{◌≡◌, ℕ, List, [], ◌∷◌, ◌++◌, All, sym, ◌∙◌, subst, arith}
+use Rattle.std.proofs.Common.{◌≡◌, ℕ, List, [], ◌∷◌, ◌++◌, All, sym, ◌∙◌, subst}
 use Rattle.std.proofs.lemmas.List.Elements.{All-append, All-tail}
 use Rattle.sdl_signal.specs.declared.values.Item.{Item}
 use Rattle.sdl_routes.specs.declared.route.TableRow.{TableRow}
 use Rattle.sdl_routes.specs.declared.route.Station.{Station}
-use Rattle.sdl_routes.specs.declared.route.Station.TheVariants as station
 use Rattle.sdl_behaviour.specs.declared.step.Frame.{Frame}
 use Rattle.sdl_behaviour.specs.declared.step.Step.{Step}
 use Rattle.sdl_transition.specs.Rules.{Rules}
@@ -15,10 +14,10 @@ use Rattle.sdl_forward.specs.Boards.{IsBoardOf, AreAllStations}
 use Rattle.sdl_hand.specs.declared.hand.Stepped.{Stepped}
 use Rattle.sdl_hand.specs.declared.hand.Stepped.TheVariants.{Did, Idle, Memory}
 use Rattle.sdl_hand.specs.Work.{Working, Works, StepsAs}
-use Rattle.sdl_block.proofs.Parts.{no_part, works}
+use Rattle.sdl_block.proofs.OnBoard.{works_none}
 use Rattle.sdl_block.proofs.Systems.{same_system}
 
-all_behind : {X : Type 0} (P : X → Type 0) (xs ys : List X) → All P (xs ++ ys) → All P ys
+pub all_behind : {X : Type 0} (P : X → Type 0) (xs ys : List X) → All P (xs ++ ys) → All P ys
 all_behind P [] ys h = h
 all_behind P (x ∷ xs) ys h = all_behind P xs ys (All-tail P x (xs ++ ys) h)
 
@@ -29,7 +28,7 @@ module _ (may : ℕ → Frame → Step → Type 0) (sys : System) (old : Working
   works_so Idle (same, board, rest) sound =
       subst (λ (w : Working). Works may sys old before w after) (sym same)
       (subst (λ (b : List (Station × List Item)). Works may sys old before old b) (sym board)
-      (works may sys old before [] [] [] old before (omega arith) (no_part may sys (station.Inlet old.core.block) old before sound)))
+      (works_none may sys old before sound))
 
   module _ (answer : Stepped) (steps : StepsAs may sys old before answer new after) (sound : IsSound may sys old.core) (others : System) (same : others ≡ sys) where
     pub sound_again : IsSound may others new.core

@@ -2,6 +2,9 @@ pub mod Parts
 pub mod Systems
 pub mod Going
 pub mod Stepping
-pub mod Again
 pub mod Rounds
+pub mod OnBoard
+pub mod Again
+pub mod AtEnds
+pub mod Keeps
 pub mod Rows

@@ -1,23 +1,19 @@
--- A step is made of parts: what each part does to a block and its board, and that parts follow one another.
-use Rattle.std.proofs.Common.{◌≡◌, ◌≢◌, ℕ, ◌+◌, ◌*◌, ◌≤◌, List, [], ◌++◌, length, All, refl, ap, sym, ◌∙◌, subst, append_assoc, append-nil, length-append, arith}
+-- A step is made of parts: what each part does to a block and to the queues around it, and that parts follow one another.
+use Rattle.std.proofs.Common.{◌≡◌, ℕ, ◌+◌, ◌*◌, ◌≤◌, List, [], ◌++◌, length, All, refl, ap, sym, ◌∙◌, subst, append_assoc, append-nil, length-append, arith}
 use Rattle.std.specs.Option.{option_to_list}
 use Rattle.std.specs.List.{flat_map}
 use Rattle.std.proofs.lemmas.List.Concat.{flat_map-append}
 use Rattle.std.proofs.lemmas.List.Elements.{All-append, All-nil}
 use Rattle.std.proofs.lemmas.List.Sums.{sum_by-append}
 use Rattle.sdl_signal.specs.declared.values.Item.{Item}
-use Rattle.sdl_routes.specs.declared.route.Station.{Station}
-use Rattle.sdl_routes.specs.declared.route.Station.TheVariants as station
 use Rattle.sdl_behaviour.specs.declared.step.Frame.{Frame}
 use Rattle.sdl_behaviour.specs.declared.step.Step.{Step}
-use Rattle.sdl_instances.specs.declared.event.Event.{Event}
+use Rattle.sdl_log.specs.declared.event.Event.{Event}
 use Rattle.sdl_instances.specs.Machine.{System}
 use Rattle.sdl_instances.specs.Run.{arrived, arrived_in, done_in, sent, sent_by, all_done, turns, turn_in}
 use Rattle.sdl_instances.specs.Core.{Core, IsSound, IsLegalIn}
 use Rattle.sdl_instances.specs.Calls.{KeepsRest}
-use Rattle.sdl_forward.specs.Boards.{stations_of, waiting}
-use Rattle.sdl_hand.specs.Work.{Working, Works, beginning_at}
-use Rattle.sdl_hand.proofs.Fronts.{beginning-append}
+use Rattle.sdl_hand.specs.Work.{Working}
 
 pub sent-append : (xs ys : List Event) → sent (xs ++ ys) ≡ sent xs ++ sent ys
 sent-append xs ys = ap (flat_map sent_by) (flat_map-append done_in xs ys) ∙ flat_map-append sent_by (all_done xs) (all_done ys)
@@ -35,16 +31,28 @@ pub keeps-same : (a : Core) → KeepsRest a a
 keeps-same a = (refl, refl, refl, refl)
 
 -- two parts of what goes through, one behind the other: what was, with what came in, is what went out, with what is
-through : {X : Type 0} (was in1 out1 mid in2 out2 is : List X) → was ++ in1 ≡ out1 ++ mid → mid ++ in2 ≡ out2 ++ is → was ++ (in1 ++ in2) ≡ (out1 ++ out2) ++ is
+pub through : {X : Type 0} (was in1 out1 mid in2 out2 is : List X) → was ++ in1 ≡ out1 ++ mid → mid ++ in2 ≡ out2 ++ is → was ++ (in1 ++ in2) ≡ (out1 ++ out2) ++ is
 through was in1 out1 mid in2 out2 is h k =
     sym (append_assoc was in1 in2) ∙ ap (λ l. l ++ in2) h ∙ append_assoc out1 mid in2 ∙ ap (λ l. out1 ++ l) k ∙ sym (append_assoc out1 out2 is)
 
-module _ (may : ℕ → Frame → Step → Type 0) (sys : System) (inlet : Station) where
+-- The queues around a block, as a step finds them: a board, or the ends of a worker.
+pub record Queues (B : Type 0) : Type 1 where
+  -- so many items were put, and so many taken, and nothing else
+  pub Moves : List Item → List Item → B → B → Type 0
+  -- nothing was put or taken
+  pub Still : B → B → Type 0
+  -- no item is there to be taken
+  pub Empty : B → Type 0
+  pub still_moves : (a b : B) → Still a b → Moves [] [] a b
+  pub still_same : (b : B) → Still b b
+  pub still_then : (a b c : B) → Still a b → Still b c → Still a c
+  pub empty_before : (a b : B) → Still a b → Empty b → Empty a
+  pub moves_then : (put1 taken1 put2 taken2 : List Item) (a b c : B) → Moves put1 taken1 a b → Moves put2 taken2 b c → Moves (put1 ++ put2) (taken1 ++ taken2) a c
+
+module _ (may : ℕ → Frame → Step → Type 0) (sys : System) {B : Type 0} (q : Queues B) where
   -- a part of a step, with what it put, what it took, and the new events
-  pub record Part (old : Working) (before : List (Station × List Item)) (put taken : List Item) (events : List Event) (new : Working) (after : List (Station × List Item)) : Type 0 where
-    pub inlet_is : waiting before inlet ++ beginning_at sys.routes inlet put ≡ taken ++ waiting after inlet
-    pub others : (s : Station) → s ≢ inlet → waiting after s ≡ waiting before s ++ beginning_at sys.routes s put
-    pub stations : stations_of after ≡ stations_of before
+  pub record Part (old : Working) (before : B) (put taken : List Item) (events : List Event) (new : Working) (after : B) : Type 0 where
+    pub moves : q.Moves put taken before after
     pub came : option_to_list old.kept ++ taken ≡ arrived events ++ option_to_list new.kept
     pub went : put ++ new.outgoing ≡ old.outgoing ++ sent events
     pub log : new.core.log ≡ old.core.log ++ events
@@ -53,19 +61,12 @@ module _ (may : ℕ → Frame → Step → Type 0) (sys : System) (inlet : Stati
     pub legal : All (IsLegalIn sys) (sent events)
     pub few : length (sent events) ≤ 8 * turns events
 
-  pub part_then : (old : Working) (before : List (Station × List Item)) (put1 taken1 : List Item) (events1 : List Event) (mid : Working) (between : List (Station × List Item)) (put2 taken2 : List Item) (events2 : List Event) (new : Working) (after : List (Station × List Item))
+  pub part_then : (old : Working) (before : B) (put1 taken1 : List Item) (events1 : List Event) (mid : Working) (between : B) (put2 taken2 : List Item) (events2 : List Event) (new : Working) (after : B)
       → Part old before put1 taken1 events1 mid between → Part mid between put2 taken2 events2 new after
       → Part old before (put1 ++ put2) (taken1 ++ taken2) (events1 ++ events2) new after
   part_then old before put1 taken1 events1 mid between put2 taken2 events2 new after a b =
       record {
-        inlet_is =
-            ap (λ l. waiting before inlet ++ l) (beginning-append sys.routes inlet put1 put2)
-            ∙ through (waiting before inlet) (beginning_at sys.routes inlet put1) taken1 (waiting between inlet) (beginning_at sys.routes inlet put2) taken2 (waiting after inlet) a.inlet_is b.inlet_is;
-        others = λ s other.
-            b.others s other ∙ ap (λ l. l ++ beginning_at sys.routes s put2) (a.others s other)
-            ∙ append_assoc (waiting before s) (beginning_at sys.routes s put1) (beginning_at sys.routes s put2)
-            ∙ ap (λ l. waiting before s ++ l) (sym (beginning-append sys.routes s put1 put2));
-        stations = b.stations ∙ a.stations;
+        moves = q.moves_then put1 taken1 put2 taken2 before between after a.moves b.moves;
         came =
             through (option_to_list old.kept) taken1 (arrived events1) (option_to_list mid.kept) taken2 (arrived events2) (option_to_list new.kept) a.came b.came
             ∙ ap (λ l. l ++ option_to_list new.kept) (sym (arrived-append events1 events2));
@@ -83,12 +84,10 @@ module _ (may : ℕ → Frame → Step → Type 0) (sys : System) (inlet : Stati
       }
 
   -- the part that does nothing
-  pub no_part : (old : Working) (before : List (Station × List Item)) → IsSound may sys old.core → Part old before [] [] [] old before
-  no_part old before sound =
+  pub no_part : (old : Working) (before after : B) → q.Still before after → IsSound may sys old.core → Part old before [] [] [] old after
+  no_part old before after still sound =
       record {
-        inlet_is = append-nil (waiting before inlet);
-        others = λ s other. sym (append-nil (waiting before s));
-        stations = refl;
+        moves = q.still_moves before after still;
         came = append-nil (option_to_list old.kept);
         went = sym (append-nil old.outgoing);
         log = sym (append-nil old.core.log);
@@ -97,23 +96,3 @@ module _ (may : ℕ → Frame → Step → Type 0) (sys : System) (inlet : Stati
         legal = All-nil (IsLegalIn sys);
         few = omega arith;
       }
-
-abbrev pub works : (may : ℕ → Frame → Step → Type 0) (sys : System) (old : Working) (before : List (Station × List Item)) (put taken : List Item) (events : List Event) (new : Working) (after : List (Station × List Item))
-    → length taken ≤ 1 → Part may sys (station.Inlet old.core.block) old before put taken events new after → Works may sys old before new after
-works may sys old before put taken events new after one p =
-    record {
-      put = put;
-      taken = taken;
-      events = events;
-      one = one;
-      inlet = p.inlet_is;
-      others = p.others;
-      stations = p.stations;
-      came = p.came;
-      went = p.went;
-      log = p.log;
-      sound = p.sound;
-      rest = p.rest;
-      legal = p.legal;
-      few = p.few;
-    }

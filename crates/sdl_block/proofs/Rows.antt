@@ -1,10 +1,10 @@
 -- Rounds tried on small steps of the block of Spawn.
-use Rattle.std.proofs.Common.{◌≡◌, ℕ, List, [], ◌∷◌, inl, inr, Some, suc, refl, ap, length, arith}
+use Rattle.std.proofs.Common.{◌≡◌, List, [], ◌∷◌, inl, inr, Some, suc, refl, ap, length, arith}
 use Rattle.sdl_signal.specs.declared.values.Item.{Item}
 use Rattle.sdl_routes.specs.declared.route.Station.{Station}
 use Rattle.sdl_routes.specs.declared.route.Station.TheVariants as station
-use Rattle.sdl_instances.specs.declared.event.Event.{Event}
-use Rattle.sdl_instances.specs.declared.event.Event.TheVariants as event
+use Rattle.sdl_log.specs.declared.event.Event.{Event}
+use Rattle.sdl_log.specs.declared.event.Event.TheVariants as event
 use Rattle.sdl_instances.specs.Core.{Core}
 use Rattle.sdl_instances.specs.Spawn.{spawn, block, boss, kid, item, starts, at_first}
 use Rattle.sdl_hand.specs.declared.hand.Stepped.{Stepped}

@@ -1,5 +1,7 @@
 pub use Rattle.sdl_hand.specs.Work
 pub use Rattle.sdl_hand.specs.Puts
+pub use Rattle.sdl_hand.specs.Apart
 pub mod Workers
 pub mod Phases
 pub mod Rounds
+pub mod PhasesApart

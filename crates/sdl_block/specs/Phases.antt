@@ -6,8 +6,8 @@ use Rattle.sdl_routes.specs.declared.route.Station.{Station}
 use Rattle.sdl_routes.specs.declared.route.Station.TheVariants as station
 use Rattle.sdl_behaviour.specs.declared.step.Frame.{Frame}
 use Rattle.sdl_behaviour.specs.declared.step.Step.{Step}
-use Rattle.sdl_instances.specs.declared.event.Event.{Event}
-use Rattle.sdl_instances.specs.declared.event.Arrival.{Arrival}
+use Rattle.sdl_log.specs.declared.event.Event.{Event}
+use Rattle.sdl_log.specs.declared.event.Arrival.{Arrival}
 use Rattle.sdl_instances.specs.Machine.{System}
 use Rattle.sdl_instances.specs.Run.{sent, turns, turn_in}
 use Rattle.sdl_instances.specs.Core.{Core, IsReady, IsSound, IsLegalIn, arrival_event}
@@ -35,6 +35,12 @@ pub record LetsArrive (may : ℕ → Frame → Step → Type 0) (sys : System) (
   pub sound : IsSound may sys new.core
   pub rest : KeepsRest old.core new.core
   pub hand : (new.kept ≡ old.kept) × (new.outgoing ≡ old.outgoing)
+
+-- The item arrives, or it is refused and kept.
+abbrev pub ArrivesOrStays : (ℕ → Frame → Step → Type 0) → System → Working → Item → Result Bool Refused → Working → Type 0
+ArrivesOrStays may sys old i (Ok true) new = LetsArrive may sys old i new
+ArrivesOrStays may sys old i (Ok false) new = ⊥
+ArrivesOrStays may sys old i (Err _) new = new ≡ record old { kept = Some i }
 
 -- the budget is used
 abbrev pub IsSpent : Core → Type 0

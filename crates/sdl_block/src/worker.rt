@@ -1,12 +1,12 @@
 //! A block at work.
-ghost use Rattle.std.specs.Prelude.{◌≡◌, [], All, IsTrue, ◌↔◌, MatchResult};
+ghost use Rattle.std.specs.Prelude.{◌≡◌, [], All, IsTrue, ◌↔◌, MatchResult, false, ⊤};
 ghost use Rattle.sdl_signal.specs.declared.values.Pid.{Pid};
 ghost use Rattle.sdl_forward.specs.Boards.{IsBoardOf};
 ghost use Rattle.sdl_instances.specs.Core.{IsSound, IsLegalIn, IsReady};
 ghost use Rattle.sdl_instances.specs.CoreOf.{core_of, parts_of, CanFire};
 ghost use Rattle.sdl_instances.specs.Run.{turns, waiting};
 ghost use Rattle.sdl_hand.specs.Work.{with_core, StepsAs};
-ghost use Rattle.sdl_block.specs.Phases.{TakesFrom, LetsArrive, LetsIn, TriesTurn, StepsTo, PutsFirst, IsEmptyAfter};
+ghost use Rattle.sdl_block.specs.Phases.{TakesFrom, LetsArrive, ArrivesOrStays, LetsIn, TriesTurn, StepsTo, PutsFirst, IsEmptyAfter};
 ghost use Rattle.sdl_block.specs.Rounds.{IsOneRound};
 ghost use Rattle.sdl_hand.specs.Puts as puts;
 ghost use Rattle.sdl_block.specs.Workers.{worker_of, behaviours_of, system_around};
@@ -14,21 +14,21 @@ ghost use Rattle.sdl_block.specs.Workers.{worker_of, behaviours_of, system_aroun
 use arrayvec::ArrayVec;
 use sdl_forward::Board;
 use sdl_hand::{Hand, Refused, Stepped, answer_of};
-use sdl_instances::{BlockCore, Turned};
+use sdl_instances::{BlockCore, Event, Keeps, Turn};
 use sdl_routes::{Routes, Station};
 use sdl_signal::Item;
 use sdl_transition::Agents;
 
 /// A block at work: its core, with what it has in hand.
 #[derive(Drop)]
-pub struct BlockWorker<S> {
-    core: BlockCore<S>,
-    hand: Hand,
+pub struct BlockWorker<S, K: Keeps = Vec<Event>> {
+    pub(crate) core: BlockCore<S, K>,
+    pub(crate) hand: Hand,
 }
 
-impl<S: Agents> BlockWorker<S> {
+impl<S: Agents, K: Keeps> BlockWorker<S, K> {
     /// The block with this core and nothing in hand. No memory is taken.
-    pub fn new(core: BlockCore<S>) -> BlockWorker<S>
+    pub fn new(core: BlockCore<S, K>) -> BlockWorker<S, K>
         ensures worker { worker_of result ≡ with_core (core_of core) }
         ensures parts { behaviours_of result ≡ parts_of core }
     {
@@ -94,14 +94,35 @@ impl<S: Agents> BlockWorker<S> {
         ensures parts { behaviours_of self.new ≡ behaviours_of self.old }
     {
         if self.core.is_spent() {
-            return match self.hand.kept {
-                Some(_) => Err(Refused),
-                None => Ok(false),
-            };
+            return self.let_none_arrive();
         }
         let Some(item) = self.take_one(board) else {
             return Ok(false);
         };
+        self.admit_or_keep(routes, item, pick)
+    }
+
+    /// What is answered where no item may arrive since the budget is used: a kept one stays, and is refused.
+    pub(crate) fn let_none_arrive(&self) -> Result<bool, Refused>
+        ensures { MatchResult result (λ arrived. (arrived ≡ false) × ((worker_of self.now).kept ≡ None)) (λ _. ⊤) }
+    {
+        match self.hand.kept {
+            Some(_) => Err(Refused),
+            None => Ok(false),
+        }
+    }
+
+    /// Lets the item arrive. One that is refused is kept.
+    pub(crate) fn admit_or_keep(
+        &mut self,
+        routes: &Routes,
+        item: Item,
+        pick: u32,
+    ) -> Result<bool, Refused>
+        requires sound { IsSound S.may (system_around self.old routes.now) (worker_of self.old).core }
+        ensures arrived { ArrivesOrStays S.may (system_around self.old routes.now) (worker_of self.old) item result (worker_of self.new) }
+        ensures parts { behaviours_of self.new ≡ behaviours_of self.old }
+    {
         match self.admit(routes, item, pick) {
             Ok(()) => Ok(true),
             Err(item) => {
@@ -140,22 +161,19 @@ impl<S: Agents> BlockWorker<S> {
         }
     }
 
-    /// Makes a turn, and takes into the hand, which is empty, what it sends. It says whether an instance was ready, and the
+    /// Makes a turn, which puts what it sends into the hand, which is empty. It says whether an instance was ready, and the
     /// budget not used.
-    fn make_turn(&mut self, routes: &Routes, pick: u32) -> Result<bool, Refused>
+    pub(crate) fn make_turn(&mut self, routes: &Routes, pick: u32) -> Result<bool, Refused>
         requires parts { CanFire S.may (behaviours_of self.old) }
         requires sound { IsSound S.may (system_around self.old routes.now) (worker_of self.old).core }
         requires hand { (worker_of self.old).outgoing ≡ [] }
         ensures turn { TriesTurn S.may (system_around self.old routes.now) (worker_of self.old) result (worker_of self.new) }
         ensures parts { behaviours_of self.new ≡ behaviours_of self.old }
     {
-        match self.core.turn(routes, pick) {
-            Ok(Turned::Fired(_, sent)) => {
-                self.hand.outgoing = sent;
-                Ok(true)
-            }
-            Ok(Turned::Idle) => Ok(false),
-            Ok(Turned::Spent) => Ok(false),
+        match self.core.turn_into(routes, pick, &mut self.hand.outgoing) {
+            Ok(Turn::Fired(_)) => Ok(true),
+            Ok(Turn::Idle) => Ok(false),
+            Ok(Turn::Spent) => Ok(false),
             Err(_) => Err(Refused),
         }
     }
@@ -182,7 +200,7 @@ impl<S: Agents> BlockWorker<S> {
     }
 
     /// The core of the block, and what it has in hand. No memory is taken.
-    pub fn into_parts(self) -> (BlockCore<S>, Hand)
+    pub fn into_parts(self) -> (BlockCore<S, K>, Hand)
         ensures core { core_of result.0 ≡ (worker_of self).core }
         ensures parts { parts_of result.0 ≡ behaviours_of self }
         ensures kept { result.1.kept ≡ (worker_of self).kept }

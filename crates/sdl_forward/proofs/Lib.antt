@@ -4,5 +4,7 @@ pub mod Collected
 pub mod Places
 pub mod Fresh
 pub mod Onward
+pub mod Bringing
+pub mod Handing
 pub mod Rows
 pub mod Marks

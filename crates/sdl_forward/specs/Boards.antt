@@ -1,30 +1,16 @@
 -- Boards: a queue of items for each station of some route.
-use Rattle.std.specs.Prelude.{◌≡◌, ◌≢◌, ◌<◌, ◌==◌, ◌&&◌, Bool, true, false, if◌then◌else◌, List, [], ◌∷◌, map, Any, Contains, ⊤}
-use Rattle.std.specs.Bool.{beq}
+use Rattle.std.specs.Prelude.{◌≡◌, ◌≢◌, ◌<◌, if◌then◌else◌, List, [], ◌∷◌, map, Any, Contains, ⊤}
 use Rattle.std.specs.List.{AllByRecursion}
 use Rattle.sdl_signal.specs.declared.values.Item.{Item}
-use Rattle.sdl_routes.specs.declared.route.Hop.{Hop}
 use Rattle.sdl_routes.specs.declared.route.TableRow.{TableRow}
 use Rattle.sdl_routes.specs.declared.route.Station.{Station}
 use Rattle.sdl_routes.specs.declared.route.Station.TheVariants.{Line, Inlet, Outlet}
 use Rattle.sdl_routes.specs.Routes.{hop_number}
 use Rattle.sdl_queue.specs.declared.rest.Rest.{Rest}
 use Rattle.sdl_queue.specs.Rest.{left_in}
-
-abbrev pub same_hop : Hop → Hop → Bool
-same_hop h k = (h.channel.0 == k.channel.0) && beq h.back k.back
-
-abbrev pub same_station : Station → Station → Bool
-same_station (Line h) (Line k) = same_hop h k
-same_station (Inlet b) (Inlet c) = b.0 == c.0
-same_station Outlet Outlet = true
-same_station _ _ = false
+pub use Rattle.sdl_ends.specs.Stations.{same_hop, same_station, stations_of}
 
 -- A board is seen as a list of stations, each with the items that wait there, from the front.
-
--- the stations of a board, or of a list of rests
-abbrev pub stations_of : {X : Type 0} → List (Station × X) → List Station
-stations_of entries = map (λ e. e.0) entries
 
 -- the items that wait at a station; none where the board has no such station
 abbrev pub waiting : List (Station × List Item) → Station → List Item

@@ -1,8 +1,9 @@
 //! Forwarders: each takes the items of one delaying path and puts each at the next station of its route.
 ghost use Rattle.std.specs.Prelude.{◌≡◌, ◌∷◌, None, MatchOption, option_copied};
 ghost use Rattle.sdl_routes.specs.declared.route.Station.TheVariants.{Line};
+ghost use Rattle.sdl_routes.specs.Table.{IsTable};
 ghost use Rattle.sdl_forward.specs.Boards.{waiting, ChangesOnly, IsBoardOf};
-ghost use Rattle.sdl_forward.specs.Forwards.{Rests, Forwards, standing};
+ghost use Rattle.sdl_forward.specs.Forwards.{Rests, Forwards, standing, next_station};
 
 use crate::Board;
 use sdl_routes::{Hop, Routes, Station};
@@ -24,7 +25,7 @@ pub enum Forwarded {
 #[derive(Drop)]
 pub struct Forwarder {
     hop: Hop,
-    held: Option<Item>,
+    pub(crate) held: Option<Item>,
 }
 
 impl Model for Forwarder {
@@ -71,6 +72,14 @@ impl Forwarder {
         board.take(Station::Line(self.hop))
     }
 
+    /// The station behind its path on the item's route.
+    pub(crate) fn next(&self, routes: &Routes, item: &Item) -> Option<Station>
+        ensures next { next_station routes.now (Line self.now.hop) item.now ≡ result }
+        ensures table { IsTable routes.now }
+    {
+        routes.next(item.route, Some(Station::Line(self.hop)))
+    }
+
     /// The item that it holds. No memory is taken.
     pub fn into_held(self) -> Option<Item>
         ensures { result ≡ self.held }
@@ -88,7 +97,7 @@ impl Forwarder {
         let Some(item) = self.take(board) else {
             return Forwarded::Idle;
         };
-        let Some(next) = routes.next(item.route, Some(Station::Line(self.hop))) else {
+        let Some(next) = self.next(routes, &item) else {
             self.held = Some(item);
             return Forwarded::Held;
         };

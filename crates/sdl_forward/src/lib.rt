@@ -1,11 +1,17 @@
 //! Stations and their queues, and the forwarders that bring items from one station to the next.
 #![tactic(auto)]
 
+mod apart;
 pub mod board;
 mod busy;
 pub mod forwarder;
 mod index;
+pub mod laws;
 mod stations;
 
 pub use board::Board;
 pub use forwarder::{Forwarded, Forwarder};
+pub use laws::{
+    forwarders_have_handed_on, forwarders_stay_handing_on, new_forwarders_are_handing_on,
+};
+pub use sdl_ends::{Ends, Shelf, ends_rejoin};

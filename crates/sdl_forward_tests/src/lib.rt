@@ -4,6 +4,8 @@
 #[cfg(test)]
 mod bench;
 #[cfg(test)]
+mod between;
+#[cfg(test)]
 mod moved;
 #[cfg(test)]
 mod refused;

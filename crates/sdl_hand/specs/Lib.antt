@@ -1,2 +1,4 @@
 pub mod Work
 pub mod Puts
+pub mod PutsApart
+pub mod Apart

@@ -6,8 +6,8 @@ use Rattle.sdl_block.specs.Phases.{TriesTurn}
 use Rattle.sdl_block.specs.Workers.{worker_of, system_around}
 use Rattle.sdl_block.proofs.Going.{routed}
 use Rattle.sdl_block.proofs.Systems.{same_system}
-use Rattle.sdl_block.proofs.Stepping.{refused_so, ends_at_put, ends_at_arrival, ends_at_turn, ends_at_last, ends_whole, empty_after, refused_hand, sound_then, keeps_then, empty_then, legal_then, board_then}
-use Rattle.sdl_block.proofs.Rounds.{round_at_put, round_at_arrival, round_at_turn, round_at_last, round_whole}
+use Rattle.sdl_block.proofs.Stepping.{refused_hand}
+use Rattle.sdl_block.proofs.OnBoard.{refused_so, ends_at_put, ends_at_arrival, ends_at_turn, ends_at_last, ends_whole, empty_after, sound_then, keeps_then, empty_then, legal_then, board_so, round_at_put, round_at_arrival, round_at_turn, round_at_last, round_whole}
 use Rattle.sdl_block.proofs.worker.BlockWorker.try_step.Goals as goal
 
 pub put_out-requires-clause-routed : goal.put_out-requires-clause-routed
@@ -18,7 +18,7 @@ returns-in_err-put-clause-step g c =
     let may = g.S.Agents.may in
     let sys = system_around c.args.self.now c.args.routes.now in
     refused_so may sys c.from_residual.result c.from_residual.ensures.0 _ c.args.board.now _ c.put_out.new.board
-    (λ r. (ends_at_put may sys r (worker_of c.args.self.now) c.args.board.now c.put_out.new.self.kept c.put_out.new.self.outgoing.items c.put_out.new.board c.in_err-put.ensures.put c.in_err-put.ensures.kept c.requires.sound).0)
+    (λ r. (ends_at_put may sys (worker_of c.args.self.now) c.args.board.now r c.put_out.new.self.kept c.put_out.new.self.outgoing.items c.put_out.new.board c.in_err-put.ensures.put c.in_err-put.ensures.kept c.requires.sound).0)
 
 pub returns-in_err-arrived-clause-step : goal.returns-in_err-arrived-clause-step
 returns-in_err-arrived-clause-step g c =
@@ -78,7 +78,7 @@ put_out-requires-2-clause-board g c =
     c.in_ok-arrived.arrived (worker_of c.let_one_arrive.new.self) c.let_one_arrive.new.board c.in_ok-arrived.ensures.arrived in
     let same = same_system (worker_of c.args.self.now).core (worker_of c.let_one_arrive.new.self).core c.args.routes.now _ _ keeps (ap (λ p. block_rules p) c.let_one_arrive.ensures.parts) in
     let makes = subst (λ (s : System). TriesTurn may s (worker_of c.let_one_arrive.new.self) (Ok c.in_ok-turned.turned) (worker_of c.make_turn.new.self)) same c.in_ok-turned.ensures.turn in
-    board_then may sys (worker_of c.args.self.now) c.args.board.now c.in_ok-put.put c.put_out.new.self.kept c.put_out.new.self.outgoing.items c.put_out.new.board c.in_ok-put.ensures.put c.in_ok-put.ensures.kept c.requires.sound
+    board_so may sys (worker_of c.args.self.now) c.args.board.now c.in_ok-put.put c.put_out.new.self.kept c.put_out.new.self.outgoing.items c.put_out.new.board c.in_ok-put.ensures.put c.in_ok-put.ensures.kept c.requires.sound
     c.in_ok-arrived.arrived (worker_of c.let_one_arrive.new.self) c.let_one_arrive.new.board c.in_ok-arrived.ensures.arrived
     c.in_ok-turned.turned (worker_of c.make_turn.new.self) makes c.requires.board
 
@@ -126,25 +126,25 @@ pub returns-in_err-put-clause-hand : goal.returns-in_err-put-clause-hand
 returns-in_err-put-clause-hand g c =
     let may = g.S.Agents.may in
     let sys = system_around c.args.self.now c.args.routes.now in
-    refused_hand may sys c.from_residual.result c.from_residual.ensures.0 _
+    refused_hand c.from_residual.result c.from_residual.ensures.0 _
 
 pub returns-in_err-arrived-clause-hand : goal.returns-in_err-arrived-clause-hand
 returns-in_err-arrived-clause-hand g c =
     let may = g.S.Agents.may in
     let sys = system_around c.args.self.now c.args.routes.now in
-    refused_hand may sys c.from_residual-in_err-arrived.result c.from_residual-in_err-arrived.ensures.0 _
+    refused_hand c.from_residual-in_err-arrived.result c.from_residual-in_err-arrived.ensures.0 _
 
 pub returns-in_err-turned-clause-hand : goal.returns-in_err-turned-clause-hand
 returns-in_err-turned-clause-hand g c =
     let may = g.S.Agents.may in
     let sys = system_around c.args.self.now c.args.routes.now in
-    refused_hand may sys c.from_residual-in_err-turned.result c.from_residual-in_err-turned.ensures.0 _
+    refused_hand c.from_residual-in_err-turned.result c.from_residual-in_err-turned.ensures.0 _
 
 pub returns-in_err-put_out-clause-hand : goal.returns-in_err-put_out-clause-hand
 returns-in_err-put_out-clause-hand g c =
     let may = g.S.Agents.may in
     let sys = system_around c.args.self.now c.args.routes.now in
-    refused_hand may sys c.from_residual-in_err-put_out.result c.from_residual-in_err-put_out.ensures.0 _
+    refused_hand c.from_residual-in_err-put_out.result c.from_residual-in_err-put_out.ensures.0 _
 
 pub returns-in_err-arrived-clause-first : goal.returns-in_err-arrived-clause-first
 returns-in_err-arrived-clause-first g c =

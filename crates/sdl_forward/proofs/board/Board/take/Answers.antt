@@ -4,7 +4,6 @@ use Rattle.sdl_routes.specs.declared.route.Station.{Station}
 use Rattle.sdl_queue.specs.declared.rest.Rest.TheVariants.{Serial}
 use Rattle.sdl_forward.specs.Boards.{waiting, ChangesOnly, lists_of}
 use Rattle.sdl_forward.proofs.Marks.{keeps_marks, none_left}
-use Rattle.std.proofs.lemmas.Bool.{false≢true}
 use Rattle.sdl_forward.proofs.Entries.{found_within, not_found, not_ruled, entry_here, takes, changes, waits_now, index_same, serial_set}
 use Rattle.sdl_forward.proofs.board.Board.take.Goals as goal
 
