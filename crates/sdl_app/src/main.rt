@@ -1,10 +1,8 @@
 //! `sdlrun`: systems of communicating agents with the structure and signalling of SDL-2010.
 #![tactic(auto)]
 
-mod streams;
-
-use crate::streams::{Input, Output};
 use sdl_program::program;
+use sdl_program::streams::{Input, Output};
 use std::cell::RefCell;
 use std::io::BufWriter;
 use std::process::ExitCode;

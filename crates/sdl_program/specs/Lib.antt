@@ -1,1 +1,4 @@
 pub mod Running
+pub mod Files
+pub mod Outcomes
+pub mod Commands

@@ -1,4 +1,9 @@
 //! What is told of a run that ended: its ledger and its trace, where they were asked for, and how it ended.
+ghost use Rattle.std.specs.Prelude.{◌≡◌, false, IsOk};
+ghost use Rattle.std.specs.Io.KnownBytes.{Keeps};
+ghost use Rattle.sdl_command.specs.Status.{HasFlushed};
+ghost use Rattle.sdl_program.specs.Outcomes.{status_of_end, IsToldBy};
+
 use crate::ledger::write_ledger;
 use crate::names::block_name;
 use crate::trace::write_trace;
@@ -12,12 +17,17 @@ use sdl_signal::OutputEnd;
 use std::io::{Result, Write};
 
 /// Writes what was asked for of a run that ended, and how it ended, and answers the exit status.
-pub fn report_closing<S: Drop, W: Write, E: Write>(
+pub fn report_closing<S: Drop, K: sdl_log::Keeps, W: Write, E: Write>(
     options: Options,
-    closing: &Closing<S>,
+    closing: &Closing<S, K>,
     output: &mut W,
     errors: &mut E,
-) -> u8 {
+) -> u8
+    ensures status { IsToldBy closing.now.input closing.now.output closing.now.end result }
+    // Where neither was asked for, nothing more is written.
+    ensures no_books { options.ledger ≡ false → options.trace ≡ false → Keeps (W.contents output.old) (W.contents output.new) }
+    ensures silent { result ≡ 0 → Keeps (E.contents errors.old) (E.contents errors.new) }
+{
     let written = write_closing(options, closing, output);
     let input_status = report_input(closing.input, errors);
     let output_status = report_output(written, errors);
@@ -26,7 +36,14 @@ pub fn report_closing<S: Drop, W: Write, E: Write>(
 }
 
 /// Writes the ledger and the trace, where they were asked for and all lines of the environment went out.
-fn write_closing<S, W: Write>(options: Options, closing: &Closing<S>, output: &mut W) -> OutputEnd {
+fn write_closing<S, K: sdl_log::Keeps, W: Write>(
+    options: Options,
+    closing: &Closing<S, K>,
+    output: &mut W,
+) -> OutputEnd
+    ensures end { HasFlushed closing.now.output result }
+    ensures no_books { options.ledger ≡ false → options.trace ≡ false → Keeps (W.contents output.old) (W.contents output.new) }
+{
     match flushed(output, closing.output) {
         OutputEnd::Whole => {}
         OutputEnd::WriteFault => return OutputEnd::WriteFault,
@@ -38,7 +55,13 @@ fn write_closing<S, W: Write>(options: Options, closing: &Closing<S>, output: &m
 }
 
 /// Writes the ledger and the trace, where they were asked for.
-fn write_books<S, W: Write>(options: Options, closing: &Closing<S>, output: &mut W) -> Result<()> {
+fn write_books<S, K: sdl_log::Keeps, W: Write>(
+    options: Options,
+    closing: &Closing<S, K>,
+    output: &mut W,
+) -> Result<()>
+    ensures no_books { options.ledger ≡ false → options.trace ≡ false → IsOk result × (output.new ≡ output.old) }
+{
     if options.ledger {
         write_ledger(output, &closing.ledger)?;
     }
@@ -53,7 +76,10 @@ fn write_books<S, W: Write>(options: Options, closing: &Closing<S>, output: &mut
 }
 
 /// Writes how a run ended, where it did not end quietly, and answers the exit status.
-fn report_end<E: Write>(structure: &Structure, end: RunEnd, errors: &mut E) -> u8 {
+fn report_end<E: Write>(structure: &Structure, end: RunEnd, errors: &mut E) -> u8
+    ensures status { result ≡ status_of_end end }
+    ensures silent { result ≡ 0 → Keeps (E.contents errors.old) (E.contents errors.new) }
+{
     match end {
         RunEnd::Quiet => return WHOLE,
         RunEnd::Spent(block) => {

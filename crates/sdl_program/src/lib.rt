@@ -2,13 +2,14 @@
 //! asked for and the command `pipe` are passed on.
 #![tactic(auto)]
 
-mod closing;
-mod faults;
-mod files;
+pub mod closing;
+pub mod faults;
+pub mod files;
 mod ledger;
 mod names;
 pub mod program;
 pub mod running;
+pub mod streams;
 pub mod systems;
 mod trace;
 

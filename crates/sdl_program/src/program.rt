@@ -1,7 +1,12 @@
 //! What the program does, over any reader and writers, and its exit statuses.
+ghost use Rattle.std.specs.Prelude.{◌≡◌, ◌≢◌, ◌⊎◌, List, ℕ, map, IfOk, IsErr};
+ghost use Rattle.std.specs.Io.KnownBytes.{Keeps};
+ghost use Rattle.sdl_command.specs.Arguments.{arguments_of};
+ghost use Rattle.sdl_program.specs.Commands.{Answers, IsAnswered, IsDone, IsUntouched};
+
 use crate::files::{FileRead, read_file};
 use crate::systems::run_file;
-use sdl_command::arguments::{Arguments, Options, read_arguments};
+use sdl_command::arguments::{Arguments, Command, Options, read_arguments};
 pub use sdl_command::errors::without_memory;
 use sdl_command::errors::write_error;
 pub use sdl_command::pipe::pipe_command;
@@ -23,7 +28,9 @@ pub fn run<H: Env + Files + AllocGlobal, R: Read, W: Write, E: Write>(
     input: &mut R,
     output: &mut W,
     errors: &mut E,
-) -> u8 {
+) -> u8
+    ensures { IsAnswered (R.remaining input.old) (R.remaining input.new) (W.contents output.old) (W.contents output.new) result }
+{
     match run_arguments(rt, alloc, input, output, errors) {
         Ok(status) => status,
         Err(_) => {
@@ -40,7 +47,10 @@ fn run_arguments<H: Env + Files + AllocGlobal, R: Read, W: Write, E: Write>(
     input: &mut R,
     output: &mut W,
     errors: &mut E,
-) -> Result<u8, AllocError> {
+) -> Result<u8, AllocError>
+    ensures ok { IfOk result (IsAnswered (R.remaining input.old) (R.remaining input.new) (W.contents output.old) (W.contents output.new)) }
+    ensures err { IsErr result → (input.new ≡ input.old) × (output.new ≡ output.old) }
+{
     let Some(words) = words_of(rt, alloc)? else {
         return Ok(wrong_arguments(errors));
     };
@@ -56,18 +66,21 @@ fn run_words<H: Files, R: Read, W: Write, E: Write>(
     input: &mut R,
     output: &mut W,
     errors: &mut E,
-) -> u8 {
+) -> u8
+    ensures { Answers (arguments_of (map (λ w. w.now) words.now)) (R.remaining input.old) (R.remaining input.new) (W.contents output.old) (W.contents output.new) result }
+{
     match read_arguments(words) {
         Some(Arguments::Pipe) => pipe_command(alloc, input, output, errors),
         Some(Arguments::File(options, place)) => match words.get(place) {
             Some(path) => file_command(rt, alloc, path, options, input, output, errors),
-            None => wrong_arguments(errors),
+            None => cannot_read(errors),
         },
         None => wrong_arguments(errors),
     }
 }
 
-fn words_behind_the_name(alloc: Global, words: &[String]) -> Result<Vec<&str>, AllocError> {
+/// The words after the first.
+pub fn words_behind_the_name(alloc: Global, words: &[String]) -> Result<Vec<&str>, AllocError> {
     let mut shown = Vec::new(alloc);
     for word in words.iter().skip(1) {
         shown.push(word.as_str())?;
@@ -76,7 +89,7 @@ fn words_behind_the_name(alloc: Global, words: &[String]) -> Result<Vec<&str>, A
 }
 
 /// The program's name and the words after it, and None where one of them is not UTF-8.
-fn words_of<H: Env + AllocGlobal>(
+pub fn words_of<H: Env + AllocGlobal>(
     rt: &H,
     alloc: Global,
 ) -> Result<Option<Vec<String>>, AllocError> {
@@ -87,9 +100,18 @@ fn words_of<H: Env + AllocGlobal>(
     }
 }
 
-fn wrong_arguments<E: Write>(errors: &mut E) -> u8 {
+fn wrong_arguments<E: Write>(errors: &mut E) -> u8
+    ensures { result ≡ 2 }
+{
     write_error(errors, USAGE);
     WRONG_ARGUMENTS
+}
+
+fn cannot_read<E: Write>(errors: &mut E) -> u8
+    ensures { result ≡ 1 }
+{
+    write_error(errors, "file: cannot read");
+    REFUSED
 }
 
 /// A command on a structure file.
@@ -101,7 +123,10 @@ fn file_command<H: Files, R: Read, W: Write, E: Write>(
     input: &mut R,
     output: &mut W,
     errors: &mut E,
-) -> u8 {
+) -> u8
+    ensures done { (file : List ℕ) × IsDone options.command file result }
+    ensures unread { options.command ≢ Command.Run → input.new ≡ input.old }
+{
     match read_file(rt, alloc, path) {
         FileRead::Bytes(file) => run_file(
             rt,
@@ -112,10 +137,7 @@ fn file_command<H: Files, R: Read, W: Write, E: Write>(
             output,
             errors,
         ),
-        FileRead::CannotRead => {
-            write_error(errors, "file: cannot read");
-            REFUSED
-        }
+        FileRead::CannotRead => cannot_read(errors),
         FileRead::Memory => {
             write_error(errors, FileFault::Memory);
             REFUSED

@@ -1,6 +1,9 @@
 //! The command `run`, once the behaviours of a system are made.
+ghost use Rattle.std.specs.Prelude.{◌≡◌, ◌⊎◌, IsSome, None};
+ghost use Rattle.sdl_agents.specs.Systems.{system_of};
+ghost use Rattle.sdl_program.specs.Outcomes.{HasRun, HasRunOrNot};
 ghost use Rattle.sdl_program.specs.Running.{CanRun, HasBudget};
-ghost use Rattle.sdl_transition.specs.Bound.{IsBound, structure_of};
+ghost use Rattle.sdl_transition.specs.Bound.{IsBound, structure_of, routes_of};
 
 use crate::closing::report_closing;
 use crate::faults::write_bind_fault;
@@ -8,9 +11,10 @@ use sdl_agents::{Runner, system_named};
 use sdl_command::arguments::Options;
 use sdl_command::errors::{without_memory, write_error};
 use sdl_command::status::REFUSED;
+use sdl_log::{Event, Keeps, Unstored};
 use sdl_parts::Checked;
 use sdl_routes::Routes;
-use sdl_run::{StartFault, run_serial};
+use sdl_run::{StartFault, run_keeping};
 use sdl_transition::{Agents, Behaviour, Bound, bind};
 use std::alloc::Global;
 use std::io::{Read, Write};
@@ -46,6 +50,8 @@ pub fn run_command<R: Read, W: Write, E: Write>(
     errors: &mut E,
 ) -> u8
     requires { CanRun checked routes }
+    ensures run { (result ≡ 1) ⊎ (IsSome (system_of checked.system) × HasRun checked routes result) }
+    ensures unnamed { system_of checked.system ≡ None → (result ≡ 1) × (input.new ≡ input.old) × (output.new ≡ output.old) }
 {
     let name = checked.structure().system();
     let Some(system) = system_named(name) else {
@@ -75,6 +81,8 @@ impl<R: Read, W: Write, E: Write> Runner for Job<'_, R, W, E> {
 
     ghost can_run = { λ job. CanRun job.checked job.routes };
 
+    ghost answers = { λ job handled status. HasRunOrNot job.checked job.routes status };
+
     #[tactic(auto, unfolding(crate::specs::Running::CanRun))]
     /// Binds the behaviours to the structure and runs the system, and answers the exit status.
     fn run<S: Agents + Drop>(self, behaviours: Vec<Behaviour<S>>) -> u8 {
@@ -96,7 +104,8 @@ impl<R: Read, W: Write, E: Write> Runner for Job<'_, R, W, E> {
     }
 }
 
-/// Runs a system that is bound, with its structure's budget, and answers the exit status.
+/// Runs a system that is bound, with its structure's budget, and answers the exit status. The logs are stored where a trace
+/// was asked for, and else counted alone.
 fn run_bound<S: Agents + Drop, R: Read, W: Write, E: Write>(
     settings: Settings,
     bound: Bound<S>,
@@ -106,10 +115,32 @@ fn run_bound<S: Agents + Drop, R: Read, W: Write, E: Write>(
 ) -> u8
     requires bound { IsBound S.may bound }
     requires budget { HasBudget (structure_of bound) }
+    ensures run { HasRunOrNot (structure_of bound) (routes_of bound) result }
+    ensures refused { result ≡ 1 → (input.new ≡ input.old) × (output.new ≡ output.old) }
+{
+    if settings.options.trace {
+        run_with::<S, Vec<Event>, R, W, E>(settings, bound, input, output, errors)
+    } else {
+        run_with::<S, Unstored, R, W, E>(settings, bound, input, output, errors)
+    }
+}
+
+/// Runs a system that is bound, with its structure's budget and logs of this kind, and answers the exit status.
+fn run_with<S: Agents + Drop, K: Keeps, R: Read, W: Write, E: Write>(
+    settings: Settings,
+    bound: Bound<S>,
+    input: &mut R,
+    output: &mut W,
+    errors: &mut E,
+) -> u8
+    requires bound { IsBound S.may bound }
+    requires budget { HasBudget (structure_of bound) }
+    ensures run { HasRunOrNot (structure_of bound) (routes_of bound) result }
+    ensures refused { result ≡ 1 → (input.new ≡ input.old) × (output.new ≡ output.old) }
 {
     let structure = bound.checked().structure();
     let budget = structure.budget();
-    match run_serial(
+    match run_keeping::<S, K, R, W>(
         settings.alloc,
         bound,
         budget,

@@ -1,6 +1,12 @@
 //! The commands on a structure file.
-ghost use Rattle.std.specs.Prelude.{IfSome, IfOk};
-ghost use Rattle.sdl_program.specs.Running.{HasBudget, CanRun};
+ghost use Rattle.std.specs.Prelude.{◌≡◌, ◌≢◌, ◌⊎◌, IfSome, IfOk, IsErr, IsSomeAnd, IsUtf8};
+ghost use Rattle.std.specs.Io.KnownBytes.{Keeps};
+ghost use Rattle.toml.specs.Parse.{parse_document};
+ghost use Rattle.sdl_structure.specs.File.{IsFileOf};
+ghost use Rattle.sdl_routes.specs.Routes.{AreRoutesOf};
+ghost use Rattle.sdl_program.specs.Running.{HasBudget};
+ghost use Rattle.sdl_program.specs.Files.{Declares};
+ghost use Rattle.sdl_program.specs.Commands.{IsDone, ComesTo, HasPrinted};
 
 use crate::faults::write_check_fault;
 use crate::files::LONGEST_FILE;
@@ -29,7 +35,13 @@ pub fn run_file<H, R: Read, W: Write, E: Write>(
     input: &mut R,
     output: &mut W,
     errors: &mut E,
-) -> u8 {
+) -> u8
+    ensures done { IsDone options.command file.now result }
+    ensures undeclared { ((s : Structure) → Declares file.now s → ⊥) → (result ≡ 1) × (input.new ≡ input.old) × (output.new ≡ output.old) }
+    ensures unread { options.command ≢ Command.Run → input.new ≡ input.old }
+    ensures refused { options.command ≢ Command.Run → result ≡ 1 → output.new ≡ output.old }
+    ensures silent { options.command ≢ Command.Run → result ≡ 0 → Keeps (E.contents errors.old) (E.contents errors.new) }
+{
     let settings = Settings {
         alloc,
         options,
@@ -38,7 +50,6 @@ pub fn run_file<H, R: Read, W: Write, E: Write>(
     carry_out(settings, file, input, output, errors)
 }
 
-#[tactic(auto, unfolding(crate::specs::Running::CanRun))]
 /// Carries out a command on the bytes of a structure file; a run by the schedule of the settings.
 pub fn carry_out<R: Read, W: Write, E: Write>(
     settings: Settings,
@@ -46,43 +57,82 @@ pub fn carry_out<R: Read, W: Write, E: Write>(
     input: &mut R,
     output: &mut W,
     errors: &mut E,
-) -> u8 {
+) -> u8
+    ensures done { IsDone settings.entry.options.command file.now result }
+    // A file that declares no structure is refused, and nothing is read or written.
+    ensures undeclared { ((s : Structure) → Declares file.now s → ⊥) → (result ≡ 1) × (input.new ≡ input.old) × (output.new ≡ output.old) }
+    ensures unread { settings.entry.options.command ≢ Command.Run → input.new ≡ input.old }
+    ensures refused { settings.entry.options.command ≢ Command.Run → result ≡ 1 → output.new ≡ output.old }
+    ensures silent { settings.entry.options.command ≢ Command.Run → result ≡ 0 → Keeps (E.contents errors.old) (E.contents errors.new) }
+{
     let Some(checked) = checked_file(settings.alloc, file, errors) else {
         return REFUSED;
     };
-    if settings.options.command == Command::Check {
-        return written(write_check(output, checked.structure()), output, errors);
-    }
-    match Routes::build(settings.alloc, &checked) {
-        Ok(routes) => with_routes(settings, checked, routes, input, output, errors),
-        Err(fault) => {
-            write_error(errors, fault);
-            REFUSED
+    match settings.options.command {
+        Command::Check => {
+            let text = write_check(output, checked.structure());
+            written(text, output, errors)
         }
+        Command::Routes => routes_command(settings.alloc, &checked, output, errors),
+        Command::Run => start_command(settings, checked, input, output, errors),
     }
 }
 
-/// Carries out `routes` or `run`, which need the routes.
-fn with_routes<R: Read, W: Write, E: Write>(
-    settings: Settings,
-    checked: Checked,
-    routes: Routes,
-    input: &mut R,
+/// The command `routes`.
+fn routes_command<W: Write, E: Write>(
+    alloc: Global,
+    checked: &Checked,
     output: &mut W,
     errors: &mut E,
 ) -> u8
-    requires { CanRun checked routes }
+    ensures done { (result ≡ 1) ⊎ ComesTo Command.Routes checked.now result }
+    ensures refused { result ≡ 1 → output.new ≡ output.old }
+    ensures silent { result ≡ 0 → Keeps (E.contents errors.old) (E.contents errors.new) }
 {
-    if settings.options.command == Command::Run {
-        return run_command(settings, checked, routes, input, output, errors);
-    }
+    let Some(routes) = routes_in(alloc, checked, errors) else {
+        return REFUSED;
+    };
     let text = write_routes(output, checked.structure(), &routes);
     written(text, output, errors)
 }
 
+#[tactic(auto, unfolding(crate::specs::Running::CanRun))]
+/// The command `run`.
+fn start_command<R: Read, W: Write, E: Write>(
+    settings: Settings,
+    checked: Checked,
+    input: &mut R,
+    output: &mut W,
+    errors: &mut E,
+) -> u8
+    requires { HasBudget checked }
+    ensures done { (result ≡ 1) ⊎ ComesTo Command.Run checked result }
+{
+    match routes_in(settings.alloc, &checked, errors) {
+        Some(routes) => run_command(settings, checked, routes, input, output, errors),
+        None => REFUSED,
+    }
+}
+
+/// The routes of the structure; where there is no table of them, why is written.
+fn routes_in<E: Write>(alloc: Global, checked: &Checked, errors: &mut E) -> Option<Routes>
+    ensures routes { IfSome result (AreRoutesOf checked.now) }
+    ensures silent { IfSome result (λ routes. errors.new ≡ errors.old) }
+{
+    match Routes::build(alloc, checked) {
+        Ok(routes) => Some(routes),
+        Err(fault) => {
+            write_error(errors, fault);
+            None
+        }
+    }
+}
+
 /// The structure of the file, where the file keeps all rules; else the first that it breaks is written.
-fn checked_file<E: Write>(alloc: Global, file: &[u8], errors: &mut E) -> Option<Checked>
-    ensures { IfSome result (λ c. HasBudget c) }
+pub fn checked_file<E: Write>(alloc: Global, file: &[u8], errors: &mut E) -> Option<Checked>
+    ensures budget { IfSome result (λ c. HasBudget c) }
+    ensures declared { IfSome result (λ c. Declares file.now c) }
+    ensures silent { IfSome result (λ c. errors.new ≡ errors.old) }
 {
     if file.len() > LONGEST_FILE {
         write_error(errors, "file: too long");
@@ -105,7 +155,9 @@ fn checked_file<E: Write>(alloc: Global, file: &[u8], errors: &mut E) -> Option<
 
 /// The structure of the file, where the file keeps the rules of files.
 fn structure_of_file(alloc: Global, file: &[u8]) -> Result<Structure, FileFault>
-    ensures { IfOk result (λ s. HasBudget s) }
+    ensures budget { IfOk result (λ s. HasBudget s) }
+    ensures utf8 { IfOk result (λ s. IsUtf8 file.now) }
+    ensures text { IfOk result (λ s. IsSomeAnd (parse_document file.now) (λ table. IsFileOf table s)) }
 {
     match str::from_utf8(file) {
         Ok(text) => read_structure(alloc, text),
@@ -114,7 +166,12 @@ fn structure_of_file(alloc: Global, file: &[u8]) -> Result<Structure, FileFault>
 }
 
 /// The status of a text that was written.
-fn written<W: Write, E: Write>(text: io::Result<()>, output: &mut W, errors: &mut E) -> u8 {
+pub fn written<W: Write, E: Write>(text: io::Result<()>, output: &mut W, errors: &mut E) -> u8
+    ensures status { HasPrinted result }
+    ensures fault { IsErr text → result ≡ 3 }
+    ensures kept { Keeps (W.contents output.old) (W.contents output.new) }
+    ensures silent { result ≡ 0 → Keeps (E.contents errors.old) (E.contents errors.new) }
+{
     let end = match text {
         Ok(()) => OutputEnd::Whole,
         Err(_) => OutputEnd::WriteFault,
@@ -122,7 +179,8 @@ fn written<W: Write, E: Write>(text: io::Result<()>, output: &mut W, errors: &mu
     report_output(flushed(output, end), errors)
 }
 
-fn write_check<W: Write>(output: &mut W, structure: &Structure) -> io::Result<()> {
+/// Writes what a structure has.
+pub fn write_check<W: Write>(output: &mut W, structure: &Structure) -> io::Result<()> {
     writeln!(
         output,
         "ok {} blocks {} sets {} channels {} signals {}",
@@ -134,7 +192,8 @@ fn write_check<W: Write>(output: &mut W, structure: &Structure) -> io::Result<()
     )
 }
 
-fn write_routes<W: Write>(
+/// Writes all routes, by number.
+pub fn write_routes<W: Write>(
     output: &mut W,
     structure: &Structure,
     routes: &Routes,

@@ -1,16 +1,16 @@
 //! The text of a run's logs.
 use crate::names::{set_name, signal_name};
-use sdl_instances::{Cause, Done, Event, Trigger};
+use sdl_log::{Cause, Done, Event, Keeps, Trigger};
 use sdl_parts::Structure;
 use sdl_signal::{Pid, SignalId};
 use std::io::{Result, Write};
 
-/// Writes the logs of all blocks, blocks by number: a line for each event, and after the line of a turn one for each thing
+/// Writes the logs of all blocks as far as they are stored, blocks by number: a line for each event, and after the line of a turn one for each thing
 /// that it did and one for a stop.
-pub fn write_trace<W: Write>(
+pub fn write_trace<K: Keeps, W: Write>(
     output: &mut W,
     structure: &Structure,
-    logs: &[Vec<Event>],
+    logs: &[K],
 ) -> Result<()> {
     for (block, events) in structure.blocks().iter().zip(logs) {
         let mut log = Log {
@@ -18,7 +18,7 @@ pub fn write_trace<W: Write>(
             structure,
             block: block.name.as_str(),
         };
-        log.write_events(events.as_slice())?;
+        log.write_events(events.stored())?;
     }
     Ok(())
 }
