@@ -1,21 +1,51 @@
 //! A process graph, and what its transitions answer.
+ghost use Rattle.std.specs.Prelude.{ℕ, IsTrue, ◌↔◌};
+ghost use Rattle.sdl_behaviour.specs.declared.step.Frame.{Frame as AFrame};
+ghost use Rattle.sdl_behaviour.specs.declared.step.Step.{Step as AStep};
 ghost use Rattle.sdl_behaviour.specs.Offers.{IsFrameOf, Conforms};
 ghost use Rattle.sdl_conformance.specs.Stay.{CanEnd};
+ghost use Rattle.sdl_graph.specs.Answers.{IsKept};
 
 use sdl_behaviour::{Frame, Offer, Step};
-use sdl_conformance::kept;
+use sdl_conformance::{conforms, kept, stay};
 
 /// What a designer writes of a system's agents: for the number of each transition what it offers and what it does. There
 /// is nothing to prove. (This project's own.)
 pub trait Graph {
+    /// What is known of the steps: nothing, unless the graph says so.
+    ghost answers: { ℕ → AFrame → AStep → Type 0 } = { λ _ _ _. Unit {0} };
+
     fn offer(number: u32) -> Offer;
 
-    fn step(number: u32, frame: &Frame) -> Step;
+    fn step(number: u32, frame: &Frame) -> Step
+        ensures { answers number frame.now result };
 }
 
 /// What the graph's transition answers where that conforms to the offer, and else the step that does nothing.
 pub fn answer<G: Graph>(number: u32, offer: &Offer, frame: &Frame) -> Step
-    ensures { IsFrameOf offer.now frame.now → CanEnd offer.now → Conforms offer.now result }
+    ensures kept { (own : _) × G.answers number frame.now own × IsKept offer.now frame.now own result }
+    ensures conforms { IsFrameOf offer.now frame.now → CanEnd offer.now → Conforms offer.now result }
 {
     kept(offer, frame, G::step(number, frame))
+}
+
+/// The same, and whether the graph's own step conforms.
+pub fn judged_answer<G: Graph>(number: u32, offer: &Offer, frame: &Frame) -> (Step, bool)
+    ensures kept { (own : _) × G.answers number frame.now own × IsKept offer.now frame.now own result.0 × (IsTrue result.1 ↔ Conforms offer.now own) }
+    ensures conforms { IsFrameOf offer.now frame.now → CanEnd offer.now → Conforms offer.now result.0 }
+{
+    judged(offer, frame, G::step(number, frame))
+}
+
+/// The step where it conforms to the offer, and else the step that does nothing; and whether it conforms.
+fn judged(offer: &Offer, frame: &Frame, own: Step) -> (Step, bool)
+    ensures kept { IsKept offer.now frame.now own result.0 }
+    ensures exact { IsTrue result.1 ↔ Conforms offer.now own }
+    ensures conforms { IsFrameOf offer.now frame.now → CanEnd offer.now → Conforms offer.now result.0 }
+{
+    if conforms(offer, &own) {
+        (own, true)
+    } else {
+        (stay(offer, frame), false)
+    }
 }

@@ -1,0 +1,43 @@
+-- Transitions that move from a list to behaviours.
+use Rattle.std.proofs.Common.{◌≡◌, refl, List, [], ◌∷◌, ◌++◌, map, length, suc-ne-zero, ap, sym, ◌∙◌, append_assoc}
+use Rattle.std.proofs.lemmas.List.{append-nil}
+use Rattle.sdl_behaviour.specs.declared.transition.Transition.{Transition}
+use Rattle.sdl_behaviour.specs.declared.behaviour.Behaviour.{Behaviour}
+use Rattle.sdl_graph_binding.specs.Dealt.{transitions_in, all_transitions}
+
+-- what is first in the list is moved behind `before`, and then more of it
+pub moved : {A : Type 0} (after between before left rest old : List A) (t : A)
+    → after ++ left ≡ between ++ rest → between ≡ before ++ t ∷ [] → old ≡ t ∷ rest → after ++ left ≡ before ++ old
+moved after between before left rest old t more last first =
+    more ∙ ap (λ l. l ++ rest) last ∙ append_assoc before (t ∷ []) rest ∙ ap (λ l. before ++ l) (sym first)
+
+-- nothing is left of the list
+pub none_left : {A : Type 0} (all left old : List A) → length left ≡ 0 → all ++ left ≡ old → all ≡ old
+none_left all [] old none same = sym (append-nil all) ∙ same
+none_left all (t ∷ left) old none same = absurd (suc-ne-zero (length left) none)
+
+-- an element behind the others
+pub map_last : {A B : Type 0} (f : A → B) (l : List A) (a : A) → map f (l ++ a ∷ []) ≡ map f l ++ f a ∷ []
+map_last f [] a = refl
+map_last f (x ∷ l) a = ap (λ m. f x ∷ m) (map_last f l a)
+
+-- the sets of a design, one after the other
+pub sets_on : {A B C : Type 0} (f : A → C) (g : B → C) (all more made : List A) (b : A) (sets rest : List B) (d : B)
+    → map f all ≡ map f more ++ map g rest → more ≡ made ++ b ∷ [] → f b ≡ g d → sets ≡ d ∷ rest → map f all ≡ map f made ++ map g sets
+sets_on f g all more made b sets rest d next last same first =
+    next ∙ ap (λ l. map f l ++ map g rest) last ∙ ap (λ l. l ++ map g rest) (map_last f made b)
+    ∙ append_assoc (map f made) (f b ∷ []) (map g rest) ∙ ap (λ c. map f made ++ c ∷ map g rest) same ∙ ap (λ l. map f made ++ map g l) (sym first)
+
+module _ {S I : Type 0} {F : I → Type 0} {g : _} where
+  -- a behaviour behind the others
+  pub transitions_last : (made : List (Behaviour S I F g)) (b : Behaviour S I F g) → all_transitions (made ++ b ∷ []) ≡ all_transitions made ++ transitions_in b
+  transitions_last [] b = append-nil (transitions_in b)
+  transitions_last (x ∷ made) b = ap (λ l. transitions_in x ++ l) (transitions_last made b) ∙ sym (append_assoc (transitions_in x) (all_transitions made) (transitions_in b))
+
+  -- the transitions of the behaviours, one after the other
+  pub dealt_on : (all more made : List (Behaviour S I F g)) (b : Behaviour S I F g) (left rest old : List (Transition S I F g))
+      → all_transitions all ++ left ≡ all_transitions more ++ rest → more ≡ made ++ b ∷ [] → transitions_in b ++ rest ≡ old
+      → all_transitions all ++ left ≡ all_transitions made ++ old
+  dealt_on all more made b left rest old next last own =
+      next ∙ ap (λ l. all_transitions l ++ rest) last ∙ ap (λ l. l ++ rest) (transitions_last made b)
+      ∙ append_assoc (all_transitions made) (transitions_in b) rest ∙ ap (λ l. all_transitions made ++ l) own

@@ -1,0 +1,68 @@
+//! Which transitions broke their offers in a run.
+use std::alloc::{AllocError, Global};
+use std::sync::Arc;
+use std::sync::atomic::{AtomicU64, Ordering};
+
+/// The two counts behind all shares of the marks.
+#[derive(Drop)]
+struct Counts {
+    /// The number of the first transition that broke its offer, and 1 more; 0 before any did.
+    first: AtomicU64,
+    broken: AtomicU64,
+}
+
+/// What the transitions of a run share: which of them broke its offer first, and how often any did. A share may be in
+/// each stored transition. No contract can say what it holds, since the transitions change it while they are shared.
+#[derive(Drop)]
+pub struct Marks {
+    counts: Arc<Counts, Global>,
+}
+
+/// The transitions that broke their offers.
+#[derive(Clone, Copy, Debug, PartialEq, Eq)]
+pub struct Broken {
+    /// The number of the transition that broke its offer first.
+    pub first: u32,
+    /// How many answers broke their offers.
+    pub count: u64,
+}
+
+impl Marks {
+    /// Marks without a broken answer.
+    pub fn new(alloc: Global) -> Result<Marks, AllocError> {
+        let counts = Counts {
+            first: AtomicU64::new(0),
+            broken: AtomicU64::new(0),
+        };
+        Ok(Marks {
+            counts: Arc::new(alloc, counts)?,
+        })
+    }
+
+    /// Another share of the same marks.
+    pub fn share(&self) -> Result<Marks, AllocError> {
+        Ok(Marks {
+            counts: Arc::try_clone(&self.counts)?,
+        })
+    }
+
+    /// Marks an answer of the transition of this number, which breaks its offer.
+    pub fn note(&self, number: u32) {
+        let own = number as u64 + 1;
+        let _ = self
+            .counts
+            .first
+            .compare_exchange(0, own, Ordering::SeqCst, Ordering::SeqCst);
+        self.counts.broken.fetch_add(1, Ordering::SeqCst);
+    }
+
+    /// What was marked so far, and None where nothing was.
+    pub fn broken(&self) -> Option<Broken> {
+        let count = self.counts.broken.load(Ordering::SeqCst);
+        let first = self.counts.first.load(Ordering::SeqCst);
+        match u32::try_from(first.checked_sub(1)?) {
+            Ok(first) => Some(Broken { first, count }),
+            Err(_) => None,
+        }
+    }
+}

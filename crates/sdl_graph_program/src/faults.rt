@@ -1,0 +1,50 @@
+//! The texts of the faults of a graph.
+use sdl_command::errors::{without_memory, write_error};
+use sdl_graph_binding::{Design, GraphFault};
+use sdl_program::faults::write_bind_fault;
+use std::io::Write;
+
+/// Writes why a graph does not run, as one line. A line that is not taken is dropped.
+pub fn write_graph_fault<E: Write>(errors: &mut E, design: &Design, fault: GraphFault) {
+    match fault {
+        GraphFault::NoOffer(number) => {
+            write_error(errors, format_args!("G1 NoOffer transition {number}"))
+        }
+        GraphFault::NoEnd(number) => {
+            write_error(errors, format_args!("G2 NoEnd transition {number}"))
+        }
+        GraphFault::NoTrigger(number) => {
+            write_error(errors, format_args!("G3 NoTrigger transition {number}"))
+        }
+        GraphFault::NoSet(place) => write_error(
+            errors,
+            format_args!("G4 NoSet {}", set_name(design, place)),
+        ),
+        GraphFault::BadStates(place) => write_error(
+            errors,
+            format_args!("G5 BadStates {}", set_name(design, place)),
+        ),
+        GraphFault::ManyVariables(place) => write_error(
+            errors,
+            format_args!("G6 ManyVariables {}", set_name(design, place)),
+        ),
+        GraphFault::BadUses => write_error(errors, "G7 BadUses"),
+        GraphFault::FewTransitions(set) => {
+            write_error(errors, format_args!("G8 FewTransitions set {}", set.0))
+        }
+        GraphFault::ManyRows(set) => {
+            write_error(errors, format_args!("G9 ManyRows set {}", set.0))
+        }
+        GraphFault::ManyTransitions => write_error(errors, "G10 ManyTransitions"),
+        GraphFault::Bind(fault) => write_bind_fault(errors, fault),
+        GraphFault::Memory => without_memory(errors),
+    }
+}
+
+/// The name that the design says at the place.
+fn set_name<'a>(design: &Design<'a>, place: usize) -> &'a str {
+    match design.sets.get(place) {
+        Some(set) => set.name,
+        None => "",
+    }
+}
