@@ -9,8 +9,8 @@ use Rattle.sdl_routes.specs.declared.route.Station.{Station}
 use Rattle.sdl_routes.specs.declared.route.Station.TheVariants.{Line, Inlet, Outlet}
 use Rattle.sdl_routes.specs.Routes.{EachOnce}
 use Rattle.sdl_forward.specs.Boards.{same_station, stations_of, waiting, IsStationBefore, AreStationsInOrder}
-use Rattle.sdl_outcome.specs.declared.worker.Worker.{Worker}
-use Rattle.sdl_outcome.specs.declared.worker.Worker.TheVariants.{Block, Environment, Forwarder}
+use Rattle.sdl_opening.specs.declared.worker.Worker.{Worker}
+use Rattle.sdl_opening.specs.declared.worker.Worker.TheVariants.{Block, Environment, Forwarder}
 use Rattle.sdl_outcome.specs.Stations.{Among, Once, place, taker, same_worker}
 use Rattle.sdl_outcome.specs.Plan.{blocks_from}
 use Rattle.sdl_outcome.specs.Outcome.{of_worker}

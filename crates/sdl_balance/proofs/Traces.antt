@@ -25,8 +25,8 @@ use Rattle.sdl_instances.specs.Run.{Leads as LeadsTo, IsRun, done_in, sent_by, s
 use Rattle.sdl_instances.specs.Core.{numbers_of, sets_of}
 use Rattle.sdl_instances.proofs.Home.{IsHome, IsFromBlock, next_home, run_home}
 use Rattle.sdl_forward.specs.Boards.{same_station, stations_of}
-use Rattle.sdl_outcome.specs.declared.worker.Worker.{Worker}
-use Rattle.sdl_outcome.specs.declared.worker.Worker.TheVariants.{Block, Environment, Forwarder}
+use Rattle.sdl_opening.specs.declared.worker.Worker.{Worker}
+use Rattle.sdl_opening.specs.declared.worker.Worker.TheVariants.{Block, Environment, Forwarder}
 use Rattle.sdl_outcome.specs.EnvironmentWork.{ComesIn, env_sent}
 use Rattle.sdl_outcome.specs.Stations.{Ways, IsAgent, Leads, Among, Once, place, taker, same_worker}
 use Rattle.sdl_outcome.specs.Books.{Books, of_route, standing, left}

@@ -1,13 +1,13 @@
 -- The feed at one place, changed or given back, and the feeds that are held then.
-use Rattle.std.proofs.Common.{◌≡◌, ◌≢◌, ℕ, zero, suc, ◌<◌, false, true, cond, List, [], ◌∷◌, length, map, Option, Some, None, slice_get, slice_set, slice_index_or, refl, inl, inr, ap, sym, ◌∙◌, subst, arith}
-use Rattle.std.proofs.lemmas.Bool.{cond-true, cond-false, cases_Bool}
+use Rattle.std.proofs.Common.{◌≡◌, ◌≢◌, ◌↔◌, ℕ, zero, suc, ◌<◌, Bool, IsTrue, cond, List, [], ◌∷◌, length, map, Option, Some, None, is_some, slice_get, slice_set, slice_index_or, refl, inl, inr, ap, sym, ◌∙◌, subst, arith}
+use Rattle.std.proofs.lemmas.Bool.{cond-true, cond-false, cases_Bool, false≢true}
 use Rattle.std.proofs.lemmas.List.{length-map}
 use Rattle.std.proofs.lemmas.Option.{none-some, same_Some, slice_get_read, slice_get_within}
 use Rattle.sdl_routes.specs.declared.route.Station.{Station}
 use Rattle.sdl_queue.specs.Ends.{FeedEnd, IsSameFeed}
 use Rattle.sdl_ends.specs.declared.index.Index.{Index}
 use Rattle.sdl_ends.specs.Stations.{same_station, stations_of}
-use Rattle.sdl_ends.specs.Ends.{feed_at, feed_mark}
+use Rattle.sdl_ends.specs.Ends.{WorkerEnds, HasFeed, feed_at, feed_mark}
 use Rattle.sdl_ends.specs.Index.{place_of, IsIndexOf}
 use Rattle.sdl_ends.specs.Held.{Place, with_feed, feeds_held, filled}
 use Rattle.sdl_ends.specs.Shelves.{drop_feed}
@@ -160,3 +160,8 @@ module _ (index : Index) (ps : List Place) (s : Station) (k : ℕ) (ok : IsIndex
 
     pub marks_now : (f g : FeedEnd) → p.1 ≡ Some f → IsSameFeed f g → map feed_mark (feeds_held (slice_set ps k (p.0, Some g))) ≡ map feed_mark (feeds_held ps)
     marks_now f g e same = ap (λ (xs : List Place). map feed_mark (feeds_held xs)) (set_is (Some g)) ∙ marks_set s ps k f g (here ∙ ap (λ (o : Option FeedEnd). Some (s, o)) e) same
+
+-- whether there is a feed
+pub fed : (e : WorkerEnds) (s : Station) (o : Option FeedEnd) (b : Bool) → feed_at e.feeds s ≡ o → b ≡ is_some o → IsTrue b ↔ HasFeed e s
+fed e s None b at is = ((λ t. absurd (false≢true (sym is ∙ t))), λ h. absurd (none-some h.0 (sym at ∙ h.1)))
+fed e s (Some f) b at is = ((λ _. (f, at)), λ _. is)

@@ -90,3 +90,8 @@ AreRejoined all _ _ = ⊥
 -- the worker has a feed at the station
 abbrev pub HasFeed : WorkerEnds → Station → Type 0
 HasFeed e s = (f : FeedEnd) × (feed_at e.feeds s ≡ Some f)
+
+-- nothing was put or taken by the ends
+pub record AreFresh (e : WorkerEnds) : Type 0 where
+  pub put : (s : Station) → put_at e s ≡ []
+  pub taken : taken_by e ≡ []

@@ -1,5 +1,6 @@
 pub mod Stations
 pub mod Ends
+pub mod Ways
 pub mod Index
 pub mod Held
 pub mod Shelves

@@ -1,5 +1,5 @@
 //! The ends of one worker.
-ghost use Rattle.std.specs.Prelude.{◌≡◌, ◌≢◌, [], ◌∷◌, ◌++◌, None, Some, map, IfOk, MatchOption, MatchResult};
+ghost use Rattle.std.specs.Prelude.{◌≡◌, ◌≢◌, ◌↔◌, [], ◌∷◌, ◌++◌, None, Some, map, IfOk, IsTrue, MatchOption, MatchResult};
 ghost use Rattle.sdl_routes.specs.declared.route.Station.{Station};
 ghost use Rattle.sdl_routes.specs.Routes.{EachOnce};
 ghost use Rattle.sdl_ends.specs.Stations.{stations_of};
@@ -63,6 +63,16 @@ impl Ends {
             Some((_, tap)) => tap.take(rt),
             None => None,
         }
+    }
+
+    /// Whether the worker has a feed at the station.
+    pub fn has_feed(&self, station: Station) -> bool
+        ensures { IsTrue result ↔ HasFeed self.now station }
+    {
+        let Some(place) = self.index.get(station) else {
+            return false;
+        };
+        self.feeds[place].1.is_some()
     }
 
     /// Puts the item at the station, where the worker has a feed. `Err` hands it back where memory was refused; nothing is put

@@ -17,6 +17,7 @@ use Rattle.sdl_instances.specs.Run.{IsRun, arrived, sent, turns}
 use Rattle.sdl_instances.specs.Core.{IsReady, IsSound, IsLegalIn}
 use Rattle.sdl_instances.specs.Calls.{KeepsRest}
 use Rattle.sdl_ends.specs.Ends.{WorkerEnds, HasFeed, put_at, taken_by}
+pub use Rattle.sdl_ends.specs.Ends.{AreFresh}
 use Rattle.sdl_hand.specs.declared.hand.Stepped.{Stepped}
 use Rattle.sdl_hand.specs.declared.hand.Stepped.TheVariants.{Did, Idle, Memory}
 use Rattle.sdl_hand.specs.Work.{Working, beginning_at}
@@ -77,11 +78,6 @@ pub record IsPuttingOut (may : ℕ → Frame → Step → Type 0) (sys : System)
   pub came : arrived w.core.log ++ option_to_list w.kept ≡ taken_by ends
   pub legal : All (IsLegalIn sys) (sent w.core.log)
   pub ways : HasOwnWays sys w.core.block ends
-
--- ends by which nothing was put or taken
-pub record AreFresh (ends : WorkerEnds) : Type 0 where
-  pub put : (s : Station) → put_at ends s ≡ []
-  pub taken : taken_by ends ≡ []
 
 -- What holds of a block and its ends after any number of steps: the items that arrived, in the order of the log, and then the
 -- one that it keeps, are those that it took; at each station, what it put there, and then the items in hand that begin there,

@@ -18,7 +18,7 @@ use Rattle.sdl_instances.specs.Run.{done_in, origins, turns, waiting}
 use Rattle.sdl_outcome.specs.declared.environment_output.EnvOut.{EnvOut}
 use Rattle.sdl_outcome.specs.declared.environment_output.EnvOut.TheVariants as env_out
 use Rattle.sdl_ledger.specs.declared.ledger.Ledger.{Ledger}
-use Rattle.sdl_outcome.specs.declared.worker.Worker.TheVariants.{Environment, Forwarder}
+use Rattle.sdl_opening.specs.declared.worker.Worker.TheVariants.{Environment, Forwarder}
 use Rattle.sdl_outcome.specs.EnvironmentWork.{ComesIn, env_sent}
 use Rattle.sdl_outcome.specs.Books.{InOrder}
 use Rattle.sdl_outcome.specs.Plan.{Plan, IsPlan, blocks_in, rules_at, ways_of}

@@ -13,7 +13,8 @@ use Rattle.sdl_routes.specs.declared.route.EndPoint.{EndPoint}
 use Rattle.sdl_routes.specs.declared.route.EndPoint.TheVariants as ends
 use Rattle.sdl_routes.specs.declared.route.Station.{Station}
 use Rattle.sdl_routes.specs.declared.route.Station.TheVariants.{Line, Inlet, Outlet}
-use Rattle.sdl_ends.specs.Stations.{same_hop, same_station}
+use Rattle.sdl_ends.specs.Stations.{same_hop}
+pub use Rattle.sdl_ends.specs.Stations.{station_behind}
 use Rattle.sdl_opening.specs.declared.worker.Worker.{Worker}
 use Rattle.sdl_opening.specs.declared.worker.Worker.TheVariants.{Block, Environment, Forwarder}
 
@@ -40,11 +41,6 @@ abbrev pub IsAgent : Worker → Type 0
 IsAgent (Block b) = Unit {0}
 IsAgent Environment = Unit {0}
 IsAgent (Forwarder h) = ⊥
-
--- the station right behind this one in a route's list; none behind the last, and none where it is not in the list
-abbrev pub station_behind : Station → List Station → Option Station
-station_behind s [] = None
-station_behind s (t ∷ stations) = if same_station t s then slice_get stations 0 else station_behind s stations
 
 -- for each route, by its number: the worker where it starts, its stations in order, the worker where it ends
 pub record Ways : Type 0 where

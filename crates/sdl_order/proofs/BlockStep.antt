@@ -17,8 +17,8 @@ use Rattle.sdl_behaviour.specs.declared.step.Step.{Step}
 use Rattle.sdl_log.specs.declared.event.Event.{Event}
 use Rattle.sdl_instances.specs.Run.{arrived, arrived_in, sent, sent_by, done_in, all_done}
 use Rattle.sdl_forward.specs.Boards.{waiting, AreAllStations}
-use Rattle.sdl_outcome.specs.declared.worker.Worker.{Worker}
-use Rattle.sdl_outcome.specs.declared.worker.Worker.TheVariants.{Block, Environment, Forwarder}
+use Rattle.sdl_opening.specs.declared.worker.Worker.{Worker}
+use Rattle.sdl_opening.specs.declared.worker.Worker.TheVariants.{Block, Environment, Forwarder}
 use Rattle.sdl_outcome.specs.Stations.{IsAgent, first, next, place, taker}
 use Rattle.sdl_outcome.specs.Books.{standing}
 use Rattle.sdl_outcome.specs.Steps.{Acts, IsUnchangedAt, bound_for}

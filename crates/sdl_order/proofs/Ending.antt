@@ -14,8 +14,8 @@ use Rattle.sdl_log.specs.declared.event.Event.{Event}
 use Rattle.sdl_instances.specs.Run.{IsRun, arrived, sent, turns}
 use Rattle.sdl_forward.specs.Boards.{same_hop, waiting}
 use Rattle.sdl_forward.specs.Forwards.{Forwarding}
-use Rattle.sdl_outcome.specs.declared.worker.Worker.{Worker}
-use Rattle.sdl_outcome.specs.declared.worker.Worker.TheVariants.{Block, Environment, Forwarder}
+use Rattle.sdl_opening.specs.declared.worker.Worker.{Worker}
+use Rattle.sdl_opening.specs.declared.worker.Worker.TheVariants.{Block, Environment, Forwarder}
 use Rattle.sdl_outcome.specs.Stations.{IsAgent, Among, taker}
 use Rattle.sdl_outcome.specs.Books.{Books, InOrder, standing}
 use Rattle.sdl_outcome.specs.Steps.{IsStill}

@@ -12,7 +12,7 @@ use Rattle.sdl_behaviour.specs.declared.step.Frame.{Frame}
 use Rattle.sdl_behaviour.specs.declared.step.Step.{Step}
 use Rattle.sdl_forward.specs.Boards.{waiting, IsBoardOf}
 use Rattle.sdl_forward.specs.Forwards.{Forwarding, Moves, Holds}
-use Rattle.sdl_outcome.specs.declared.worker.Worker.{Worker}
+use Rattle.sdl_opening.specs.declared.worker.Worker.{Worker}
 use Rattle.sdl_outcome.specs.Stations.{IsAgent, taker}
 use Rattle.sdl_outcome.specs.Books.{standing}
 use Rattle.sdl_outcome.specs.Steps.{BringsOn, IsStill, IsUnchangedAt}

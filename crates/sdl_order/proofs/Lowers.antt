@@ -16,8 +16,8 @@ use Rattle.sdl_log.specs.declared.event.Event.{Event}
 use Rattle.sdl_log.specs.declared.event.Event.TheVariants as event
 use Rattle.sdl_instances.specs.Run.{arrived, sent, turns, turn_in}
 use Rattle.sdl_forward.specs.Boards.{same_station}
-use Rattle.sdl_outcome.specs.declared.worker.Worker.{Worker}
-use Rattle.sdl_outcome.specs.declared.worker.Worker.TheVariants.{Block, Environment, Forwarder}
+use Rattle.sdl_opening.specs.declared.worker.Worker.{Worker}
+use Rattle.sdl_opening.specs.declared.worker.Worker.TheVariants.{Block, Environment, Forwarder}
 use Rattle.sdl_outcome.specs.Stations.{Ways, Among, next, place, taker}
 use Rattle.sdl_outcome.specs.Books.{standing}
 use Rattle.sdl_outcome.specs.Steps.{bound_for}

@@ -11,8 +11,8 @@ use Rattle.sdl_behaviour.specs.declared.step.Frame.{Frame}
 use Rattle.sdl_behaviour.specs.declared.step.Step.{Step}
 use Rattle.sdl_forward.specs.Boards.{same_station, IsBoardOf}
 use Rattle.sdl_forward.specs.Forwards.{Forwarding, Moves}
-use Rattle.sdl_outcome.specs.declared.worker.Worker.{Worker}
-use Rattle.sdl_outcome.specs.declared.worker.Worker.TheVariants.{Environment, Forwarder}
+use Rattle.sdl_opening.specs.declared.worker.Worker.{Worker}
+use Rattle.sdl_opening.specs.declared.worker.Worker.TheVariants.{Environment, Forwarder}
 use Rattle.sdl_outcome.specs.Stations.{Among, Once, first, place, taker, same_worker}
 use Rattle.sdl_forward.specs.Forwards.{station_behind}
 use Rattle.sdl_outcome.specs.Books.{standing}

@@ -24,7 +24,7 @@ use Rattle.sdl_routes.specs.Routes.{IsRoute}
 use Rattle.sdl_instances.specs.Machine.{State}
 use Rattle.sdl_instances.specs.Run.{IsStamped, turns}
 use Rattle.sdl_forward.specs.Boards.{same_station, waiting}
-use Rattle.sdl_outcome.specs.declared.worker.Worker.TheVariants.{Block, Environment, Forwarder}
+use Rattle.sdl_opening.specs.declared.worker.Worker.TheVariants.{Block, Environment, Forwarder}
 use Rattle.sdl_outcome.specs.Books.{outs, came, left}
 use Rattle.sdl_outcome.specs.Plan.{workers_of, ways_of}
 use Rattle.sdl_outcome.specs.Outcome.{books_of, log_at}

@@ -18,8 +18,8 @@ use Rattle.sdl_instances.specs.Machine.{State}
 use Rattle.sdl_instances.specs.Run.{Leads, done_in, sent_by, sent, all_done, initial}
 use Rattle.sdl_instances.specs.Core.{Core, IsSound, IsBoundIn, numbers_of, sets_of}
 use Rattle.sdl_instances.proofs.Home.{IsHome, IsFromBlock, next_home, run_home}
-use Rattle.sdl_outcome.specs.declared.worker.Worker.{Worker}
-use Rattle.sdl_outcome.specs.declared.worker.Worker.TheVariants.{Block, Environment}
+use Rattle.sdl_opening.specs.declared.worker.Worker.{Worker}
+use Rattle.sdl_opening.specs.declared.worker.Worker.TheVariants.{Block, Environment}
 use Rattle.sdl_outcome.specs.Plan.{Plan, ways_of, system_at, starter, worker_of_set}
 use Rattle.sdl_outcome.proofs.Lists.{all_append, all_weaker}
 

@@ -16,8 +16,8 @@ use Rattle.sdl_forward.specs.declared.forwarder.Forwarded.{Forwarded}
 use Rattle.sdl_forward.specs.Forwards.{Forwarding}
 use Rattle.sdl_forward.specs.Forwards as hands
 use Rattle.sdl_hand.specs.declared.hand.Stepped.{Stepped}
-use Rattle.sdl_outcome.specs.declared.worker.Worker.{Worker}
-use Rattle.sdl_outcome.specs.declared.worker.Worker.TheVariants.{Block, Environment, Forwarder}
+use Rattle.sdl_opening.specs.declared.worker.Worker.{Worker}
+use Rattle.sdl_opening.specs.declared.worker.Worker.TheVariants.{Block, Environment, Forwarder}
 use Rattle.sdl_outcome.specs.Stations.{IsAgent}
 use Rattle.sdl_outcome.specs.Books.{Books, InOrder, standing}
 use Rattle.sdl_outcome.specs.Plan.{Plan, blocks_in, lines_of, system_at, ways_of, MayTravel}

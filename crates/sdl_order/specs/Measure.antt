@@ -4,8 +4,8 @@ use Rattle.sdl_signal.specs.declared.values.Item.{Item}
 use Rattle.sdl_routes.specs.declared.route.Station.{Station}
 use Rattle.sdl_instances.specs.Run.{turns}
 use Rattle.sdl_forward.specs.Boards.{same_station}
-use Rattle.sdl_outcome.specs.declared.worker.Worker.{Worker}
-use Rattle.sdl_outcome.specs.declared.worker.Worker.TheVariants.{Block, Environment, Forwarder}
+use Rattle.sdl_opening.specs.declared.worker.Worker.{Worker}
+use Rattle.sdl_opening.specs.declared.worker.Worker.TheVariants.{Block, Environment, Forwarder}
 use Rattle.sdl_outcome.specs.Stations.{Ways, place}
 use Rattle.sdl_outcome.specs.Books.{standing}
 use Rattle.sdl_outcome.specs.Plan.{Plan, ways_of, workers_of}

@@ -14,7 +14,7 @@ ghost use Rattle.sdl_outcome.specs.EnvironmentWork.{HasReadAll, HasWritten, AreC
 ghost use Rattle.sdl_signal.specs.declared.values.Item.{Item};
 ghost use Rattle.sdl_log.specs.declared.event.Trigger.TheVariants as trigger;
 ghost use Rattle.sdl_instances.specs.Run.{IsStamped};
-ghost use Rattle.sdl_outcome.specs.declared.worker.Worker.TheVariants.{Block, Environment, Forwarder};
+ghost use Rattle.sdl_opening.specs.declared.worker.Worker.TheVariants.{Block, Environment, Forwarder};
 ghost use Rattle.sdl_outcome.specs.Ends.{IsSpentAt, IsQuiet};
 ghost use Rattle.sdl_order.specs.Driver.{Site, IsAtWork, IsFresh};
 ghost use Rattle.sdl_outcome.specs.Ring.{plan, block, hop, tok, leaves, no_one, stops_early, enters, sends};

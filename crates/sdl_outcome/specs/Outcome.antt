@@ -11,7 +11,7 @@ use Rattle.sdl_log.specs.declared.event.Event.{Event}
 use Rattle.sdl_instances.specs.Machine.{State}
 use Rattle.sdl_instances.specs.Run.{IsRun, arrived, sent, origins}
 use Rattle.sdl_forward.specs.Boards.{waiting, IsBoardOf}
-use Rattle.sdl_outcome.specs.declared.worker.Worker.{Worker}
+use Rattle.sdl_opening.specs.declared.worker.Worker.{Worker}
 use Rattle.sdl_outcome.specs.declared.environment_output.EnvOut.{EnvOut}
 use Rattle.sdl_outcome.specs.EnvironmentWork.{env_sent, env_origins, AreCounted}
 use Rattle.sdl_outcome.specs.Stations.{Among, same_worker}

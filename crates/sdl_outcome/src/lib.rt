@@ -3,8 +3,7 @@
 
 mod end;
 mod environment_output;
-mod worker;
 
 pub use end::RunEnd;
 pub use environment_output::EnvOut;
-pub use worker::Worker;
+pub use sdl_opening::Worker;

@@ -16,8 +16,8 @@ use Rattle.sdl_instances.specs.Machine.{State}
 use Rattle.sdl_instances.specs.Run.{IsStamped}
 use Rattle.sdl_instances.specs.Core.{IsReady}
 use Rattle.sdl_forward.specs.Boards.{same_station, stations_of, waiting, IsStationOf, IsBoardOf}
-use Rattle.sdl_outcome.specs.declared.worker.Worker.{Worker}
-use Rattle.sdl_outcome.specs.declared.worker.Worker.TheVariants.{Block, Environment, Forwarder}
+use Rattle.sdl_opening.specs.declared.worker.Worker.{Worker}
+use Rattle.sdl_opening.specs.declared.worker.Worker.TheVariants.{Block, Environment, Forwarder}
 use Rattle.sdl_outcome.specs.declared.end.RunEnd.TheVariants as run_end
 use Rattle.sdl_outcome.specs.Stations.{Among, Leads, same_worker, taker}
 use Rattle.sdl_outcome.specs.Books.{NoOther, outs, came, left, standing}

@@ -1,10 +1,9 @@
-use Rattle.std.proofs.Common.{◌≡◌, List, map, ap, sym, ◌∙◌, subst}
+use Rattle.std.proofs.Common.{List, ap, sym, ◌∙◌, subst}
 use Rattle.sdl_routes.specs.declared.route.Station.{Station}
 use Rattle.sdl_queue.specs.Ends.{FeedEnd}
 use Rattle.sdl_ends.specs.Stations.{stations_of}
-use Rattle.sdl_ends.specs.Ends.{WorkerEnds}
 use Rattle.sdl_ends.specs.Index.{IsIndexOf}
-use Rattle.sdl_ends.specs.Held.{filled, feeds_held}
+use Rattle.sdl_ends.specs.Held.{feeds_held}
 use Rattle.sdl_ends.proofs.Held.{filled_held, filled_stations}
 use Rattle.sdl_ends.proofs.ends.Ends.new.Goals as goal
 
