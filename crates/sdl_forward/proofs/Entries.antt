@@ -2,26 +2,27 @@
 use Rattle.std.proofs.Common.{◌≡◌, ◌≢◌, ℕ, zero, suc, ◌<◌, false, cond, List, [], ◌∷◌, ◌++◌, length, Option, Some, None, MatchOption, Result, Ok, Err, MatchResult, Contains, slice_get, slice_set, slice_index_or, refl, ap, sym, ◌∙◌, subst, arith}
 use Rattle.std.proofs.lemmas.Bool.{cond-true, cond-false}
 use Rattle.std.proofs.lemmas.List.{length-map}
-use Rattle.std.proofs.lemmas.Option.{same_Some, slice_get-get_or, slice_get_within, slice_get_read}
+use Rattle.std.proofs.lemmas.Option.{same_Some, get_or_from_slice_get, slice_get_within, slice_get_read}
 use Rattle.std.specs.declared.alloc.AllocError.{AllocError}
 use Rattle.sdl_signal.specs.declared.values.Item.{Item}
 use Rattle.sdl_routes.specs.declared.route.Station.{Station}
+use Rattle.sdl_routes.specs.Routes.{EachOnce}
+use Rattle.sdl_ends.proofs.Places.{one_at}
 use Rattle.sdl_queue.specs.declared.rest.Rest.{Rest}
 use Rattle.sdl_queue.specs.declared.rest.Rest.TheVariants.{Serial, Ruled}
 use Rattle.sdl_queue.specs.Ends.{Account}
 use Rattle.sdl_queue.specs.Rest.{left_in}
-use Rattle.sdl_forward.specs.declared.index.Index.{Index}
 use Rattle.sdl_forward.specs.Boards.{same_station, stations_of, waiting, lists_of, ChangesOnly}
-use Rattle.sdl_forward.specs.Index.{place_of, IsIndexOf, AreSerial}
+use Rattle.sdl_forward.specs.Serials.{AreSerial}
 use Rattle.sdl_forward.proofs.Same.{same_station_itself, other_station}
 
 -- the entry at a place, read and written
-get_here : {X : Type 0} (xs : List X) (k : ℕ) (old new : X) → slice_get xs k ≡ Some old → slice_get (slice_set xs k new) k ≡ Some new
+pub get_here : {X : Type 0} (xs : List X) (k : ℕ) (old new : X) → slice_get xs k ≡ Some old → slice_get (slice_set xs k new) k ≡ Some new
 get_here [] k old new at = let e : None ≡ Some old = at in cc
 get_here (x ∷ xs) zero old new at = refl
 get_here (x ∷ xs) (suc k) old new at = get_here xs k old new at
 
-get_other : {X : Type 0} (xs : List X) (k j : ℕ) (new : X) → j ≢ k → slice_get (slice_set xs k new) j ≡ slice_get xs j
+pub get_other : {X : Type 0} (xs : List X) (k j : ℕ) (new : X) → j ≢ k → slice_get (slice_set xs k new) j ≡ slice_get xs j
 get_other [] k j new n = refl
 get_other (x ∷ xs) zero zero new n = absurd (n refl)
 get_other (x ∷ xs) zero (suc j) new n = refl
@@ -48,12 +49,12 @@ stations_set [] k old new at same = refl
 stations_set (x ∷ es) zero old new at same = ap (λ s. s ∷ stations_of es) (same ∙ sym (ap (λ (y : Station × _). y.0) (same_Some x old at)))
 stations_set (x ∷ es) (suc k) old new at same = ap (λ ss. x.0 ∷ ss) (stations_set es k old new at same)
 
-lists_get : (rests : List (Station × Rest)) (k : ℕ) (r : Station × Rest) → slice_get rests k ≡ Some r → slice_get (lists_of rests) k ≡ Some (r.0, left_in r.1)
+pub lists_get : (rests : List (Station × Rest)) (k : ℕ) (r : Station × Rest) → slice_get rests k ≡ Some r → slice_get (lists_of rests) k ≡ Some (r.0, left_in r.1)
 lists_get [] k r at = let f : None ≡ Some r = at in cc
 lists_get (x ∷ rests) zero r at = ap (λ (y : Station × Rest). Some (y.0, left_in y.1)) (same_Some x r at)
 lists_get (x ∷ rests) (suc k) r at = lists_get rests k r at
 
-lists_set : (rests : List (Station × Rest)) (k : ℕ) (r : Station × Rest) → lists_of (slice_set rests k r) ≡ slice_set (lists_of rests) k (r.0, left_in r.1)
+pub lists_set : (rests : List (Station × Rest)) (k : ℕ) (r : Station × Rest) → lists_of (slice_set rests k r) ≡ slice_set (lists_of rests) k (r.0, left_in r.1)
 lists_set [] k r = refl
 lists_set (x ∷ rests) zero r = refl
 lists_set (x ∷ rests) (suc k) r = ap (λ es. (x.0, left_in x.1) ∷ es) (lists_set rests k r)
@@ -88,25 +89,26 @@ waiting_other (e ∷ es) zero s t old new at n =
     ∙ sym (subst (λ (x : Station × List Item). cond (same_station x.0 t) x.1 (waiting es t) ≡ waiting es t) (sym is) (cond-false (same_station s t) old (waiting es t) other))
 waiting_other (e ∷ es) (suc k) s t old new at n = ap (λ items. cond (same_station e.0 t) e.1 items) (waiting_other es k s t old new at n)
 
--- the place of a station is that of its entry, and of no other
-pub one_place : (index : Index) (stations : List Station) (s : Station) (k : ℕ) → IsIndexOf index stations → place_of index s ≡ Some k
-    → (j : ℕ) → slice_get stations j ≡ Some s → j ≡ k
-one_place index stations s k ok found j at = same_Some j k (sym (ok.every s j at) ∙ found)
+-- the place of a station's entry
+pub place_within : (rests : List (Station × Rest)) (s : Station) (k : ℕ) → slice_get (stations_of rests) k ≡ Some s → k < length rests
+place_within rests s k found = subst (λ n. k < n) (length-map rests (λ e. e.0)) (slice_get_within (stations_of rests) k s found)
 
-pub found_within : (index : Index) (rests : List (Station × Rest)) (s : Station) (k : ℕ) → IsIndexOf index (stations_of rests) → place_of index s ≡ Some k → k < length rests
-found_within index rests s k ok found =
-    subst (λ n. k < n) (length-map rests (λ e. e.0)) (slice_get_within (stations_of rests) k s (ok.only s k found))
+pub contained_at : (ss : List Station) (s : Station) (k : ℕ) → slice_get ss k ≡ Some s → Contains ss s
+contained_at ss s k at = (k, slice_get_within ss k s at, get_or_from_slice_get ss k s s at)
 
-pub not_found : (index : Index) (rests : List (Station × Rest)) (s : Station) → IsIndexOf index (stations_of rests) → place_of index s ≡ None → waiting (lists_of rests) s ≡ []
-not_found index rests s ok absent = waiting_none (lists_of rests) s
-    (λ j at. let there : slice_get (stations_of rests) j ≡ Some s = subst (λ (ss : List Station). slice_get ss j ≡ Some s) (stations-lists rests) at in
-    let e : Some j ≡ None = sym (ok.every s j there) ∙ absent in cc)
+-- the same where the list was looked at as a slice
+pub found_in : (rests slice : List (Station × Rest)) (s : Station) (k : ℕ) → slice ≡ rests → slice_get (stations_of slice) k ≡ Some s → slice_get (stations_of rests) k ≡ Some s
+found_in rests slice s k same found = subst (λ (es : List (Station × Rest)). slice_get (stations_of es) k ≡ Some s) same found
 
-pub contained_found : (index : Index) (rests : List (Station × Rest)) (s : Station) → IsIndexOf index (stations_of rests) → Contains (stations_of (lists_of rests)) s → place_of index s ≢ None
-contained_found index rests s ok h absent =
-    let has : Contains (stations_of rests) s = subst (λ (ss : List Station). Contains ss s) (stations-lists rests) h in
-    let at : slice_get (stations_of rests) has.0 ≡ Some s = slice_get-get_or (stations_of rests) has.0 s has.1 ∙ ap Some has.2 in
-    let e : Some has.0 ≡ None = sym (ok.every s has.0 at) ∙ absent in cc
+pub not_in : (rests slice : List (Station × Rest)) (s : Station) → slice ≡ rests → (Contains (stations_of slice) s → ⊥) → Contains (stations_of rests) s → ⊥
+not_in rests slice s same none there = none (subst (λ (es : List (Station × Rest)). Contains (stations_of es) s) (sym same) there)
+
+pub not_contained : (rests : List (Station × Rest)) (s : Station) → (Contains (stations_of rests) s → ⊥) → waiting (lists_of rests) s ≡ []
+not_contained rests s none = waiting_none (lists_of rests) s
+    (λ j at. none (contained_at (stations_of rests) s j (subst (λ (ss : List Station). slice_get ss j ≡ Some s) (stations-lists rests) at)))
+
+pub contained_here : (rests : List (Station × Rest)) (s : Station) → Contains (stations_of (lists_of rests)) s → Contains (stations_of rests) s
+contained_here rests s h = subst (λ (ss : List Station). Contains ss s) (stations-lists rests) h
 
 pub serial_set : (rests : List (Station × Rest)) (k : ℕ) (s : Station) (queue : List Item) → AreSerial rests → AreSerial (slice_set rests k (s, Serial queue))
 serial_set [] k s queue serial j e at = serial j e at
@@ -118,18 +120,18 @@ serial_set (x ∷ rests) (suc k) s queue serial (suc j) e at = serial_set rests 
 pub not_ruled : (rests : List (Station × Rest)) (k : ℕ) (e : Station × Rest) (account : Account) → AreSerial rests → slice_get rests k ≡ Some e → e.1 ≡ Ruled account → ⊥
 not_ruled rests k e account serial at is = let f : Ruled account ≡ Serial (serial k e at).0 = sym is ∙ (serial k e at).1 in cc
 
-pub entry_here : (index : Index) (rests : List (Station × Rest)) (s : Station) (k : ℕ) (e : Station × Rest) → IsIndexOf index (stations_of rests) → place_of index s ≡ Some k
+pub entry_here : (rests : List (Station × Rest)) (s : Station) (k : ℕ) (e : Station × Rest) → slice_get (stations_of rests) k ≡ Some s
     → e ≡ slice_index_or rests k e → slice_get rests k ≡ Some e
-entry_here index rests s k e ok found is = slice_get_read rests (length rests) k e refl (found_within index rests s k ok found) is
+entry_here rests s k e found is = slice_get_read rests (length rests) k e refl (place_within rests s k found) is
 
 -- the entry at the place of a station, and what another queue there changes
-module _ (index : Index) (rests : List (Station × Rest)) (s : Station) (k : ℕ) (entry : Station × Rest)
-    (ok : IsIndexOf index (stations_of rests)) (found : place_of index s ≡ Some k) (here : slice_get rests k ≡ Some entry) where
+module _ (rests : List (Station × Rest)) (s : Station) (k : ℕ) (entry : Station × Rest)
+    (once : EachOnce (stations_of rests)) (found : slice_get (stations_of rests) k ≡ Some s) (here : slice_get rests k ≡ Some entry) where
   its_station : entry.0 ≡ s
-  its_station = same_Some entry.0 s (sym (stations_get rests k entry here) ∙ ok.only s k found)
+  its_station = same_Some entry.0 s (sym (stations_get rests k entry here) ∙ found)
 
   alone : (es : List (Station × List Item)) → stations_of es ≡ stations_of rests → (j : ℕ) → slice_get (stations_of es) j ≡ Some s → j ≡ k
-  alone es same j at = one_place index (stations_of rests) s k ok found j (subst (λ (ss : List Station). slice_get ss j ≡ Some s) same at)
+  alone es same j at = one_at (stations_of rests) j k s once (subst (λ (ss : List Station). slice_get ss j ≡ Some s) same at) found
 
   entry_at : slice_get (lists_of rests) k ≡ Some (s, left_in entry.1)
   entry_at = subst (λ (t : Station). slice_get (lists_of rests) k ≡ Some (t, left_in entry.1)) its_station (lists_get rests k entry here)
@@ -154,8 +156,8 @@ module _ (index : Index) (rests : List (Station × Rest)) (s : Station) (k : ℕ
     others = λ t n. ap (λ (es : List (Station × List Item)). waiting es t) (now_list queue) ∙ waiting_other (lists_of rests) k s t (left_in entry.1) queue entry_at n;
   }
 
-  pub index_same : (queue : List Item) → IsIndexOf index (stations_of (slice_set rests k (entry.0, Serial queue)))
-  index_same queue = subst (λ (ss : List Station). IsIndexOf index ss) (sym (stations_same queue)) ok
+  pub once_same : (queue : List Item) → EachOnce (stations_of (slice_set rests k (entry.0, Serial queue)))
+  once_same queue = subst EachOnce (sym (stations_same queue)) once
 
   module _ (queue after : List Item) (serial : entry.1 ≡ Serial queue) where
     was : waiting (lists_of rests) s ≡ queue

@@ -6,7 +6,7 @@ use Rattle.sdl_routes.specs.declared.route.Station.{Station}
 use Rattle.sdl_queue.specs.declared.rest.Rest.{Rest}
 use Rattle.sdl_queue.specs.declared.rest.Rest.TheVariants.{Serial}
 use Rattle.sdl_forward.specs.Boards.{same_station, stations_of, waiting, lists_of}
-use Rattle.sdl_forward.specs.Index.{AreSerial}
+use Rattle.sdl_forward.specs.Serials.{AreSerial}
 
 abbrev pub empty_queue : Station → Station × Rest
 empty_queue s = (s, Serial [])

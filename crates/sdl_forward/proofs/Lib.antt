@@ -2,6 +2,7 @@ pub mod Same
 pub mod Entries
 pub mod Collected
 pub mod Places
+pub mod Adopted
 pub mod Fresh
 pub mod Onward
 pub mod Bringing

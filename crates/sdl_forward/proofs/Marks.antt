@@ -1,5 +1,5 @@
 -- Marks of delaying paths, set, cleared and found.
-use Rattle.std.proofs.Common.{◌≡◌, ◌≢◌, ℕ, zero, suc, ◌+◌, ◌-◌, ◌*◌, ◌/◌, ◌%◌, ◌^◌, ◌<◌, ◌≤◌, min, Bool, true, false, cond, not, eqb, List, [], ◌∷◌, length, inl, inr, bit_and, bit_or, refl, ap, sym, ◌∙◌, subst, arith}
+use Rattle.std.proofs.Common.{◌≡◌, ◌≢◌, ℕ, zero, suc, ◌+◌, ◌-◌, ◌*◌, ◌/◌, ◌%◌, ◌^◌, ◌<◌, ◌≤◌, min, Bool, true, false, cond, not, eqb, List, [], ◌∷◌, ◌++◌, length, take, Some, None, slice_get, inl, inr, bit_and, bit_or, refl, ap, sym, ◌∙◌, subst, arith, add-one}
 use Rattle.std.specs.Int.{bit_at, bit_not, trailing_zeros, w64}
 use Rattle.std.proofs.Math.Nat.{div-le_self}
 use Rattle.std.proofs.lemmas.Bool.{cases_Bool, cond_both, cond-true, cond-false, eqb-true, false≢true}
@@ -10,9 +10,12 @@ use Rattle.sdl_forward.specs.declared.busy.Busy.{Busy}
 use Rattle.sdl_routes.specs.declared.route.Station.{Station}
 use Rattle.sdl_routes.specs.declared.route.Station.TheVariants.{Line, Inlet, Outlet}
 use Rattle.sdl_signal.specs.declared.values.Item.{Item}
-use Rattle.sdl_forward.specs.Boards.{waiting, ChangesOnly}
+use Rattle.sdl_queue.specs.declared.rest.Rest.{Rest}
+use Rattle.sdl_queue.specs.Rest.{left_in}
+use Rattle.std.proofs.lemmas.Option.{same_Some}
+use Rattle.sdl_forward.specs.Boards.{same_station, waiting, lists_of, ChangesOnly}
 use Rattle.sdl_forward.specs.Busy.{IsClear, MarksAll}
-use Rattle.sdl_forward.proofs.Same.{cases_station}
+use Rattle.sdl_forward.proofs.Same.{cases_station, same_station_is}
 
 -- a word with one more bit
 marked_word : (word k i : ℕ) → k < 64 → bit_at (bit_or word (1 * 2 ^ k % 2 ^ 64)) i ≡ 0 → (bit_at word i ≡ 0) × (i ≢ k)
@@ -133,9 +136,43 @@ pub same_line : (h k : Hop) → Line h ≡ Line k → h ≡ k
 unfolding hop_or
 same_line h k e = ap (hop_or h) e
 
+pub none_here : (items : List Item) (count : ℕ) → count ≡ length items → count ≡ 0 → items ≡ []
+none_here [] count is none = refl
+none_here (x ∷ items) count is none = absurd (omega (arith, is, none))
+
 pub none_left : (items : List Item) (count : ℕ) → count ≡ length items → not (eqb count 0) ≡ false → items ≡ []
 none_left [] count is none = refl
 none_left (x ∷ items) count is none = absurd (elim (cases_Bool (eqb count 0)) [
   | inl e ↦ (let zero : count ≡ 0 = eqb-true count 0 e in omega (arith, zero, is))
   | inr e ↦ false≢true (sym none ∙ ap not e)
 ])
+
+-- the marks of one more queue
+waiting_more : (es : List (Station × List Item)) (e : Station × List Item) (s : Station) → waiting es s ≡ [] → (e.0 ≡ s → e.1 ≡ []) → waiting (es ++ e ∷ []) s ≡ []
+waiting_more [] e s none here = cond_both (same_station e.0 s) e.1 [] (λ (xs : List Item). xs ≡ []) (λ t. here (same_station_is e.0 s t)) (λ f. refl)
+waiting_more (x ∷ es) e s none here =
+    cond_both (same_station x.0 s) x.1 (waiting (es ++ e ∷ []) s) (λ (xs : List Item). xs ≡ [])
+    (λ t. sym (cond-true (same_station x.0 s) x.1 (waiting es s) t) ∙ none)
+    (λ f. waiting_more es e s (sym (cond-false (same_station x.0 s) x.1 (waiting es s) f) ∙ none) here)
+
+lists_suc : (rests : List (Station × Rest)) (k : ℕ) (r : Station × Rest) → slice_get rests k ≡ Some r → lists_of (take (suc k) rests) ≡ lists_of (take k rests) ++ (r.0, left_in r.1) ∷ []
+lists_suc [] k r at = let e : None ≡ Some r = at in cc
+lists_suc (x ∷ rests) zero r at = ap (λ (y : Station × Rest). (y.0, left_in y.1) ∷ []) (same_Some x r at)
+lists_suc (x ∷ rests) (suc k) r at = ap (λ es. (x.0, left_in x.1) ∷ es) (lists_suc rests k r at)
+
+lists_more : (rests : List (Station × Rest)) (k : ℕ) (r : Station × Rest) → slice_get rests k ≡ Some r → lists_of (take (k + 1) rests) ≡ lists_of (take k rests) ++ (r.0, left_in r.1) ∷ []
+lists_more rests k r at = ap (λ n. lists_of (take n rests)) (add-one k) ∙ lists_suc rests k r at
+
+module _ (old new : Busy) (rests : List (Station × Rest)) (k : ℕ) (r : Station × Rest) (at : slice_get rests k ≡ Some r) (marks : MarksAll old (lists_of (take k rests))) where
+  one_more : ((h : Hop) → IsClear new h → IsClear old h × (r.0 ≡ Line h → left_in r.1 ≡ [])) → MarksAll new (lists_of (take (k + 1) rests))
+  one_more noted h clear =
+      subst (λ (es : List (Station × List Item)). waiting es (Line h) ≡ []) (sym (lists_more rests k r at))
+      (waiting_more (lists_of (take k rests)) (r.0, left_in r.1) (Line h) (marks h (noted h clear).0) (noted h clear).1)
+
+  pub marked_more : ((h : Hop) → IsClear new h → (Line h ≡ r.0 → true ≡ false) × (Line h ≢ r.0 → IsClear old h)) → MarksAll new (lists_of (take (k + 1) rests))
+  marked_more noted = one_more (λ h clear.
+      let other : Line h ≢ r.0 = λ e. false≢true (sym ((noted h clear).0 e)) in
+      ((noted h clear).1 other, λ e. absurd (other (sym e))))
+
+  pub empty_more : new ≡ old → left_in r.1 ≡ [] → MarksAll new (lists_of (take (k + 1) rests))
+  empty_more same none = one_more (λ h clear. (subst (λ (b : Busy). IsClear b h) same clear, λ e. none))

@@ -1,14 +1,11 @@
 -- Boards: a queue of items for each station of some route.
-use Rattle.std.specs.Prelude.{◌≡◌, ◌≢◌, ◌<◌, if◌then◌else◌, List, [], ◌∷◌, map, Any, Contains, ⊤}
-use Rattle.std.specs.List.{AllByRecursion}
+use Rattle.std.specs.Prelude.{◌≡◌, ◌≢◌, if◌then◌else◌, List, [], ◌∷◌, map}
 use Rattle.sdl_signal.specs.declared.values.Item.{Item}
 use Rattle.sdl_routes.specs.declared.route.TableRow.{TableRow}
 use Rattle.sdl_routes.specs.declared.route.Station.{Station}
-use Rattle.sdl_routes.specs.declared.route.Station.TheVariants.{Line, Inlet, Outlet}
-use Rattle.sdl_routes.specs.Routes.{hop_number}
 use Rattle.sdl_queue.specs.declared.rest.Rest.{Rest}
 use Rattle.sdl_queue.specs.Rest.{left_in}
-pub use Rattle.sdl_ends.specs.Stations.{same_hop, same_station, stations_of}
+pub use Rattle.sdl_ends.specs.Stations.{same_hop, same_station, stations_of, IsStationOf, IsStationBefore, AreStationsInOrder, AreAllStations}
 
 -- A board is seen as a list of stations, each with the items that wait there, from the front.
 
@@ -25,31 +22,6 @@ pub record ChangesOnly (old new : List (Station × List Item)) (s : Station) : T
 -- what is left at each station
 abbrev pub lists_of : List (Station × Rest) → List (Station × List Item)
 lists_of rests = map (λ r. (r.0, left_in r.1)) rests
-
--- some route of the table passes the station
-abbrev pub IsStationOf : List TableRow → Station → Type 0
-IsStationOf rows s = Any (λ row. Contains row.route.stations.items s) rows
-
--- lines by channel, forth before back, then inlets by block, then the outlet
-abbrev pub IsStationBefore : Station → Station → Type 0
-IsStationBefore (Line h) (Line k) = hop_number h < hop_number k
-IsStationBefore (Line h) (Inlet b) = ⊤
-IsStationBefore (Line h) Outlet = ⊤
-IsStationBefore (Inlet b) (Line h) = ⊥
-IsStationBefore (Inlet b) (Inlet c) = b.0 < c.0
-IsStationBefore (Inlet b) Outlet = ⊤
-IsStationBefore Outlet s = ⊥
-
--- each station stands before all later ones
-abbrev pub AreStationsInOrder : List Station → Type 0
-AreStationsInOrder [] = ⊤
-AreStationsInOrder (s ∷ stations) = AllByRecursion (IsStationBefore s) stations × AreStationsInOrder stations
-
--- exactly the stations of the table's routes, each once, in order
-pub record AreAllStations (rows : List TableRow) (stations : List Station) : Type 0 where
-  pub every : (s : Station) → IsStationOf rows s → Contains stations s
-  pub only : (s : Station) → Contains stations s → IsStationOf rows s
-  pub order : AreStationsInOrder stations
 
 -- the board has a queue for each station of the table's routes, and no other
 abbrev pub IsBoardOf : List TableRow → List (Station × List Item) → Type 0

@@ -1,5 +1,5 @@
 -- Handing on: what a forwarder does with an item.
-use Rattle.std.specs.Prelude.{◌≡◌, ◌≢◌, List, [], ◌∷◌, ◌++◌, Option, Some, None, if◌then◌else◌, slice_get, option_and_then}
+use Rattle.std.specs.Prelude.{◌≡◌, ◌≢◌, List, [], ◌∷◌, ◌++◌, Option, Some, None, slice_get, option_and_then}
 use Rattle.std.specs.Option.{option_to_list}
 use Rattle.sdl_signal.specs.declared.values.Item.{Item}
 use Rattle.sdl_routes.specs.declared.route.Hop.{Hop}
@@ -8,17 +8,13 @@ use Rattle.sdl_routes.specs.declared.route.Station.{Station}
 use Rattle.sdl_routes.specs.declared.route.Station.TheVariants.{Line}
 use Rattle.sdl_forward.specs.declared.forwarder.Forwarded.{Forwarded}
 use Rattle.sdl_forward.specs.declared.forwarder.Forwarded.TheVariants.{Moved, Idle, Held}
-use Rattle.sdl_forward.specs.Boards.{same_station, waiting, ChangesOnly}
+pub use Rattle.sdl_ends.specs.Stations.{station_behind}
+use Rattle.sdl_forward.specs.Boards.{waiting, ChangesOnly}
 
 -- A forwarder, as contracts see it: the delaying path that it takes items from, and the item that it holds.
 pub record Forwarding : Type 0 where
   pub hop : Hop
   pub held : Option Item
-
--- the station right behind this one in a route's list; none behind the last, and none where it is not in the list
-abbrev pub station_behind : Station → List Station → Option Station
-station_behind s [] = None
-station_behind s (t ∷ stations) = if same_station t s then slice_get stations 0 else station_behind s stations
 
 -- where the item goes from this station, on its route; nowhere where the table has no such route
 abbrev pub next_station : List TableRow → Station → Item → Option Station

@@ -8,14 +8,10 @@ use Rattle.sdl_routes.specs.declared.route.TableRow.{TableRow}
 use Rattle.sdl_routes.specs.declared.route.Station.{Station}
 use Rattle.sdl_routes.specs.declared.route.Station.TheVariants.{Line}
 use Rattle.sdl_ends.specs.Ends.{WorkerEnds, put_at, taken_by}
+pub use Rattle.sdl_ends.specs.Ends.{AreFresh}
 use Rattle.sdl_forward.specs.Boards.{same_station}
 use Rattle.sdl_forward.specs.Forwards.{Forwarding, next_station}
 use Rattle.sdl_forward.specs.Carries.{HasWaysOn}
-
--- ends by which nothing was put or taken
-pub record AreFresh (ends : WorkerEnds) : Type 0 where
-  pub put : (s : Station) → put_at ends s ≡ []
-  pub taken : taken_by ends ≡ []
 
 -- there is a station, and it is this one
 abbrev pub is_at : Station → Option Station → Bool

@@ -3,4 +3,4 @@ pub mod Busy
 pub mod Forwards
 pub mod Carries
 pub mod HandsOn
-pub mod Index
+pub mod Serials

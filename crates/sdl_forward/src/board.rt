@@ -4,10 +4,12 @@ ghost use Rattle.sdl_queue.specs.declared.rest.Rest.TheVariants.{Serial};
 ghost use Rattle.sdl_routes.specs.declared.route.Hop.{Hop};
 ghost use Rattle.sdl_routes.specs.declared.route.Station.{Station};
 ghost use Rattle.sdl_routes.specs.declared.route.Station.TheVariants.{Line};
+ghost use Rattle.sdl_routes.specs.Routes.{EachOnce};
+ghost use Rattle.sdl_forward.specs.Serials.{AreSerial};
 ghost use Rattle.sdl_forward.specs.Boards.{stations_of, waiting, ChangesOnly, lists_of, IsBoardOf};
 
 use crate::busy::Busy;
-use crate::index::Index;
+use crate::hints::Hints;
 use crate::stations::stations_of;
 use sdl_queue::{Rest, SerialQueue};
 use sdl_routes::{Routes, Station};
@@ -20,7 +22,7 @@ use std::marker::Model;
 #[derive(Drop)]
 pub struct Board {
     rests: Vec<(Station, Rest)>,
-    index: Index,
+    hints: Hints,
     busy: Busy,
 }
 
@@ -30,13 +32,14 @@ impl Model for Board {
     ghost use Rattle.sdl_routes.specs.declared.route.Station.{Station};
     ghost use Rattle.sdl_forward.specs.Boards.{stations_of, lists_of};
     ghost use Rattle.sdl_forward.specs.Busy.{MarksAll};
-    ghost use Rattle.sdl_forward.specs.Index.{IsIndexOf, AreSerial};
+    ghost use Rattle.sdl_forward.specs.Serials.{AreSerial};
+    ghost use Rattle.sdl_routes.specs.Routes.{EachOnce};
 
     ghost Value = { List (Station × List Item) };
 
     ghost view = { λ b. lists_of b.rests.items };
 
-    ghost invariant = { λ b. IsIndexOf b.index (stations_of b.rests.items) × AreSerial b.rests.items × MarksAll b.busy (lists_of b.rests.items) };
+    ghost invariant = { λ b. EachOnce (stations_of b.rests.items) × AreSerial b.rests.items × MarksAll b.busy (lists_of b.rests.items) };
 }
 
 impl Board {
@@ -47,13 +50,18 @@ impl Board {
         ensures empty { IfOk result (λ board. (s : Station) → waiting board s ≡ []) }
     {
         let stations = stations_of(alloc, routes)?;
-        let index = Index::of(alloc, stations.as_slice())?;
-        let rests = empty_queues(alloc, stations.as_slice())?;
-        Ok(Board {
-            rests,
-            index,
-            busy: Busy::new(),
-        })
+        Ok(Board::of(empty_queues(alloc, stations.as_slice())?))
+    }
+
+    /// A board of these queues of one thread, at most one for each station.
+    pub(crate) fn of(rests: Vec<(Station, Rest)>) -> Board
+        requires once { EachOnce (stations_of rests.items) }
+        requires serial { AreSerial rests.items }
+        ensures { result ≡ lists_of rests.items }
+    {
+        let hints = Hints::of(rests.as_slice());
+        let busy = Busy::of(rests.as_slice());
+        Board { rests, hints, busy }
     }
 
     /// Puts the item at the back of the station, which is one of the board's. Where memory is refused, the item comes back and
@@ -65,7 +73,7 @@ impl Board {
             (λ back. (back.0 ≡ item) × (self.new ≡ self.old)) }
         ensures others { ChangesOnly self.old self.new station }
     {
-        let Some(place) = self.index.get(station) else {
+        let Some(place) = self.hints.find(self.rests.as_slice(), station) else {
             unreachable!()
         };
         self.busy.note(station, true);
@@ -83,7 +91,7 @@ impl Board {
             (λ item. waiting self.old station ≡ item ∷ waiting self.new station) }
         ensures others { ChangesOnly self.old self.new station }
     {
-        let place = self.index.get(station)?;
+        let place = self.hints.find(self.rests.as_slice(), station)?;
         match &mut self.rests[place].1 {
             Rest::Serial(queue) => {
                 let item = queue.take();

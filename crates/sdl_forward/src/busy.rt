@@ -2,8 +2,10 @@
 ghost use Rattle.std.specs.Prelude.{◌≡◌, ◌≢◌, ◌<◌, ◌≤◌, false, ⊤, MatchBool};
 ghost use Rattle.sdl_routes.specs.declared.route.Hop.{Hop};
 ghost use Rattle.sdl_routes.specs.declared.route.Station.TheVariants.{Line};
-ghost use Rattle.sdl_forward.specs.Busy.{IsClear};
+ghost use Rattle.sdl_forward.specs.Boards.{lists_of};
+ghost use Rattle.sdl_forward.specs.Busy.{IsClear, MarksAll};
 
+use sdl_queue::Rest;
 use sdl_routes::{Hop, Station};
 
 /// The number of channels that have a mark of their own: those of a structure are no more.
@@ -21,12 +23,21 @@ pub(crate) struct Busy {
 }
 
 impl Busy {
-    pub(crate) fn new() -> Busy {
-        Busy {
+    /// A mark for each path of these at which something is left.
+    pub(crate) fn of(rests: &[(Station, Rest)]) -> Busy
+        ensures { MarksAll result (lists_of rests.now) }
+    {
+        let mut busy = Busy {
             forth: 0,
             back: 0,
             further: false,
+        };
+        for (station, rest) in rests {
+            if rest.len() != 0 {
+                busy.note(*station, true);
+            }
         }
+        busy
     }
 
     /// Notes whether something may wait at the station, where it is a path.

@@ -1,11 +1,12 @@
 //! Stations and their queues, and the forwarders that bring items from one station to the next.
 #![tactic(auto)]
 
+mod adopting;
 mod apart;
 pub mod board;
 mod busy;
 pub mod forwarder;
-mod index;
+mod hints;
 pub mod laws;
 mod stations;
 

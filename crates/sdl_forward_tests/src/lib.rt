@@ -2,6 +2,8 @@
 #![tactic(auto)]
 
 #[cfg(test)]
+mod adopted;
+#[cfg(test)]
 mod bench;
 #[cfg(test)]
 mod between;
