@@ -1,5 +1,5 @@
 -- What a step has done where no part of it was refused.
-use Rattle.std.proofs.Common.{◌≡◌, ◌≢◌, ℕ, ◌+◌, inl, inr, Bool, true, false, Result, Ok, Err, List, [], ◌∷◌, IfOk, None, length, length-append, refl, ap, sym, ◌∙◌, ◌⊎◌, subst, true≢false}
+use Rattle.std.proofs.Common.{◌≡◌, ◌≢◌, ◌+◌, inl, inr, Bool, true, false, Result, Ok, Err, List, [], ◌∷◌, IfOk, length, length-append, refl, ap, sym, ◌∙◌, ◌⊎◌, subst, true≢false}
 use Rattle.std.specs.Result.{IsErr}
 use Rattle.sdl_signal.specs.declared.values.Item.{Item}
 use Rattle.sdl_signal.specs.Names.{Lexicon}
@@ -20,12 +20,12 @@ put_whole rows true old before new after (puts, some, none) = none
 put_whole rows false old before new after (was, none, board) = none
 
 module _ (names : Lexicon) (rows : List TableRow) where
-  line_next : (did : Bool) (old new : EnvWorking) → Reads names rows old (Ok did) new → ReadsNext old new
+  pub line_next : (did : Bool) (old new : EnvWorking) → Reads names rows old (Ok did) new → ReadsNext old new
   line_next true old new (unended, inl r) = λ none. inl (ap (λ (w : EnvWorking). length w.put) r.same ∙ length-append old.put (r.out ∷ []))
   line_next true old new (unended, inr r) = λ none. inr (λ e. let ended = ap (λ (w : EnvWorking). w.ended) r.same in cc)
   line_next false old new (same, ended) = λ none. absurd (ended none)
 
-  line_keeps : (did : Bool) (old new : EnvWorking) → Reads names rows old (Ok did) new → new.received ≡ old.received
+  pub line_keeps : (did : Bool) (old new : EnvWorking) → Reads names rows old (Ok did) new → new.received ≡ old.received
   line_keeps true old new (unended, inl r) = ap (λ (w : EnvWorking). w.received) r.same
   line_keeps true old new (unended, inr r) = ap (λ (w : EnvWorking). w.received) r.same
   line_keeps false old new (same, ended) = ap (λ (w : EnvWorking). w.received) same
@@ -39,7 +39,7 @@ item_keeps : (did : Bool) (old : EnvWorking) (before : List (Station × List Ite
 item_keeps true old before new after (i, front, changes, same) = (ap (λ (w : EnvWorking). w.outgoing) same, ap (λ (w : EnvWorking). w.ended) same, ap (λ (w : EnvWorking). w.put) same)
 item_keeps false old before new after (same, board, none) = (ap (λ (w : EnvWorking). w.outgoing) same, ap (λ (w : EnvWorking). w.ended) same, ap (λ (w : EnvWorking). w.put) same)
 
-read_around : (old w1 w2 new : EnvWorking) → w1.ended ≡ old.ended → w1.put ≡ old.put → new.ended ≡ w2.ended → new.put ≡ w2.put → ReadsNext w1 w2 → ReadsNext old new
+pub read_around : (old w1 w2 new : EnvWorking) → w1.ended ≡ old.ended → w1.put ≡ old.put → new.ended ≡ w2.ended → new.put ≡ w2.put → ReadsNext w1 w2 → ReadsNext old new
 read_around old w1 w2 new ended put last_ended last_put h = λ none. elim (h (ended ∙ none)) [
   | inl e ↦ inl (ap length last_put ∙ e ∙ ap (λ (l : List _). length l + 1) put)
   | inr e ↦ inr (λ n. e (sym last_ended ∙ n))

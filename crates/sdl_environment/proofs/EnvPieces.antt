@@ -25,19 +25,19 @@ use Rattle.sdl_environment.proofs.EnvLegal.{legal_output, begins_out}
 abbrev pub holding : EnvWorking → List Item → EnvWorking
 holding w items = record w { outgoing = items }
 
-all_behind : {X : Type 0} (P : X → Type 0) (xs ys : List X) → All P (xs ++ ys) → All P ys
+pub all_behind : {X : Type 0} (P : X → Type 0) (xs ys : List X) → All P (xs ++ ys) → All P ys
 all_behind P [] ys h = h
 all_behind P (x ∷ xs) ys h = all_behind P xs ys (All-tail P x (xs ++ ys) h)
 
 -- two parts of what goes through, one behind the other: what was, with what came in, is what went out, with what is
-through : {X : Type 0} (was in1 out1 mid in2 out2 is : List X) → was ++ in1 ≡ out1 ++ mid → mid ++ in2 ≡ out2 ++ is → was ++ (in1 ++ in2) ≡ (out1 ++ out2) ++ is
+pub through : {X : Type 0} (was in1 out1 mid in2 out2 is : List X) → was ++ in1 ≡ out1 ++ mid → mid ++ in2 ≡ out2 ++ is → was ++ (in1 ++ in2) ≡ (out1 ++ out2) ++ is
 through was in1 out1 mid in2 out2 is h k =
     sym (append_assoc was in1 in2) ∙ ap (λ l. l ++ in2) h ∙ append_assoc out1 mid in2 ∙ ap (λ l. out1 ++ l) k ∙ sym (append_assoc out1 out2 is)
 
-grown : {X : Type 0} (old one mid two new : List X) → mid ≡ old ++ one → new ≡ mid ++ two → new ≡ old ++ (one ++ two)
+pub grown : {X : Type 0} (old one mid two new : List X) → mid ≡ old ++ one → new ≡ mid ++ two → new ≡ old ++ (one ++ two)
 grown old one mid two new a b = b ∙ ap (λ l. l ++ two) a ∙ append_assoc old one two
 
-sent-append : (xs ys : List EnvOut) → env_sent (xs ++ ys) ≡ env_sent xs ++ env_sent ys
+pub sent-append : (xs ys : List EnvOut) → env_sent (xs ++ ys) ≡ env_sent xs ++ env_sent ys
 sent-append xs ys = flat_map-append sent_of xs ys
 
 few_sent : (out : EnvOut) → length (sent_of out) ≤ 1
@@ -97,6 +97,18 @@ module _ (s : Structure) (rows : List TableRow) (worker : ℕ) where
       subst (λ (w : EnvWorking). Piece old before [] [] [] w after) (sym same)
       (subst (λ (b : List (Station × List Item)). Piece old before [] [] [] old b) (sym board) (no_piece old before sound))
 
+  -- once some of it is put, the rest is in hand
+  pub put_sound : (old : EnvWorking) (put rest : List Item) → put ++ rest ≡ old.outgoing → IsEnvSound s rows worker old → IsEnvSound s rows worker (holding old rest)
+  put_sound old put rest same sound =
+      record {
+        number = sound.number;
+        legal = all_behind (IsLegalItem s rows worker) put rest (subst (All (IsLegalItem s rows worker)) (sym same) sound.legal);
+        coming = all_behind (ComesIn rows) put rest (subst (All (ComesIn rows)) (sym same) sound.coming);
+        few = sound.few;
+        one = let l : length (put ++ rest) ≡ length put + length rest = length-append put rest in let e = ap length same in omega (arith, l, e, sound.one);
+        counted = sound.counted;
+      }
+
   -- the part that puts items out
   put_piece : (old : EnvWorking) (before : List (Station × List Item)) (put rest : List Item) (after : List (Station × List Item)) → put ++ rest ≡ old.outgoing → Puts rows before put after → IsEnvSound s rows worker old
       → Piece old before [] put [] (holding old rest) after
@@ -108,15 +120,7 @@ module _ (s : Structure) (rows : List TableRow) (worker : ℕ) where
         came = sym (append-nil old.received);
         went = same ∙ sym (append-nil old.outgoing);
         outputs = sym (append-nil old.put);
-        sound =
-            record {
-              number = sound.number;
-              legal = all_behind (IsLegalItem s rows worker) put rest (subst (All (IsLegalItem s rows worker)) (sym same) sound.legal);
-              coming = all_behind (ComesIn rows) put rest (subst (All (ComesIn rows)) (sym same) sound.coming);
-              few = sound.few;
-              one = let l : length (put ++ rest) ≡ length put + length rest = length-append put rest in let e = ap length same in omega (arith, l, e, sound.one);
-              counted = sound.counted;
-            };
+        sound = put_sound old put rest same sound;
       }
 
   -- What is put, by the answer.
@@ -170,7 +174,7 @@ module _ (s : Structure) (rows : List TableRow) (worker : ℕ) where
     pub legal : All (IsLegalItem s rows worker) (env_sent outs)
     pub coming : All (ComesIn rows) (env_sent outs)
 
-  no_readings : (old new : EnvWorking) → ReadsOn s rows worker old [] new → Readings old [] new
+  pub no_readings : (old new : EnvWorking) → ReadsOn s rows worker old [] new → Readings old [] new
   no_readings old new reads = record { reads = reads; numbered = tt; legal = All-nil (IsLegalItem s rows worker); coming = All-nil (ComesIn rows) }
 
   -- What is read, by the answer.
@@ -302,7 +306,7 @@ module _ (s : Structure) (rows : List TableRow) (worker : ℕ) where
     pub did : result ≡ Ok true → taken ≡ [] → ⊥
     pub idle : result ≡ Ok false → (new ≡ old) × (after ≡ before) × (waiting before Outlet ≡ [])
 
-  noted : (old : EnvWorking) (items : List Item) (new : EnvWorking) → new ≡ record old { received = items; output = new.output } → IsEnvSound s rows worker old → IsEnvSound s rows worker new
+  pub noted : (old : EnvWorking) (items : List Item) (new : EnvWorking) → new ≡ record old { received = items; output = new.output } → IsEnvSound s rows worker old → IsEnvSound s rows worker new
   noted old items new same sound =
       subst (IsEnvSound s rows worker) (sym same)
       (record { number = sound.number; legal = sound.legal; coming = sound.coming; few = sound.few; one = sound.one; counted = sound.counted })

@@ -18,12 +18,12 @@ use Rattle.sdl_environment.specs.EnvPhases.{Reads, Receives, HasReadBy, HasWritt
 use Rattle.sdl_environment.proofs.EnvReading.{read_same}
 use Rattle.sdl_environment.proofs.EnvPieces.{Piece, piece_then, holding, PutPart, put_part, Readings, ReadPart, no_read, ReceivePart, receive_part}
 
-nil_left : {X : Type 0} (xs ys : List X) → xs ++ ys ≡ [] → xs ≡ []
+pub nil_left : {X : Type 0} (xs ys : List X) → xs ++ ys ≡ [] → xs ≡ []
 nil_left [] ys e = refl
 nil_left (x ∷ xs) ys e = cc
 
 module _ (s : Structure) (rows : List TableRow) (worker : ℕ) where
-  around : (old w1 : EnvWorking) (outs : List EnvOut) (w2 new : EnvWorking) → w1.ended ≡ old.ended → w1.reading ≡ old.reading → w1.put ≡ old.put → new.ended ≡ w2.ended → new.reading ≡ w2.reading
+  pub around : (old w1 : EnvWorking) (outs : List EnvOut) (w2 new : EnvWorking) → w1.ended ≡ old.ended → w1.reading ≡ old.reading → w1.put ≡ old.put → new.ended ≡ w2.ended → new.reading ≡ w2.reading
       → Readings s rows worker w1 outs w2 → Readings s rows worker old outs new
   around old w1 outs w2 new ended reading put last_ended last_reading r =
       record {
@@ -157,7 +157,7 @@ module _ (names : Lexicon) (rows : List TableRow) where
   read_after_receive worker start now (Err r) old before new after (same, board) = subst (HasReadBy names rows worker start now) (sym same)
 
   -- what was written so far is not changed by a put and a reading
-  written_same : (start now : Option (List ℕ)) (old new : EnvWorking) → new.received ≡ old.received → new.output ≡ old.output → HasWrittenBy names rows start now old → HasWrittenBy names rows start now new
+  pub written_same : (start now : Option (List ℕ)) (old new : EnvWorking) → new.received ≡ old.received → new.output ≡ old.output → HasWrittenBy names rows start now old → HasWrittenBy names rows start now new
   written_same start now old new received output h =
       subst (λ (e : OutputEnd). HasWritten start now (received_text names rows new.received) e) (sym output)
       (subst (λ (items : List Item). HasWritten start now (received_text names rows items) old.output) (sym received) h)

@@ -6,3 +6,6 @@ pub mod EnvPieces
 pub mod EnvStepping
 pub mod EnvAgain
 pub mod EnvNext
+pub mod EnvSending
+pub mod EnvReceiving
+pub mod EnvKeeps

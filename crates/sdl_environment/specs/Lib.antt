@@ -1,2 +1,4 @@
 pub mod EnvPhases
 pub mod EnvSteps
+pub mod EnvApart
+pub mod EnvPhasesApart

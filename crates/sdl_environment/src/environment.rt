@@ -33,10 +33,10 @@ pub struct EnvWorker {
     reader: EnvReader,
     ended: Option<InputEnd>,
     put: Vec<EnvOut>,
-    hand: Hand,
-    received: Vec<Item>,
-    sink: LineSink,
-    output: OutputEnd,
+    pub(crate) hand: Hand,
+    pub(crate) received: Vec<Item>,
+    pub(crate) sink: LineSink,
+    pub(crate) output: OutputEnd,
 }
 
 impl Model for EnvWorker {
@@ -159,7 +159,7 @@ impl EnvWorker {
     }
 
     /// Reads a line, unless the reading has ended, and outputs its signal. It says whether the reading went on.
-    fn read_one<R: Read>(
+    pub(crate) fn read_one<R: Read>(
         &mut self,
         names: &Names,
         routes: &Routes,

@@ -1,4 +1,4 @@
-use Rattle.std.proofs.Common.{sym, ◌∙◌}
+use Rattle.std.proofs.Common.{◌∙◌}
 use Rattle.sdl_environment.proofs.EnvNext.{unrefused}
 use Rattle.sdl_environment.proofs.environment.EnvWorker.step_serial.Goals as goal
 

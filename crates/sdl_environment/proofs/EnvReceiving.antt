@@ -1,0 +1,211 @@
+-- The last part of a step of the environment through its own ends, and the whole step.
+use Rattle.std.proofs.Common.{◌≡◌, ℕ, ◌≤◌, ◌||◌, inl, inr, Bool, true, false, Result, Ok, Err, List, [], ◌∷◌, ◌++◌, Option, None, Some, length, All, refl, ap, sym, ◌∙◌, subst, append-nil, true≢false, arith}
+use Rattle.std.specs.Option.{option_to_list}
+use Rattle.std.specs.Result.{IsErr}
+use Rattle.std.proofs.lemmas.Option.{none-some}
+use Rattle.std.proofs.lemmas.List.Elements.{All-nil, All-cons}
+use Rattle.sdl_signal.specs.declared.values.Item.{Item}
+use Rattle.sdl_parts.specs.Structure.{Structure, lexicon_of}
+use Rattle.sdl_routes.specs.declared.route.TableRow.{TableRow}
+use Rattle.sdl_routes.specs.declared.route.Station.{Station}
+use Rattle.sdl_ends.specs.Ends.{WorkerEnds, put_at, taken_by}
+use Rattle.sdl_hand.specs.declared.hand.Refused.{Refused}
+use Rattle.sdl_outcome.specs.EnvironmentWork.{EnvWorking, IsEnvSound, IsLegalItem, GoesOut, ReadsOn}
+use Rattle.sdl_environment.specs.EnvPhases.{HasReadBy, HasWrittenBy}
+use Rattle.sdl_environment.specs.EnvApart.{EnvWorksApart}
+use Rattle.sdl_environment.specs.EnvPhasesApart.{SendsApart, SendsNothing, SendsTo, SentOn, ReceivesApart, EnvStepsToApart}
+use Rattle.sdl_environment.proofs.EnvPieces.{no_readings, noted}
+use Rattle.sdl_environment.proofs.EnvReading.{read_same}
+use Rattle.sdl_environment.proofs.EnvStepping.{written_same}
+use Rattle.sdl_environment.proofs.EnvSending.{sends_of, put_same}
+
+same_noted : (old new : EnvWorking) → new ≡ old → new ≡ record old { received = new.received; output = new.output }
+same_noted old new same = subst (λ (w : EnvWorking). w ≡ record old { received = w.received; output = w.output }) (sym same) refl
+
+module _ (s : Structure) (rows : List TableRow) (worker : ℕ) where
+  abbrev Leaves : Item → Type 0
+  Leaves i = IsLegalItem s rows worker i × GoesOut rows i
+
+  -- what is taken, and what of it is received, with nothing astray before
+  record Receiving (result : Result Bool Refused) (old : EnvWorking) (before : WorkerEnds) (new : EnvWorking) (is : Option Item) (after : WorkerEnds) : Type 0 where
+    taken : List Item
+    more : List Item
+    one : length taken ≤ 1
+    takes : taken_by after ≡ taken_by before ++ taken
+    puts : (t : Station) → put_at after t ≡ put_at before t
+    came : taken ≡ more ++ option_to_list is
+    received : new.received ≡ old.received ++ more
+    leaves : All Leaves more
+    lost : (i : Item) → is ≡ Some i → IsLegalItem s rows worker i → GoesOut rows i → ⊥
+    same : new ≡ record old { received = new.received; output = new.output }
+    did : result ≡ Ok true → taken ≡ [] → ⊥
+
+  none_lost : (is : Option Item) → is ≡ None → (i : Item) → is ≡ Some i → IsLegalItem s rows worker i → GoesOut rows i → ⊥
+  none_lost is none i some legal out = absurd (none-some i (sym none ∙ some))
+
+  one_lost : (is : Option Item) (i : Item) → is ≡ Some i → (Leaves i → ⊥) → (j : Item) → is ≡ Some j → IsLegalItem s rows worker j → GoesOut rows j → ⊥
+  one_lost is i this not j some legal out =
+      let same : j ≡ i = cc in
+      not (subst Leaves same (legal, out))
+
+  nothing_received : (result : Result Bool Refused) → (result ≡ Ok true → ⊥) → (old : EnvWorking) (before : WorkerEnds) (new : EnvWorking) (is : Option Item) (after : WorkerEnds)
+      → new ≡ old → is ≡ None → taken_by after ≡ taken_by before → ((t : Station) → put_at after t ≡ put_at before t) → Receiving result old before new is after
+  nothing_received result not old before new is after same none takes puts =
+      record {
+        taken = [];
+        more = [];
+        one = omega arith;
+        takes = takes ∙ sym (append-nil (taken_by before));
+        puts = puts;
+        came = ap option_to_list (sym none);
+        received = ap (λ (w : EnvWorking). w.received) same ∙ sym (append-nil old.received);
+        leaves = All-nil Leaves;
+        lost = none_lost is none;
+        same = same_noted old new same;
+        did = λ said. absurd (not said);
+      }
+
+  receiving : (result : Result Bool Refused) (old : EnvWorking) (before : WorkerEnds) (new : EnvWorking) (is : Option Item) (after : WorkerEnds)
+      → ReceivesApart s rows worker old before result new is after → Receiving result old before new is after
+  receiving (Ok true) old before new is after (i, takes, may, same, none) =
+      let received : new.received ≡ old.received ++ i ∷ [] = ap (λ (w : EnvWorking). w.received) same in
+      record {
+        taken = i ∷ [];
+        more = i ∷ [];
+        one = omega arith;
+        takes = takes.taken;
+        puts = put_same before after takes.feeds;
+        came = ap (λ (o : Option Item). i ∷ [] ++ option_to_list o) (sym none);
+        received = received;
+        leaves = All-cons Leaves i [] may (All-nil Leaves);
+        lost = none_lost is none;
+        same = same ∙ ap (λ (l : List Item). record old { received = l; output = new.output }) (sym received);
+        did = λ said none. cc;
+      }
+  receiving (Ok false) old before new is after (same, takes, none) = nothing_received (Ok false) (λ said. cc) old before new is after same none takes.taken (put_same before after takes.feeds)
+  receiving (Err r) old before new is after (same, inl (ends, none)) =
+      nothing_received (Err r) (λ said. cc) old before new is after same none (ap taken_by ends) (λ t. ap (λ (e : WorkerEnds). put_at e t) ends)
+  receiving (Err r) old before new is after (same, inr (i, takes, this, not)) =
+      record {
+        taken = i ∷ [];
+        more = [];
+        one = omega arith;
+        takes = takes.taken;
+        puts = put_same before after takes.feeds;
+        came = ap option_to_list (sym this);
+        received = ap (λ (w : EnvWorking). w.received) same ∙ sym (append-nil old.received);
+        leaves = All-nil Leaves;
+        lost = one_lost is i this not;
+        same = same_noted old new same;
+        did = λ said. cc;
+      }
+
+  -- what was sent and then what was received are a step
+  abbrev works_of : (result : Result Bool Refused) (old : EnvWorking) (before : WorkerEnds) (mid : EnvWorking) (between : WorkerEnds) (new : EnvWorking) (is : Option Item) (after : WorkerEnds)
+      → SendsApart s rows worker old before mid between → Receiving result mid between new is after → EnvWorksApart s rows worker old None before new is after
+  works_of result old before mid between new is after a r =
+      record {
+        outs = a.outs;
+        put = a.put;
+        taken = r.taken;
+        more = r.more;
+        one = r.one;
+        takes = r.takes ∙ ap (λ l. l ++ r.taken) a.takes;
+        puts = λ t. r.puts t ∙ a.puts t;
+        came = r.came;
+        received = r.received ∙ ap (λ l. l ++ r.more) a.received;
+        leaves = r.leaves;
+        lost = r.lost;
+        went = ap (λ (w : EnvWorking). a.put ++ w.outgoing) r.same ∙ a.went;
+        outputs = ap (λ (w : EnvWorking). w.put) r.same ∙ a.outputs;
+        numbered = a.numbered;
+        reads = subst (ReadsOn s rows worker old a.outs) (sym r.same) a.reads;
+        legal = a.legal;
+        coming = a.coming;
+        sound = noted s rows worker mid new.received new r.same a.sound;
+      }
+
+  sends_nothing : (old : EnvWorking) (before : WorkerEnds) (new : EnvWorking) (after : WorkerEnds) → SendsNothing old before new after → IsEnvSound s rows worker old → SendsApart s rows worker old before new after
+  sends_nothing old before new after h sound =
+      sends_of s rows worker old before [] [] new after
+      (record {
+        putting = record { takes = h.takes; puts = λ t. h.puts t ∙ sym (append-nil (put_at before t)) };
+        received = ap (λ (w : EnvWorking). w.received) h.same;
+        output = ap (λ (w : EnvWorking). w.output) h.same;
+        went = ap (λ (w : EnvWorking). w.outgoing) h.same ∙ sym (append-nil old.outgoing);
+        outputs = ap (λ (w : EnvWorking). w.put) h.same ∙ sym (append-nil old.put);
+        sound = subst (IsEnvSound s rows worker) (sym h.same) sound;
+      })
+      (no_readings s rows worker old new (inl (refl, ap (λ (w : EnvWorking). w.ended) h.same, ap (λ (w : EnvWorking). w.reading) h.same)))
+
+  sends_any : (result : Result Bool Refused) (old : EnvWorking) (before : WorkerEnds) (new : EnvWorking) (after : WorkerEnds) → SendsTo s rows worker old before result new after → IsEnvSound s rows worker old
+      → SendsApart s rows worker old before new after
+  sends_any (Ok true) old before new after h sound = h.0
+  sends_any (Ok false) old before new after h sound = sends_nothing old before new after h sound
+  sends_any (Err r) old before new after h sound = h
+
+  -- what holds of each refusal holds of an answer that is one
+  steps_refused : (result : Result Bool Refused) → IsErr result → (old : EnvWorking) (before : WorkerEnds) (new : EnvWorking) (is : Option Item) (after : WorkerEnds)
+      → EnvWorksApart s rows worker old None before new is after → EnvStepsToApart s rows worker old None before result new is after
+  steps_refused (Err r) h old before new is after w = w
+  steps_refused (Ok did) h old before new is after w = absurd (true≢false (sym h))
+
+  module _ (old : EnvWorking) (b0 : WorkerEnds) (mid : EnvWorking) (b1 : WorkerEnds) where
+    -- a refusal as the hand is put out or a line is read
+    pub steps_at_sending : (result : Result Bool Refused) → IsErr result → (is : Option Item) → is ≡ None → (r : Refused) → SendsTo s rows worker old b0 (Err r) mid b1
+        → EnvStepsToApart s rows worker old None b0 result mid is b1
+    steps_at_sending result err is none r sends =
+        steps_refused result err old b0 mid is b1 (works_of (Err r) old b0 mid b1 mid is b1 sends (nothing_received (Err r) (λ said. cc) mid b1 mid is b1 refl none refl (λ t. refl)))
+
+    module _ (d : Bool) (sends : SendsTo s rows worker old b0 (Ok d) mid b1) (sound : IsEnvSound s rows worker old) (new : EnvWorking) (is : Option Item) (b2 : WorkerEnds) where
+      -- a refusal as an item is received
+      pub steps_at_receiving : (result : Result Bool Refused) → IsErr result → (r : Refused) → ReceivesApart s rows worker mid b1 (Err r) new is b2 → EnvStepsToApart s rows worker old None b0 result new is b2
+      steps_at_receiving result err r receives =
+          steps_refused result err old b0 new is b2 (works_of (Err r) old b0 mid b1 new is b2 (sends_any (Ok d) old b0 mid b1 sends sound) (receiving (Err r) mid b1 new is b2 receives))
+
+      pub steps_apart : (t : Bool) → ReceivesApart s rows worker mid b1 (Ok t) new is b2 → EnvStepsToApart s rows worker old None b0 (Ok (d || t)) new is b2
+      steps_apart t receives = by d t sends receives
+        where
+          by : (c e : Bool) → SendsTo s rows worker old b0 (Ok c) mid b1 → ReceivesApart s rows worker mid b1 (Ok e) new is b2 → EnvStepsToApart s rows worker old None b0 (Ok (c || e)) new is b2
+          by true e a r =
+              let got = receiving (Ok e) mid b1 new is b2 r in
+              (works_of (Ok e) old b0 mid b1 new is b2 a.0 got, λ (same, outs, put, taken). a.1 (sym (ap (λ (w : EnvWorking). w.ended) got.same) ∙ same, outs, put))
+          by false true a r =
+              let got = receiving (Ok true) mid b1 new is b2 r in
+              (works_of (Ok true) old b0 mid b1 new is b2 (sends_nothing old b0 mid b1 a sound) got, λ (same, outs, put, taken). got.did refl taken)
+          by false false a (same, takes, none) = (
+            same ∙ a.same,
+            none,
+            record {
+              ended = a.ended;
+              outgoing = a.outgoing;
+              none = refl;
+              taken = takes.taken ∙ a.takes;
+              puts = λ t. put_same b1 b2 takes.feeds t ∙ a.puts t;
+            },
+          )
+
+-- what is said of an answer that is no refusal
+receives_keep : (s : Structure) (rows : List TableRow) (worker : ℕ) (t : Bool) (old : EnvWorking) (before : WorkerEnds) (new : EnvWorking) (is : Option Item) (after : WorkerEnds)
+    → ReceivesApart s rows worker old before (Ok t) new is after → (new ≡ record old { received = new.received; output = new.output }) × (is ≡ None)
+receives_keep s rows worker true old before new is after (i, takes, may, same, none) = ((receiving s rows worker (Ok true) old before new is after (i, takes, may, same, none)).same, none)
+receives_keep s rows worker false old before new is after (same, takes, none) = (same_noted old new same, none)
+
+pub steps_on : (s : Structure) (rows : List TableRow) (worker : ℕ) (t : Bool) (old mid : EnvWorking) (between : WorkerEnds) (new : EnvWorking) (is : Option Item) (after : WorkerEnds)
+    → SentOn old mid → ReceivesApart s rows worker mid between (Ok t) new is after → SentOn old new × (is ≡ None)
+steps_on s rows worker t old mid between new is after on receives =
+    let (same, none) = receives_keep s rows worker t mid between new is after receives in
+    (subst (SentOn old) (sym same) (record { hand = on.hand; read = on.read }), none)
+
+-- what was read so far is not changed by a receiving, and what was written so far not by a sending
+pub read_after_receiving : (s : Structure) (rows : List TableRow) (worker own : ℕ) (start now : Option (List ℕ)) (result : Result Bool Refused) (old : EnvWorking) (before : WorkerEnds) (new : EnvWorking) (is : Option Item) (after : WorkerEnds)
+    → ReceivesApart s rows worker old before result new is after → HasReadBy (lexicon_of s) rows own start now old → HasReadBy (lexicon_of s) rows own start now new
+read_after_receiving s rows worker own start now result old before new is after receives =
+    let same = (receiving s rows worker result old before new is after receives).same in
+    read_same (lexicon_of s) rows own start now old new (ap (λ (w : EnvWorking). w.ended) same) (ap (λ (w : EnvWorking). w.put) same) (ap (λ (w : EnvWorking). w.reading) same)
+
+pub written_after_sending : (s : Structure) (rows : List TableRow) (worker : ℕ) (start now : Option (List ℕ)) (result : Result Bool Refused) (old : EnvWorking) (before : WorkerEnds) (new : EnvWorking) (after : WorkerEnds)
+    → SendsTo s rows worker old before result new after → IsEnvSound s rows worker old → HasWrittenBy (lexicon_of s) rows start now old → HasWrittenBy (lexicon_of s) rows start now new
+written_after_sending s rows worker start now result old before new after sends sound =
+    let a = sends_any s rows worker result old before new after sends sound in
+    written_same (lexicon_of s) rows start now old new a.received a.output

@@ -1,0 +1,11 @@
+use Rattle.std.proofs.Common.{ap, sym, subst}
+use Rattle.sdl_hand.specs.Puts.{AreRouted}
+use Rattle.sdl_hand.specs.PutsApart.{HaveWaysOut}
+use Rattle.sdl_outcome.specs.EnvironmentWork.{EnvWorking}
+use Rattle.sdl_environment.proofs.environment.EnvWorker.put_out_apart.Goals as goal
+
+pub put_out_apart-requires-clause-routed : goal.put_out_apart-requires-clause-routed
+put_out_apart-requires-clause-routed g c = subst (AreRouted c.args.routes.now) (sym (ap (λ (w : EnvWorking). w.outgoing) c.self.view_is)) c.requires.routed
+
+pub put_out_apart-requires-clause-ways : goal.put_out_apart-requires-clause-ways
+put_out_apart-requires-clause-ways g c = subst (HaveWaysOut c.args.routes.now c.args.ends.now) (sym (ap (λ (w : EnvWorking). w.outgoing) c.self.view_is)) c.requires.ways

@@ -1,0 +1,201 @@
+//! The environment's step where each queue has ends of its own.
+ghost use Rattle.std.specs.Prelude.{◌≡◌, ◌≢◌, ℕ, List, [], Option, Some, None, IfOk};
+ghost use Rattle.sdl_signal.specs.declared.values.Item.{Item};
+ghost use Rattle.sdl_parts.specs.Structure.{IsStructure};
+ghost use Rattle.sdl_routes.specs.Routes.{AreRoutesOf};
+ghost use Rattle.sdl_ends.specs.Ends.{IsSameEnds};
+ghost use Rattle.sdl_hand.specs.declared.hand.Stepped.TheVariants.{Memory};
+ghost use Rattle.sdl_hand.specs.Puts.{AreRouted};
+ghost use Rattle.sdl_hand.specs.PutsApart.{HaveWaysOut, PutsOutApart};
+ghost use Rattle.sdl_outcome.specs.EnvironmentWork.{IsEnvSound, HasReadSoFar, HasWrittenSoFar};
+ghost use Rattle.sdl_environment.specs.EnvSteps.{ReadsNext};
+ghost use Rattle.sdl_environment.specs.EnvApart.{EnvStepsApart, IsEnvPuttingOut, HasGateWays};
+ghost use Rattle.sdl_environment.specs.EnvPhasesApart.{SendsTo, SentOn, ReceivesApart, EnvStepsToApart};
+
+use crate::environment::EnvWorker;
+use crate::leaving::may_leave;
+use crate::writing::write;
+use sdl_ends::Ends;
+use sdl_hand::{Refused, Stepped, answer_of};
+use sdl_parts::Structure;
+use sdl_routes::Routes;
+use sdl_signal::Item;
+use std::io::{Read, Write};
+use std::sync::Wait;
+
+/// The environment's worker where each queue has ends of its own, and the item that is astray: it was taken, and may not leave
+/// through the outlet.
+#[derive(Drop)]
+pub struct EnvApart {
+    pub worker: EnvWorker,
+    pub astray: Option<Item>,
+}
+
+impl EnvApart {
+    /// The worker, with nothing astray.
+    pub fn new(worker: EnvWorker) -> EnvApart
+        ensures worker { result.worker ≡ worker }
+        ensures astray { result.astray ≡ None }
+    {
+        EnvApart {
+            worker,
+            astray: None,
+        }
+    }
+
+    /// The worker, and what is astray.
+    pub fn into_parts(self) -> (EnvWorker, Option<Item>)
+        ensures worker { result.0 ≡ self.worker }
+        ensures astray { result.1 ≡ self.astray }
+    {
+        (self.worker, self.astray)
+    }
+
+    /// A step through the environment's own ends. It puts out what is in hand. Unless its reading has ended, it reads one line
+    /// and outputs its signal, with the line's gate as the source. It then takes one item and writes its line, unless a write
+    /// failed before. An item that may not leave is astray, and from then on nothing is done. A refusal ends the step, and the
+    /// next one goes on there. `pick` chooses among the routes. May wait for other threads.
+    pub fn step<T: Wait, R: Read, W: Write>(
+        &mut self,
+        rt: &T,
+        structure: &Structure,
+        routes: &Routes,
+        ends: &mut Ends,
+        pick: u32,
+        input: &mut R,
+        output: &mut W,
+    ) -> Stepped
+        requires structure { IsStructure structure.now }
+        requires routes { AreRoutesOf structure.now routes.now }
+        requires keeps { IsEnvPuttingOut structure.now routes.now self.old.worker.number self.old.worker self.old.astray ends.old }
+        ensures step { EnvStepsApart structure.now routes.now self.old.worker.number self.old.worker self.old.astray ends.old result self.new.worker self.new.astray ends.new }
+        // What it does where nothing is astray and no refusal ends it, and where an item is astray.
+        ensures hand { result ≢ Memory → self.new.worker.outgoing ≡ [] }
+        ensures read { result ≢ Memory → ReadsNext self.old.worker self.new.worker }
+        ensures none { result ≢ Memory → self.new.astray ≡ None }
+        ensures astray { (i : Item) → self.old.astray ≡ Some i → (result ≡ Memory) × (self.new ≡ self.old) × (ends.new ≡ ends.old) }
+        ensures reading { (start : Option (List ℕ)) → HasReadSoFar structure.now routes.now self.old.worker.number start (R.remaining input.old) self.old.worker
+            → HasReadSoFar structure.now routes.now self.old.worker.number start (R.remaining input.new) self.new.worker }
+        ensures writing { (start : Option (List ℕ)) → HasWrittenSoFar structure.now routes.now self.old.worker.number start (W.contents output.old) self.old.worker
+            → HasWrittenSoFar structure.now routes.now self.old.worker.number start (W.contents output.new) self.new.worker }
+        ensures keeps { IsEnvPuttingOut structure.now routes.now self.new.worker.number self.new.worker self.new.astray ends.new }
+        ensures number { self.new.worker.number ≡ self.old.worker.number }
+        ensures ends { IsSameEnds ends.old ends.new }
+    {
+        if self.astray.is_some() {
+            return Stepped::Memory;
+        }
+        answer_of(self.try_step(rt, structure, routes, ends, pick, input, output))
+    }
+
+    /// A step with nothing astray, which says whether it did anything.
+    fn try_step<T: Wait, R: Read, W: Write>(
+        &mut self,
+        rt: &T,
+        structure: &Structure,
+        routes: &Routes,
+        ends: &mut Ends,
+        pick: u32,
+        input: &mut R,
+        output: &mut W,
+    ) -> Result<bool, Refused>
+        requires structure { IsStructure structure.now }
+        requires routes { AreRoutesOf structure.now routes.now }
+        requires none { self.old.astray ≡ None }
+        requires sound { IsEnvSound structure.now routes.now self.old.worker.number self.old.worker }
+        requires ways { HasGateWays routes.now ends.old }
+        ensures step { EnvStepsToApart structure.now routes.now self.old.worker.number self.old.worker None ends.old result self.new.worker self.new.astray ends.new }
+        ensures on { IfOk result (λ did. SentOn self.old.worker self.new.worker × (self.new.astray ≡ None)) }
+        ensures reading { (start : Option (List ℕ)) → HasReadSoFar structure.now routes.now self.old.worker.number start (R.remaining input.old) self.old.worker
+            → HasReadSoFar structure.now routes.now self.old.worker.number start (R.remaining input.new) self.new.worker }
+        ensures writing { (start : Option (List ℕ)) → HasWrittenSoFar structure.now routes.now self.old.worker.number start (W.contents output.old) self.old.worker
+            → HasWrittenSoFar structure.now routes.now self.old.worker.number start (W.contents output.new) self.new.worker }
+        ensures ends { IsSameEnds ends.old ends.new }
+    {
+        let sent = self
+            .worker
+            .send_apart(rt, structure, routes, ends, pick, input)?;
+        let received = self
+            .worker
+            .receive_one_apart(rt, structure, routes, ends, output, &mut self.astray)?;
+        Ok(sent | received)
+    }
+}
+
+impl EnvWorker {
+    /// Puts out what is in hand, reads a line, unless the reading has ended, and puts out what its output sends. It says
+    /// whether anything was done.
+    fn send_apart<T: Wait, R: Read>(
+        &mut self,
+        rt: &T,
+        structure: &Structure,
+        routes: &Routes,
+        ends: &mut Ends,
+        pick: u32,
+        input: &mut R,
+    ) -> Result<bool, Refused>
+        requires sound { IsEnvSound structure.now routes.now self.old.number self.old }
+        requires ways { HasGateWays routes.now ends.old }
+        ensures sends { SendsTo structure.now routes.now self.old.number self.old ends.old result self.new ends.new }
+        ensures on { IfOk result (λ did. SentOn self.old self.new) }
+        ensures reading { (start : Option (List ℕ)) → HasReadSoFar structure.now routes.now self.old.number start (R.remaining input.old) self.old
+            → HasReadSoFar structure.now routes.now self.old.number start (R.remaining input.new) self.new }
+        ensures ends { IsSameEnds ends.old ends.new }
+    {
+        let names = structure.names();
+        let put = self.put_out_apart(rt, routes, ends)?;
+        let read = self.read_one(names, routes, pick, input)?;
+        self.put_out_apart(rt, routes, ends)?;
+        Ok(put | read)
+    }
+
+    /// Puts out what is in hand, and says whether there was anything.
+    fn put_out_apart<T: Wait>(
+        &mut self,
+        rt: &T,
+        routes: &Routes,
+        ends: &mut Ends,
+    ) -> Result<bool, Refused>
+        requires routed { AreRouted routes.now self.old.outgoing }
+        requires ways { HaveWaysOut routes.now ends.old self.old.outgoing }
+        ensures put { PutsOutApart routes.now self.old.outgoing ends.old result self.new.outgoing ends.new }
+        ensures rest { self.new ≡ record self.old { outgoing = self.new.outgoing } }
+        ensures ends { IsSameEnds ends.old ends.new }
+    {
+        self.hand.put_out_apart(rt, routes, ends)
+    }
+
+    /// Takes an item, and writes its line. It says whether there was one. An item that may not leave is astray.
+    fn receive_one_apart<T: Wait, W: Write>(
+        &mut self,
+        rt: &T,
+        structure: &Structure,
+        routes: &Routes,
+        ends: &mut Ends,
+        output: &mut W,
+        astray: &mut Option<Item>,
+    ) -> Result<bool, Refused>
+        requires structure { IsStructure structure.now }
+        requires routes { AreRoutesOf structure.now routes.now }
+        requires none { astray.old ≡ None }
+        ensures received { ReceivesApart structure.now routes.now self.old.number self.old ends.old result self.new astray.new ends.new }
+        ensures writing { (start : Option (List ℕ)) → HasWrittenSoFar structure.now routes.now self.old.number start (W.contents output.old) self.old
+            → HasWrittenSoFar structure.now routes.now self.old.number start (W.contents output.new) self.new }
+        ensures ends { IsSameEnds ends.old ends.new }
+    {
+        if self.received.reserve(1).is_err() {
+            return Err(Refused);
+        }
+        let Some(item) = ends.take(rt) else {
+            return Ok(false);
+        };
+        if !may_leave(structure, routes, &item) {
+            *astray = Some(item);
+            return Err(Refused);
+        }
+        let names = structure.names();
+        self.output = write(&mut self.sink, self.output, names, routes, &item, output);
+        self.received.push_reserved(item);
+        Ok(true)
+    }
+}

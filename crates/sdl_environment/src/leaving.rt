@@ -1,0 +1,100 @@
+//! Which items may leave through the outlet.
+ghost use Rattle.std.specs.Prelude.{◌≡◌, ◌↔◌, IsTrue, All, IfSome, Some, length, map, slice_get};
+ghost use Rattle.sdl_signal.specs.Sorts.{sort_of};
+ghost use Rattle.sdl_transition.specs.Offers.{IsLegalPid, IsLegalValue};
+ghost use Rattle.sdl_instances.specs.Arriving.{IsCarried};
+ghost use Rattle.sdl_instances.specs.Core.{signals_of, sets_of};
+ghost use Rattle.sdl_instances.specs.Legal.{IsLegal};
+ghost use Rattle.sdl_outcome.specs.EnvironmentWork.{GoesOut};
+
+use sdl_parts::{SignalDecl, Structure};
+use sdl_routes::{EndPoint, Routes};
+use sdl_signal::{Item, Pid, Signal, Value};
+
+/// Whether the item may leave through the outlet: it may travel, and its route ends in the environment. No memory is taken.
+pub fn may_leave(structure: &Structure, routes: &Routes, item: &Item) -> bool
+    ensures { IsTrue result ↔ (IsLegal (signals_of structure.now) (length (sets_of structure.now)) routes.now item.now × GoesOut routes.now item.now) }
+{
+    may_travel(structure, routes, item) && goes_out(routes, item)
+}
+
+/// Whether the item's route ends in the environment.
+fn goes_out(routes: &Routes, item: &Item) -> bool
+    ensures { IsTrue result ↔ GoesOut routes.now item.now }
+{
+    match routes.get(item.route) {
+        Some(route) => match route.end {
+            EndPoint::Environment(_) => true,
+            EndPoint::Set(_) => false,
+        },
+        None => false,
+    }
+}
+
+/// Whether the item may travel.
+fn may_travel(structure: &Structure, routes: &Routes, item: &Item) -> bool
+    ensures { IsTrue result ↔ IsLegal (signals_of structure.now) (length (sets_of structure.now)) routes.now item.now }
+{
+    let sets = structure.sets().len();
+    is_carried(routes, item)
+        && has_its_sorts(structure.signals(), &item.signal)
+        && are_legal(sets, item.signal.params.as_slice())
+        && is_legal_pid(sets, item.sender)
+        && names_legal(sets, item.to)
+}
+
+/// Whether the item's route is there, and of the item's signal.
+fn is_carried(routes: &Routes, item: &Item) -> bool
+    ensures { IsTrue result ↔ IsCarried routes.now item.now }
+{
+    match routes.get(item.route) {
+        Some(route) => route.signal == item.signal.id,
+        None => false,
+    }
+}
+
+/// Whether the signal is there, with the sorts of these parameters.
+fn has_its_sorts(signals: &[SignalDecl], signal: &Signal) -> bool
+    ensures { IsTrue result ↔ slice_get (map (λ s. s.sorts.items) signals.now) signal.now.id.0 ≡ Some (map sort_of signal.now.params.items) }
+{
+    match signals.get(signal.id.0 as usize) {
+        Some(found) => Value::are_of_sorts(signal.params.as_slice(), found.sorts.as_slice()),
+        None => false,
+    }
+}
+
+/// Whether each instance among the values has one of so many sets, and a serial number of at least 1.
+fn are_legal(sets: usize, values: &[Value]) -> bool
+    ensures { IsTrue result ↔ All (IsLegalValue sets) values.now }
+{
+    values.iter().all(|value| is_legal_value(sets, value))
+}
+
+fn is_legal_value(sets: usize, value: &Value) -> bool
+    ensures { IsTrue result ↔ IsLegalValue sets value.now }
+{
+    match value {
+        Value::Pid(pid) => is_legal_pid(sets, *pid),
+        Value::Integer(_) => true,
+        Value::Boolean(_) => true,
+    }
+}
+
+fn is_legal_pid(sets: usize, pid: Pid) -> bool
+    ensures { IsTrue result ↔ IsLegalPid sets pid }
+{
+    match pid {
+        Pid::Inst(set, serial) => (set.0 as usize) < sets && 1 <= serial,
+        Pid::Null => true,
+        Pid::Env => true,
+    }
+}
+
+fn names_legal(sets: usize, to: Option<Pid>) -> bool
+    ensures { IsTrue result ↔ IfSome to (IsLegalPid sets) }
+{
+    match to {
+        Some(pid) => is_legal_pid(sets, pid),
+        None => true,
+    }
+}
