@@ -10,20 +10,21 @@ use Rattle.sdl_forward.specs.Boards.{lists_of}
 use Rattle.sdl_hand.specs.declared.hand.Hand.{Hand}
 use Rattle.sdl_hand.specs.Work.{Working}
 use Rattle.sdl_block.specs.Workers.{worker_of}
-use Rattle.sdl_driver.specs.declared.driver.Driver.{Driver}
+use Rattle.sdl_block.specs.declared.worker.BlockWorker.{BlockWorker}
+use Rattle.sdl_forward.specs.Forwards.{Forwarding}
 use Rattle.sdl_outcome.specs.declared.end.RunEnd.{RunEnd}
 use Rattle.sdl_outcome.specs.declared.environment_output.EnvOut.{EnvOut}
 use Rattle.sdl_signal.specs.declared.ends.InputEnd.{InputEnd}
 use Rattle.sdl_signal.specs.declared.ends.InputEnd.TheVariants as input
 use Rattle.sdl_outcome.specs.EnvironmentWork.{EnvWorking, OwnEnd, input_end}
-use Rattle.sdl_outcome.specs.Plan.{Plan, workers_of}
+use Rattle.sdl_outcome.specs.Plan.{Plan, IsPlan, workers_of}
 use Rattle.sdl_outcome.specs.Outcome.{WorkerHand, Outcome}
 use Rattle.sdl_ledger.specs.declared.ledger.Ledger.{Ledger}
 use Rattle.sdl_ledger.specs.Counts.{CountsFit, IsLedgerOf, waiting_in}
 use Rattle.sdl_outcome.specs.Ends.{EndsAs}
 use Rattle.sdl_driver.specs.Ended.{HasEnded}
-use Rattle.sdl_order.specs.Driver.{Site, IsIdle, outcome_of, finals_of, block_hand, env_hand, forwarder_hand}
-use Rattle.sdl_driver.specs.Drivers.{site_of, plan_of, IsDriving, NoneSpent, FirstSpent, AllDone, SomeUndone, AllLeft, SomeLeft}
+use Rattle.sdl_order.specs.Driver.{Site, IsAtWork, IsIdle, outcome_of, finals_of, block_hand, env_hand, forwarder_hand}
+use Rattle.sdl_driver.specs.Drivers.{NoneSpent, FirstSpent, AllDone, SomeUndone, AllLeft, SomeLeft}
 use Rattle.sdl_parts.specs.Structure.{Structure}
 use Rattle.sdl_routes.specs.declared.route.TableRow.{TableRow}
 use Rattle.sdl_transition.specs.declared.block_parts.BlockParts.{BlockParts}
@@ -40,56 +41,57 @@ use Rattle.sdl_driver.proofs.Stops.{knows, some_undone, ends_by}
 unfoldable outcome : List (List Event) → List EnvOut → List Item → List WorkerHand → List (Station × List Item) → Outcome
 outcome logs put received hands rests = record { logs = logs; env_put = put; env_received = received; hands = hands; rests = rests }
 
--- what the workers leave is what the site shows
-module _ {S K I : Type 0} {F : I → Type 0} {g : _} (d : Driver S K I F g)
-    (logs : List (List Event)) (put : List EnvOut) (received : List Item) (hands : List WorkerHand) (rests : List (Station × Rest)) (logs_are : logs ≡ map (λ w. (worker_of w).core.log) d.blocks.items)
-    (put_are : put ≡ d.environment.put) (received_are : received ≡ d.environment.received)
-    (hands_are : hands ≡ (map (λ w. block_hand (worker_of w)) d.blocks.items ++ env_hand d.environment ∷ []) ++ map forwarder_hand d.forwarders.items) (rests_are : lists_of rests ≡ d.board) where
-  same_logs : logs ≡ (outcome_of (site_of d)).logs
-  same_logs = logs_are ∙ sym (map_map (λ (w : Working). w.core.log) worker_of d.blocks.items)
+-- what the workers leave is what their site shows
+module _ {S K I : Type 0} {F : I → Type 0} {g : _} (blocks : List (BlockWorker S K I F g)) (environment : EnvWorking) (forwarders : List Forwarding) (rests : List (Station × Rest))
+    (logs : List (List Event)) (put : List EnvOut) (received : List Item) (hands : List WorkerHand) (logs_are : logs ≡ map (λ w. (worker_of w).core.log) blocks)
+    (put_are : put ≡ environment.put) (received_are : received ≡ environment.received)
+    (hands_are : hands ≡ (map (λ w. block_hand (worker_of w)) blocks ++ env_hand environment ∷ []) ++ map forwarder_hand forwarders) where
+  abbrev site : Site
+  site = record { blocks = map worker_of blocks; environment = environment; forwarders = forwarders; board = lists_of rests }
 
-  same_hands : hands ≡ (outcome_of (site_of d)).hands
+  same_logs : logs ≡ (outcome_of site).logs
+  same_logs = logs_are ∙ sym (map_map (λ (w : Working). w.core.log) worker_of blocks)
+
+  same_hands : hands ≡ (outcome_of site).hands
   same_hands =
-      hands_are ∙ (append_assoc (map (λ w. block_hand (worker_of w)) d.blocks.items) (env_hand d.environment ∷ []) (map forwarder_hand d.forwarders.items)
-      ∙ ap (λ (hs : List WorkerHand). hs ++ env_hand d.environment ∷ map forwarder_hand d.forwarders.items) (sym (map_map block_hand worker_of d.blocks.items)))
+      hands_are ∙ (append_assoc (map (λ w. block_hand (worker_of w)) blocks) (env_hand environment ∷ []) (map forwarder_hand forwarders)
+      ∙ ap (λ (hs : List WorkerHand). hs ++ env_hand environment ∷ map forwarder_hand forwarders) (sym (map_map block_hand worker_of blocks)))
 
-  pub same_outcome : ◌≡◌ {A = Outcome} (record { logs = logs; env_put = put; env_received = received; hands = hands; rests = lists_of rests }) (outcome_of (site_of d))
+  pub same_outcome : ◌≡◌ {A = Outcome} (record { logs = logs; env_put = put; env_received = received; hands = hands; rests = lists_of rests }) (outcome_of site)
   unfolding outcome
   same_outcome =
-      let o = outcome_of (site_of d) in
+      let o = outcome_of site in
       ap (λ (x : List (List Event)). outcome x put received hands (lists_of rests)) same_logs
       ∙ (ap (λ (x : List EnvOut). outcome o.logs x received hands (lists_of rests)) put_are
       ∙ (ap (λ (x : List Item). outcome o.logs o.env_put x hands (lists_of rests)) received_are
-      ∙ (ap (λ (x : List WorkerHand). outcome o.logs o.env_put o.env_received x (lists_of rests)) same_hands
-      ∙ ap (λ (x : List (Station × List Item)). outcome o.logs o.env_put o.env_received o.hands x) rests_are)))
+      ∙ ap (λ (x : List WorkerHand). outcome o.logs o.env_put o.env_received x (lists_of rests)) same_hands))
 
--- where the driver stops
-module _ {S K I : Type 0} {F : I → Type 0} {g : _} (may : ℕ → Frame → Step → Type 0) (d : Driver S K I F g) (driving : IsDriving may d) where
+-- where the workers stop
+module _ (may : ℕ → Frame → Step → Type 0) (plan : Plan) (ok : IsPlan plan) (site : Site) (work : IsAtWork may plan site) where
   -- the counts are small
-  pub fits : CountsFit (outcome_of (site_of d))
-  fits =
-      counts_fit may (plan_of d) (outcome_of (site_of d)) (finals_of (site_of d)) (traced may (plan_of d) driving.plan (site_of d) driving.work) (limited may (plan_of d) driving.plan (site_of d) driving.work)
+  pub fits : CountsFit (outcome_of site)
+  fits = counts_fit may plan (outcome_of site) (finals_of site) (traced may plan ok site work) (limited may plan ok site work)
 
   -- what the closing shows has ended
-  module _ (o : Outcome) (same : o ≡ outcome_of (site_of d)) (rests : List (Station × Rest)) (rests_are : lists_of rests ≡ d.board) (ledger : Ledger) (counts : IsLedgerOf o (waiting_in (finals_of (site_of d))) ledger)
-      (refused spent : Option ℕ) (idle : MatchOption refused (IsIdle (site_of d)) (λ w. w < length (workers_of (plan_of d)))) (used : MatchOption spent (NoneSpent (plan_of d) (site_of d).blocks) (FirstSpent (plan_of d) (site_of d).blocks)) where
-    ends : (end : RunEnd) → EndsAs (plan_of d) (outcome_of (site_of d)) (finals_of (site_of d)) end → HasEnded may (plan_of d) o end ledger
+  module _ (o : Outcome) (same : o ≡ outcome_of site) (rests : List (Station × Rest)) (rests_are : lists_of rests ≡ site.board) (ledger : Ledger) (counts : IsLedgerOf o (waiting_in (finals_of site)) ledger)
+      (refused spent : Option ℕ) (idle : MatchOption refused (IsIdle site) (λ w. w < length (workers_of plan))) (used : MatchOption spent (NoneSpent plan site.blocks) (FirstSpent plan site.blocks)) where
+    ends : (end : RunEnd) → EndsAs plan (outcome_of site) (finals_of site) end → HasEnded may plan o end ledger
     ends end e =
-        subst (λ (x : Outcome). HasEnded may (plan_of d) x end ledger) (sym same)
-        (ended may (plan_of d) driving.plan (site_of d) driving.work end ledger e (subst (λ (x : Outcome). IsLedgerOf x (waiting_in (finals_of (site_of d))) ledger) same counts))
+        subst (λ (x : Outcome). HasEnded may plan x end ledger) (sym same)
+        (ended may plan ok site work end ledger e (subst (λ (x : Outcome). IsLedgerOf x (waiting_in (finals_of site)) ledger) same counts))
 
-    pub closes : (settled empty : Bool) → MatchBool settled (AllDone (site_of d).blocks) (SomeUndone (site_of d).blocks) → MatchBool empty (AllLeft rests) (SomeLeft rests)
-        → HasEnded may (plan_of d) o (end_by refused spent (cond settled empty false)) ledger
+    pub closes : (settled empty : Bool) → MatchBool settled (AllDone site.blocks) (SomeUndone site.blocks) → MatchBool empty (AllLeft rests) (SomeLeft rests)
+        → HasEnded may plan o (end_by refused spent (cond settled empty false)) ledger
     closes settled empty done none =
         ends (end_by refused spent (cond settled empty false))
-        (ends_by may (plan_of d) driving.plan (site_of d) driving.work refused spent (cond settled empty false) idle used
-        (knows may (plan_of d) driving.plan (site_of d) driving.work settled empty rests rests_are done none))
+        (ends_by may plan ok site work refused spent (cond settled empty false) idle used
+        (knows may plan ok site work settled empty rests rests_are done none))
 
     -- where some instance is ready it does not matter what is left
-    pub closes_unsettled : SomeUndone (site_of d).blocks → HasEnded may (plan_of d) o (end_by refused spent false) ledger
+    pub closes_unsettled : SomeUndone site.blocks → HasEnded may plan o (end_by refused spent false) ledger
     closes_unsettled undone =
         ends (end_by refused spent false)
-        (ends_by may (plan_of d) driving.plan (site_of d) driving.work refused spent false idle used (λ quiet. some_undone may (plan_of d) driving.plan (site_of d) driving.work undone quiet))
+        (ends_by may plan ok site work refused spent false idle used (λ quiet. some_undone may plan ok site work undone quiet))
 
 -- how the reading ended: it stopped only where memory was refused
 end_of_reading : (w : EnvWorking) (end : InputEnd) → w.ended ≡ Some end → input_end w ≡ end

@@ -22,7 +22,7 @@ use Rattle.sdl_hand.specs.declared.hand.Stepped.{Stepped}
 use Rattle.sdl_hand.specs.declared.hand.Stepped.TheVariants as stepped
 use Rattle.sdl_hand.specs.Work.{Working, StepsAs, IsAtRest}
 use Rattle.sdl_block.specs.Workers.{behaviours_of}
-use Rattle.sdl_outcome.specs.declared.worker.Worker.TheVariants.{Environment, Forwarder}
+use Rattle.sdl_opening.specs.declared.worker.Worker.TheVariants.{Environment, Forwarder}
 use Rattle.sdl_driver.specs.declared.driver.Driver.{Driver}
 use Rattle.sdl_outcome.specs.Plan.{Plan, IsPlan, blocks_in, blocks_from, path_line, lines_from, lines_of, workers_of, system_at}
 use Rattle.sdl_order.specs.Driver.{Site, IsAtWork, BlockSteps, EnvironmentSteps, ForwarderSteps}

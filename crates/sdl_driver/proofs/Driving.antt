@@ -19,7 +19,7 @@ use Rattle.sdl_block.specs.declared.worker.BlockWorker.{BlockWorker}
 use Rattle.sdl_hand.specs.declared.hand.Stepped.{Stepped}
 use Rattle.sdl_hand.specs.Work.{Working, StepsAs}
 use Rattle.sdl_block.specs.Workers.{worker_of, behaviours_of, system_around}
-use Rattle.sdl_outcome.specs.declared.worker.Worker.TheVariants.{Block}
+use Rattle.sdl_opening.specs.declared.worker.Worker.TheVariants.{Block}
 use Rattle.sdl_driver.specs.declared.driver.Driver.{Driver}
 use Rattle.sdl_outcome.specs.Plan.{MayTravel, system_at}
 use Rattle.sdl_order.specs.Driver.{BlockSteps}

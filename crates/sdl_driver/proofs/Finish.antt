@@ -6,7 +6,7 @@ use Rattle.sdl_behaviour.specs.declared.step.Frame.{Frame}
 use Rattle.sdl_behaviour.specs.declared.step.Step.{Step}
 use Rattle.sdl_outcome.specs.declared.end.RunEnd.{RunEnd}
 use Rattle.sdl_ledger.specs.declared.ledger.Ledger.{Ledger}
-use Rattle.sdl_outcome.specs.declared.worker.Worker.TheVariants.{Environment}
+use Rattle.sdl_opening.specs.declared.worker.Worker.TheVariants.{Environment}
 use Rattle.sdl_outcome.specs.Plan.{Plan, IsPlan, MayTravel}
 use Rattle.sdl_ledger.specs.Counts.{IsTraced, IsLimited, IsLedgerOf, IsOnRoute, waiting_in}
 use Rattle.sdl_outcome.specs.Ends.{EndsAs}

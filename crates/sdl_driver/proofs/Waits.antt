@@ -1,5 +1,5 @@
--- What waits in the ports of all blocks of a driver.
-use Rattle.std.proofs.Common.{ℕ, suc, ◌+◌, ◌<◌, ◌≤◌, List, length, drop, get_or, ◌≡◌, ap, sym, ◌∙◌, subst, arith, add-one, drop-cons, sum_by}
+-- What waits in the ports of all blocks.
+use Rattle.std.proofs.Common.{ℕ, suc, ◌+◌, ◌<◌, ◌≤◌, List, length, drop, get_or, map, ◌≡◌, ap, sym, ◌∙◌, subst, arith, add-one, drop-cons, sum_by}
 use Rattle.std.proofs.lemmas.List.{drop_all}
 use Rattle.std.proofs.lemmas.List.Sums.{sum_by-cons}
 use Rattle.sdl_behaviour.specs.declared.step.Frame.{Frame}
@@ -9,10 +9,9 @@ use Rattle.sdl_instances.specs.Run.{waiting}
 use Rattle.sdl_block.specs.declared.worker.BlockWorker.{BlockWorker}
 use Rattle.sdl_hand.specs.Work.{Working}
 use Rattle.sdl_block.specs.Workers.{worker_of}
-use Rattle.sdl_driver.specs.declared.driver.Driver.{Driver}
 use Rattle.sdl_ledger.specs.Counts.{waiting_in}
-use Rattle.sdl_order.specs.Driver.{outcome_of, finals_of}
-use Rattle.sdl_driver.specs.Drivers.{site_of, plan_of, IsDriving}
+use Rattle.sdl_outcome.specs.Plan.{Plan, IsPlan}
+use Rattle.sdl_order.specs.Driver.{Site, IsAtWork, outcome_of, finals_of}
 use Rattle.sdl_driver.proofs.Drives.{map_map}
 use Rattle.sdl_ledger.proofs.Adding.{sum_map}
 use Rattle.sdl_balance.proofs.Balanced.{few_waits}
@@ -36,13 +35,14 @@ one_waits f items slice same k x less is =
 pub none_waits : {X : Type 0} (f : X → ℕ) (items slice : List X) → slice ≡ items → (k : ℕ) → length slice ≤ k → sum_by f (drop k items) ≡ 0
 none_waits f items slice same k past = ap (sum_by f) (drop_all k items (subst (λ xs. length xs ≤ k) same past))
 
-module _ {S K I : Type 0} {F : I → Type 0} {g : _} (d : Driver S K I F g) where
-  pub all_wait : waiting_in (finals_of (site_of d)) ≡ sum_by at_block d.blocks.items
+module _ {S K I : Type 0} {F : I → Type 0} {g : _} (blocks : List (BlockWorker S K I F g)) (site : Site) (same : site.blocks ≡ map worker_of blocks) where
+  pub all_wait : waiting_in (finals_of site) ≡ sum_by at_block blocks
   all_wait =
-      ap (λ (ss : List State). sum_by (λ (s : State). waiting s.living) ss) (map_map (λ (w : Working). w.core.state) worker_of d.blocks.items)
-      ∙ sum_map (λ (s : State). waiting s.living) (λ w. (worker_of w).core.state) d.blocks.items
+      ap (λ (ws : List Working). sum_by (λ (s : State). waiting s.living) (map (λ (w : Working). w.core.state) ws)) same
+      ∙ (ap (λ (ss : List State). sum_by (λ (s : State). waiting s.living) ss) (map_map (λ (w : Working). w.core.state) worker_of blocks)
+      ∙ sum_map (λ (s : State). waiting s.living) (λ w. (worker_of w).core.state) blocks)
 
-  pub few_wait : (may : ℕ → Frame → Step → Type 0) → IsDriving may d → sum_by at_block d.blocks.items ≤ 128016384
-  few_wait may driving =
+  pub few_wait : (may : ℕ → Frame → Step → Type 0) (plan : Plan) → IsPlan plan → IsAtWork may plan site → sum_by at_block blocks ≤ 128016384
+  few_wait may plan ok work =
       subst (λ (n : ℕ). n ≤ 128016384) all_wait
-      (few_waits may (plan_of d) (outcome_of (site_of d)) (finals_of (site_of d)) (traced may (plan_of d) driving.plan (site_of d) driving.work) (limited may (plan_of d) driving.plan (site_of d) driving.work))
+      (few_waits may plan (outcome_of site) (finals_of site) (traced may plan ok site work) (limited may plan ok site work))

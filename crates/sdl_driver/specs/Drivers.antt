@@ -18,6 +18,7 @@ use Rattle.sdl_forward.specs.declared.forwarder.Forwarded.TheVariants as forward
 use Rattle.sdl_hand.specs.declared.hand.Stepped.{Stepped}
 use Rattle.sdl_hand.specs.declared.hand.Stepped.TheVariants.{Did, Idle, Memory}
 use Rattle.sdl_hand.specs.Work.{Working, IsAtRest}
+use Rattle.sdl_block.specs.declared.worker.BlockWorker.{BlockWorker}
 use Rattle.sdl_block.specs.Workers.{worker_of, behaviours_of}
 use Rattle.sdl_driver.specs.declared.driver.Driver.{Driver}
 use Rattle.sdl_driver.specs.declared.driver.Round.{Round}
@@ -39,11 +40,15 @@ plan_of d =
       budget = d.budget;
     }
 
+-- What holds between two steps of workers at this site, whose blocks are these.
+pub record IsBetweenSteps {S K I : Type 0} {F : I → Type 0} {g : _} (may : ℕ → Frame → Step → Type 0) (carried : Plan) (site : Site) (blocks : List (BlockWorker S K I F g)) : Type 0 where
+  pub plan : IsPlan carried
+  pub work : IsAtWork may carried site
+  pub fire : All (λ w. CanFire may (behaviours_of w)) blocks
+
 -- What holds of a driver between two steps.
-pub record IsDriving {S K I : Type 0} {F : I → Type 0} {g : _} (may : ℕ → Frame → Step → Type 0) (d : Driver S K I F g) : Type 0 where
-  pub plan : IsPlan (plan_of d)
-  pub work : IsAtWork may (plan_of d) (site_of d)
-  pub fire : All (λ w. CanFire may (behaviours_of w)) d.blocks.items
+abbrev pub IsDriving : {S K I : Type 0} {F : I → Type 0} {g : _} → (ℕ → Frame → Step → Type 0) → Driver S K I F g → Type 0
+IsDriving may d = IsBetweenSteps may (plan_of d) (site_of d) d.blocks.items
 
 -- a driver of the same system
 pub record IsSameSystem {S K I : Type 0} {F : I → Type 0} {g : _} (old new : Driver S K I F g) : Type 0 where

@@ -15,5 +15,6 @@ pub use Rattle.sdl_environment.specs.EnvPhases
 pub use Rattle.sdl_environment.specs.EnvSteps
 pub mod Ended
 pub mod Drivers
+pub mod Stopped
 pub mod Runs
 pub mod Closings

@@ -4,8 +4,10 @@
 pub mod closing;
 pub mod driver;
 pub mod laws;
+pub mod parked;
 mod passing;
 mod stopping;
 
 pub use closing::{Closing, StartFault};
 pub use driver::{Driver, Round};
+pub use parked::Parked;

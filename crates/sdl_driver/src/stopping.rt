@@ -1,22 +1,19 @@
 //! What a run leaves where its driver stops.
-ghost use Rattle.std.specs.Prelude.{◌≡◌, ℕ, List, Option, ◌+◌, ◌<◌, [], length, map, MatchOption, MatchBool};
+ghost use Rattle.std.specs.Prelude.{◌≡◌, ℕ, List, Option, ◌+◌, ◌<◌, [], length, map, MatchOption};
 ghost use Rattle.sdl_transition.specs.Bound.{AreOneSystem};
 ghost use Rattle.sdl_block.specs.Workers.{behaviours_of};
-ghost use Rattle.sdl_ledger.specs.Counts.{waiting_in};
 ghost use Rattle.sdl_outcome.specs.Plan.{blocks_in, workers_of};
-ghost use Rattle.sdl_outcome.specs.EnvironmentWork.{OwnEnd, HasReadSoFar, HasWrittenSoFar, input_end};
-ghost use Rattle.sdl_order.specs.Driver.{IsIdle, outcome_of, finals_of};
-ghost use Rattle.sdl_driver.specs.Closings.{HasRoom, IsSystemOf, HasReadIn, HasWrittenIn, StopsByMemory, NamesRefused, outcome_in, outcome_left};
+ghost use Rattle.sdl_outcome.specs.EnvironmentWork.{HasReadSoFar, HasWrittenSoFar};
+ghost use Rattle.sdl_order.specs.Driver.{IsIdle, outcome_of};
+ghost use Rattle.sdl_driver.specs.Closings.{HasRoom, IsSystemOf, HasReadIn, HasWrittenIn, StopsByMemory, NamesRefused, outcome_in};
 ghost use Rattle.sdl_driver.specs.Ended.{HasEnded};
-ghost use Rattle.sdl_driver.specs.Drivers.{site_of, plan_of, IsDriving, NoneSpent, FirstSpent, AllDone, SomeUndone, AllLeft, SomeLeft};
+ghost use Rattle.sdl_driver.specs.Drivers.{site_of, plan_of, IsDriving};
 
-use crate::closing::{Closing, Left, Room, end_of, take_blocks, take_forwarders};
+use crate::closing::{Closing, Room};
 use crate::driver::Driver;
-use sdl_ledger::Ledger;
+use crate::parked::Parked;
 use sdl_log::Keeps;
-use sdl_queue::Rest;
-use sdl_routes::Station;
-use sdl_transition::{Agents, Bound};
+use sdl_transition::Agents;
 
 impl<S: Agents, K: Keeps> Driver<S, K> {
     /// Takes the driver apart where the run stops. The worker is the one that was refused memory.
@@ -35,57 +32,6 @@ impl<S: Agents, K: Keeps> Driver<S, K> {
         ensures refusal { NamesRefused result.end refused }
         ensures bound { IsSystemOf self result.bound }
     {
-        let spent = self.first_spent();
-        let settled = self.are_settled();
-        let waiting = self.waiting();
-        let Left {
-            bound,
-            logs,
-            env_put,
-            env_received,
-            hands,
-            rests,
-            input,
-            output,
-        } = self.leave(room);
-        let quiet = if settled {
-            is_all_empty(rests.as_slice())
-        } else {
-            false
-        };
-        let ledger = Ledger::of(
-            logs.as_slice(),
-            env_put.as_slice(),
-            env_received.as_slice(),
-            hands.as_slice(),
-            rests.as_slice(),
-            waiting,
-        );
-        Closing {
-            bound,
-            logs,
-            env_put,
-            env_received,
-            hands,
-            rests,
-            ledger,
-            end: end_of(refused, spent, quiet),
-            input,
-            output,
-        }
-    }
-
-    /// Takes the driver apart into the system and what all workers and the board leave.
-    fn leave(self, room: Room<S, K>) -> Left<S, K>
-        requires system { AreOneSystem S.may self.checked self.routes (map behaviours_of self.blocks.items) }
-        requires room { HasRoom (length self.blocks.items) (length self.blocks.items + (length self.forwarders.items + 1)) room }
-        requires empty { (room.parts.items ≡ []) × (room.logs.items ≡ []) × (room.hands.items ≡ []) }
-        ensures bound { IsSystemOf self result.bound }
-        ensures outcome { outcome_left K.events result ≡ outcome_of (site_of self) }
-        ensures input { result.input ≡ input_end self.environment }
-        ensures own { OwnEnd self.environment.ended }
-        ensures output { result.output ≡ self.environment.output }
-    {
         let Driver {
             checked,
             routes,
@@ -93,72 +39,17 @@ impl<S: Agents, K: Keeps> Driver<S, K> {
             environment,
             forwarders,
             board,
-            budget: _,
+            budget,
         } = self;
-        let env = environment.into_parts();
-        let mut room = room;
-        take_blocks(&mut room, blocks);
-        room.take_hand(env.hand);
-        take_forwarders(&mut room, forwarders);
-        let Room { parts, logs, hands } = room;
-        Left {
-            bound: Bound::of_blocks(checked, routes, parts),
-            logs,
-            env_put: env.put,
-            env_received: env.received,
-            hands,
+        let parked = Parked {
+            checked,
+            routes,
+            blocks,
+            environment,
+            forwarders,
             rests: board.into_rests(),
-            input: env.input,
-            output: env.output,
-        }
+            budget,
+        };
+        parked.close(room, refused)
     }
-
-    /// The number of signals in the ports of all blocks.
-    fn waiting(&self) -> u64
-        requires { IsDriving S.may self.now }
-        ensures { result ≡ waiting_in (finals_of (site_of self.now)) }
-    {
-        let mut waiting = 0;
-        for number in 0..self.blocks.len() {
-            waiting += self.blocks[number].left_in_ports();
-        }
-        waiting
-    }
-
-    /// The least block whose budget is used.
-    fn first_spent(&self) -> Option<u32>
-        requires { IsDriving S.may self.now }
-        ensures { MatchOption result (NoneSpent (plan_of self.now) (site_of self.now).blocks) (FirstSpent (plan_of self.now) (site_of self.now).blocks) }
-    {
-        for number in 0..self.blocks.len() {
-            if self.blocks[number].made() == self.budget {
-                return Some(number as u32);
-            }
-        }
-        None
-    }
-
-    /// Whether no instance of any block is ready.
-    fn are_settled(&self) -> bool
-        ensures { MatchBool result (AllDone (site_of self.now).blocks) (SomeUndone (site_of self.now).blocks) }
-    {
-        for number in 0..self.blocks.len() {
-            if !self.blocks[number].is_settled() {
-                return false;
-            }
-        }
-        true
-    }
-}
-
-/// Whether nothing is left at any station.
-fn is_all_empty(rests: &[(Station, Rest)]) -> bool
-    ensures { MatchBool result (AllLeft rests.now) (SomeLeft rests.now) }
-{
-    for rest in rests {
-        if rest.1.len() != 0 {
-            return false;
-        }
-    }
-    true
 }

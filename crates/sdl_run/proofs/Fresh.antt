@@ -79,11 +79,11 @@ all_same P xs ys e h = subst (All P) e h
 pub env_fresh : (n m : ℕ) (w : EnvWorking) → n ≡ m → IsEnvFresh n w → IsEnvFresh m w
 env_fresh n m w e h = subst (λ (k : ℕ). IsEnvFresh k w) e h
 
-hops_of : (hs : List Hop) → map (λ (f : Forwarding). f.hop) (map idle_at hs) ≡ hs
+pub hops_of : (hs : List Hop) → map (λ (f : Forwarding). f.hop) (map idle_at hs) ≡ hs
 hops_of [] = refl
 hops_of (h ∷ hs) = ap (λ zs. h ∷ zs) (hops_of hs)
 
-none_held : (hs : List Hop) → AllByRecursion (λ (f : Forwarding). f.held ≡ None) (map idle_at hs)
+pub none_held : (hs : List Hop) → AllByRecursion (λ (f : Forwarding). f.held ≡ None) (map idle_at hs)
 none_held [] = tt
 none_held (h ∷ hs) = (refl, none_held hs)
 
@@ -113,7 +113,7 @@ module _ {S K I : Type 0} {F : I → Type 0} {g : _} (may : ℕ → Frame → St
         sound = subst (λ s. IsSound may s (worker_of w).core) (sym same) (is.sound d.routes);
       }
 
-  cores_new : (n : ℕ) (v : Working) → slice_get (map worker_of d.blocks.items) n ≡ Some v → IsCoreAt may (plan_of d) n v.core × (v.core.log ≡ []) × (v.kept ≡ None) × (v.outgoing ≡ [])
+  pub cores_new : (n : ℕ) (v : Working) → slice_get (map worker_of d.blocks.items) n ≡ Some v → IsCoreAt may (plan_of d) n v.core × (v.core.log ≡ []) × (v.kept ≡ None) × (v.outgoing ≡ [])
   cores_new n v at =
       let (w, found, is) = got worker_of d.blocks.items n v at in
       let fresh = all_at (IsNew may d.checked d.budget) d.blocks.items n w new found in

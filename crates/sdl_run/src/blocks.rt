@@ -15,7 +15,7 @@ use sdl_transition::{Agents, BlockParts};
 use std::alloc::Global;
 
 /// Puts an element behind the others of a list that has room for it.
-fn put_last<T: Drop>(list: &mut Vec<T>, element: T)
+pub fn put_last<T: Drop>(list: &mut Vec<T>, element: T)
     requires { vec_len list.old + 1 ≤ vec_capacity list.old }
     ensures items { list.new.items ≡ list.old.items ++ element ∷ [] }
     ensures room { (more : ℕ) → vec_len list.old + (more + 1) ≤ vec_capacity list.old → vec_len list.new + more ≤ vec_capacity list.new }

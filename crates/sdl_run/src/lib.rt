@@ -2,7 +2,7 @@
 #![tactic(auto)]
 
 pub mod balance;
-mod blocks;
+pub mod blocks;
 pub mod closing;
 pub mod driver;
 pub mod environment;
@@ -10,7 +10,7 @@ pub mod environment_output;
 pub mod laws;
 pub mod ledger;
 pub mod serial;
-mod start;
+pub mod start;
 
 pub use sdl_driver::{Closing, StartFault};
 pub use sdl_ledger::Ledger;

@@ -1,73 +1,26 @@
-use Rattle.std.proofs.Common.{ℕ, Bool, true, false, List, MatchBool, ◌≡◌, ap, sym, ◌∙◌, subst}
+use Rattle.std.proofs.Common.{◌<◌, List, length, map, MatchOption, ap, sym, ◌∙◌, subst}
+use Rattle.sdl_signal.specs.declared.values.Item.{Item}
 use Rattle.sdl_routes.specs.declared.route.Station.{Station}
-use Rattle.sdl_queue.specs.declared.rest.Rest.{Rest}
-use Rattle.sdl_outcome.specs.declared.end.RunEnd.{RunEnd}
-use Rattle.sdl_outcome.specs.Outcome.{Outcome}
-use Rattle.sdl_ledger.specs.Counts.{CountsFit, IsLedgerOf, waiting_in}
-use Rattle.sdl_driver.specs.Ended.{HasEnded}
-use Rattle.sdl_outcome.specs.Plan.{blocks_in}
-use Rattle.sdl_order.specs.Driver.{finals_of}
-use Rattle.sdl_driver.specs.Drivers.{site_of, plan_of, AllDone, SomeUndone, AllLeft, SomeLeft}
-use Rattle.sdl_driver.specs.Closings.{outcome_left, end_by}
-use Rattle.sdl_driver.proofs.Readings.{reads_shown, writes_shown}
-use Rattle.sdl_driver.proofs.Closes.{fits, closes, closes_unsettled, stops_as, same_shown}
-use Rattle.sdl_driver.proofs.Closes.{names_refused}
-use Rattle.sdl_driver.proofs.driver.Driver.close.Goals.{then-settled, else-settled}
+use Rattle.sdl_block.specs.Workers.{worker_of}
+use Rattle.sdl_outcome.specs.Plan.{workers_of}
+use Rattle.sdl_order.specs.Driver.{IsIdle, outcome_of}
+use Rattle.sdl_driver.specs.Drivers.{plan_of, IsBetweenSteps}
 use Rattle.sdl_driver.proofs.driver.Driver.close.Goals as goal
 
-pub of-ledger-requires : goal.of-ledger-requires
-of-ledger-requires g c =
-    let left = c.leave-bound.result in
-    subst CountsFit
-    (sym (same_shown g.K.Keeps.events left.logs.items c.as_slice-2.result.now left.env_put.items c.as_slice-3.result.now left.env_received.items c.as_slice-4.result.now left.hands.items c.as_slice-5.result.now left.rests.items c.as_slice-6.result.now
-    c.as_slice-2.ensures.value c.as_slice-3.ensures.value c.as_slice-4.ensures.value c.as_slice-5.ensures.value c.as_slice-6.ensures.value ∙ c.leave-bound.ensures.outcome))
-    (fits g.S.Agents.may c.args.self c.requires.driving)
-
-pub returns-clause-ended : goal.returns-clause-ended
-returns-clause-ended g c =
-    let may = g.S.Agents.may in
+pub close-requires-clause-driving : goal.close-requires-clause-driving
+close-requires-clause-driving g c =
     let d = c.args.self in
-    let left = c.leave-bound.result in
-    let rests = left.rests.items in
-    let same = c.leave-bound.ensures.outcome in
-    let spent = c.first_spent-spent.result in
-    let ledger = c.of-ledger.result in
-    let slices =
-    same_shown g.K.Keeps.events left.logs.items c.as_slice-2.result.now left.env_put.items c.as_slice-3.result.now left.env_received.items c.as_slice-4.result.now left.hands.items c.as_slice-5.result.now rests c.as_slice-6.result.now
-    c.as_slice-2.ensures.value c.as_slice-3.ensures.value c.as_slice-4.ensures.value c.as_slice-5.ensures.value c.as_slice-6.ensures.value in
-    let counts : IsLedgerOf (outcome_left g.K.Keeps.events left) (waiting_in (finals_of (site_of d))) ledger =
-    subst (λ (n : ℕ). IsLedgerOf (outcome_left g.K.Keeps.events left) n ledger) c.waiting-waiting.ensures (subst (λ (o : Outcome). IsLedgerOf o c.waiting-waiting.result ledger) slices c.of-ledger.ensures) in
-    let P : RunEnd → Type 0 = λ e. HasEnded may (plan_of d) (outcome_left g.K.Keeps.events left) e ledger in
-    let settled : (b : Bool) → c.are_settled-settled.result ≡ b → MatchBool b (AllDone (site_of d).blocks) (SomeUndone (site_of d).blocks) =
-    λ b e. subst (λ (x : Bool). MatchBool x (AllDone (site_of d).blocks) (SomeUndone (site_of d).blocks)) e c.are_settled-settled.ensures in
-    elim c.if-settled.branch [
-      | then-settled w ↦ subst P (sym (c.end_of.ensures ∙ ap (λ (q : Bool). end_by c.args.refused spent q) w.quiet-is))
-          (closes may d c.requires.driving (outcome_left g.K.Keeps.events left) same rests (ap (λ (o : Outcome). o.rests) same) ledger counts c.args.refused spent c.requires.refused c.first_spent-spent.ensures true w.is_all_empty-quiet.result
-          (settled true w.if-settled.true) (subst (λ (rs : List (Station × Rest)). MatchBool w.is_all_empty-quiet.result (AllLeft rs) (SomeLeft rs)) w.as_slice.ensures.value w.is_all_empty-quiet.ensures))
-      | else-settled w ↦ subst P (sym (c.end_of.ensures ∙ ap (λ (q : Bool). end_by c.args.refused spent q) w.quiet-is))
-          (closes_unsettled may d c.requires.driving (outcome_left g.K.Keeps.events left) same rests (ap (λ (o : Outcome). o.rests) same) ledger counts c.args.refused spent c.requires.refused c.first_spent-spent.ensures (settled false w.if-settled.false))
-    ]
+    subst (λ (b : List (Station × List Item)). IsBetweenSteps g.S.Agents.may (plan_of d) (record { blocks = map worker_of d.blocks.items; environment = d.environment; forwarders = d.forwarders.items; board = b }) d.blocks.items)
+    (sym c.into_rests.ensures) c.requires.driving
 
-pub returns-clause-reading : goal.returns-clause-reading
-returns-clause-reading g c =
+pub close-requires-clause-refused : goal.close-requires-clause-refused
+close-requires-clause-refused g c =
     let d = c.args.self in
-    let left = c.leave-bound.result in
-    reads_shown d.checked d.routes (blocks_in (plan_of d)) d.environment c.requires.driving.work.environment left.env_put.items left.input (ap (λ (o : Outcome). o.env_put) c.leave-bound.ensures.outcome) c.leave-bound.ensures.input
-
-pub returns-clause-writing : goal.returns-clause-writing
-returns-clause-writing g c =
-    let d = c.args.self in
-    let left = c.leave-bound.result in
-    writes_shown d.checked d.routes (blocks_in (plan_of d)) d.environment left.env_received.items left.output (ap (λ (o : Outcome). o.env_received) c.leave-bound.ensures.outcome) c.leave-bound.ensures.output
-
-pub returns-clause-stopped : goal.returns-clause-stopped
-returns-clause-stopped g c =
-    let d = c.args.self in
-    stops_as (plan_of d) (site_of d) c.leave-bound.ensures.own c.args.refused c.first_spent-spent.result c.if-settled.quiet c.leave-bound.result.input c.end_of.result
-    c.requires.refused c.leave-bound.ensures.input c.end_of.ensures
+    subst (λ (b : List (Station × List Item)). MatchOption c.args.refused (IsIdle (record { blocks = map worker_of d.blocks.items; environment = d.environment; forwarders = d.forwarders.items; board = b })) (λ w. w < length (workers_of (plan_of d))))
+    (sym c.into_rests.ensures) c.requires.refused
 
 pub returns-clause-left : goal.returns-clause-left
-returns-clause-left g c = c.leave-bound.ensures.outcome
-
-pub returns-clause-refusal : goal.returns-clause-refusal
-returns-clause-refusal g c = names_refused c.args.refused c.first_spent-spent.result c.if-settled.quiet c.end_of.result c.end_of.ensures
+returns-clause-left g c =
+    let d = c.args.self in
+    c.close.ensures.left
+    ∙ ap (λ (b : List (Station × List Item)). outcome_of (record { blocks = map worker_of d.blocks.items; environment = d.environment; forwarders = d.forwarders.items; board = b })) c.into_rests.ensures

@@ -3,7 +3,7 @@ use Rattle.sdl_routes.specs.declared.route.Station.{Station}
 use Rattle.sdl_queue.specs.declared.rest.Rest.{Rest}
 use Rattle.sdl_queue.specs.Rest.{left_in}
 use Rattle.sdl_driver.proofs.Scans.{read_at, empty_of, one_further, all_seen}
-use Rattle.sdl_driver.proofs.stopping.is_all_empty.Goals as goal
+use Rattle.sdl_driver.proofs.parked.is_all_empty.Goals as goal
 
 pub loop-rest-preserved : goal.loop-rest-preserved
 loop-rest-preserved c =

@@ -5,7 +5,7 @@ use Rattle.sdl_order.specs.Driver.{block_hand, env_hand, forwarder_hand}
 use Rattle.sdl_outcome.specs.Lists.{held_in}
 use Rattle.sdl_driver.proofs.Rooms.{hand, hand_is, map_push}
 use Rattle.sdl_driver.proofs.Closes.{same_outcome, filled, joined, system_kept, less_room}
-use Rattle.sdl_driver.proofs.driver.Driver.leave.Goals as goal
+use Rattle.sdl_driver.proofs.parked.Parked.leave.Goals as goal
 
 pub take_hand-requires : goal.take_hand-requires
 take_hand-requires g c =
@@ -44,4 +44,4 @@ returns-clause-outcome g c =
     ap (map held_in) c.take_hand.ensures.hands ∙ (map_push held_in c.take_blocks.new.room.hands.items _ ∙ ap (λ (hs : List WorkerHand). hs ++ env ∷ []) blocks_are) in
     let hands_are : hands ≡ (map (λ w. block_hand (worker_of w)) d.blocks.items ++ env_hand d.environment ∷ []) ++ map forwarder_hand d.forwarders.items =
     joined (map (λ w. block_hand (worker_of w)) d.blocks.items) (map held_in c.take_hand.new.self.hands.items) hands (map forwarder_hand d.forwarders.items) env (env_hand d.environment) with_env env_is c.take_forwarders.ensures.hands in
-    same_outcome d logs parts.put.items parts.received.items hands c.into_rests.result.items logs_are c.into_parts-env.ensures.put c.into_parts-env.ensures.received hands_are c.into_rests.ensures
+    same_outcome d.blocks.items d.environment d.forwarders.items d.rests.items logs parts.put.items parts.received.items hands logs_are c.into_parts-env.ensures.put c.into_parts-env.ensures.received hands_are
