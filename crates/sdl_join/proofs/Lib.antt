@@ -1,0 +1,10 @@
+pub mod Order
+pub mod Legal
+pub mod Places
+pub mod Kept
+pub mod Lanes
+pub mod Stands
+pub mod Comes
+pub mod Begun
+pub mod Rows
+pub mod Unused

@@ -1,0 +1,4 @@
+pub mod Lanes
+pub mod Joins
+pub mod Back
+pub mod Rows
