@@ -1,0 +1,46 @@
+//! Workers of two kinds in one list.
+use crate::work::{Stepped, Work};
+use sdl_parts::Structure;
+use sdl_routes::Routes;
+use std::sync::Wait;
+
+/// A worker of one kind or the other.
+#[derive(Drop)]
+pub enum Kind<B, F> {
+    /// A block.
+    Block(B),
+    /// A forwarder.
+    Forwarder(F),
+}
+
+impl<B: Work, F: Work> Work for Kind<B, F> {
+    ghost use Rattle.sdl_threads.specs.Kinds.{KeepsOneOf, SameOneOf, SameOneOf-refl, SameOneOf-trans};
+
+    ghost keeps = { λ s r. KeepsOneOf (B.keeps s r) (F.keeps s r) };
+
+    ghost same = { SameOneOf B.same F.same };
+
+    ghost itself = { SameOneOf-refl B.same F.same B.itself F.itself };
+
+    ghost and_then = { SameOneOf-trans B.same F.same B.and_then F.and_then };
+
+    fn step<R: Wait>(
+        &mut self,
+        rt: &R,
+        structure: &Structure,
+        routes: &Routes,
+        pick: u32,
+    ) -> Stepped {
+        match self {
+            Kind::Block(block) => block.step(rt, structure, routes, pick),
+            Kind::Forwarder(forwarder) => forwarder.step(rt, structure, routes, pick),
+        }
+    }
+
+    fn is_spent(&self) -> bool {
+        match self {
+            Kind::Block(block) => block.is_spent(),
+            Kind::Forwarder(forwarder) => forwarder.is_spent(),
+        }
+    }
+}

@@ -1,0 +1,14 @@
+//! Workers that make their steps each in a thread of its own, and come back with what their steps keep.
+#![tactic(auto)]
+
+mod kinds;
+mod pace;
+mod scope;
+mod work;
+mod workers;
+
+pub use kinds::Kind;
+pub use pace::{Gate, OpenGate};
+pub use scope::run_all;
+pub use work::{Returned, Stepped, Work};
+pub use workers::{AtWork, BlockThread, ForwarderThread, run_workers};

@@ -1,0 +1,213 @@
+//! All workers at once, each in a thread of a scope, and the environment's on the caller's.
+ghost use Rattle.std.specs.Prelude.{◌≡◌, ◌≤◌, ◌<◌, ◌^◌, [], vec_len, vec_capacity};
+ghost use Rattle.std.specs.List.{All, AllZip};
+ghost use Rattle.sdl_threads.specs.Back.{ComesFrom};
+
+use crate::pace::{Gate, Told, drive};
+use crate::work::{Returned, Work};
+use sdl_parts::Structure;
+use sdl_routes::Routes;
+use std::snapshot::Snapshot;
+use std::sync::Wait;
+use std::thread;
+use std::thread::{Promise, Scope, Threads};
+
+/// A thread's promise: the worker that comes back is this one, and keeps what its steps keep in this system.
+#[derive(Drop)]
+struct ComesBack<W> {
+    worker: Snapshot<W>,
+    structure: Snapshot<Structure>,
+    routes: Snapshot<Routes>,
+}
+
+impl<W: Work> Promise<Returned<W>> for ComesBack<W> {
+    ghost kept_by = { λ p r. ComesFrom (W.keeps p.structure.value p.routes.value) W.same p.worker.value r };
+}
+
+/// Runs the worker in this thread, unless it was turned away.
+fn run_one<W: Work, G: Gate, R: Wait>(
+    rt: &R,
+    worker: W,
+    number: u32,
+    structure: &Structure,
+    routes: &Routes,
+    gate: &G,
+    told: &Told,
+) -> Returned<W>
+    requires { W.keeps structure.now routes.now worker }
+    ensures { ComesFrom (W.keeps structure.now routes.now) W.same worker result }
+{
+    if told.is_turned_away(number) {
+        return Returned::NotStarted(worker);
+    }
+    drive(rt, worker, number, structure, routes, gate, told)
+}
+
+#[tactic(auto, using(std::proofs::lemmas::Slice::Zip::all_zipped_more))]
+/// Starts the last worker, then the rest beside it, and at last the environment's on this thread, whose number is this.
+fn run_rest<
+    's,
+    'e: 's,
+    W: Work + Send + Drop + 'e,
+    E: Work,
+    G: Gate + 'e,
+    R: Threads + Wait + Sync + 'e,
+>(
+    scope: &'s Scope<'s, &'e ()>,
+    rt: &'e R,
+    mut workers: Vec<W>,
+    environment: E,
+    number_of_environment: u32,
+    done: Vec<Returned<W>>,
+    structure: &'e Structure,
+    routes: &'e Routes,
+    gate: &'e G,
+    told: &'e Told,
+) -> (Vec<Returned<W>>, Returned<E>)
+    requires few { vec_len workers < 2 ^ 31 }
+    requires sound { All (W.keeps structure.now routes.now) workers.items }
+    requires sound_environment { E.keeps structure.now routes.now environment }
+    requires empty { done.items ≡ [] }
+    requires room { vec_len workers ≤ vec_capacity done }
+    ensures workers { AllZip (ComesFrom (W.keeps structure.now routes.now) W.same) workers.items result.0.items }
+    ensures environment { ComesFrom (E.keeps structure.now routes.now) E.same environment result.1 }
+    ensures len { vec_len result.0 ≡ vec_len workers }
+    ensures room { vec_capacity result.0 ≡ vec_capacity done }
+{
+    let Some(worker) = workers.pop() else {
+        let last = drive(
+            rt,
+            environment,
+            number_of_environment,
+            structure,
+            routes,
+            gate,
+            told,
+        );
+        return (done, last);
+    };
+    let place = workers.len() as u32;
+    let number = if place < number_of_environment {
+        place
+    } else {
+        place + 1
+    };
+    let promise = ComesBack {
+        worker: Snapshot::of(&worker),
+        structure: Snapshot::of(structure),
+        routes: Snapshot::of(routes),
+    };
+    let started = scope.spawn_with(
+        promise,
+        move || -> Returned<W>
+            requires { W.keeps structure.now routes.now worker }
+            ensures { ComesFrom (W.keeps structure.entry.now routes.entry.now) W.same worker result }
+        { run_one(rt, worker, number, structure, routes, gate, told) },
+    );
+    let started = match started {
+        Ok(thread) => Ok(thread),
+        Err(refused) => {
+            told.stop();
+            told.turn_away(number);
+            Err((refused.value)())
+        }
+    };
+    let (mut done, last) = run_rest(
+        scope,
+        rt,
+        workers,
+        environment,
+        number_of_environment,
+        done,
+        structure,
+        routes,
+        gate,
+        told,
+    );
+    let back = match started {
+        Ok(thread) => thread.join(rt),
+        Err(back) => back,
+    };
+    done.push_reserved(back);
+    (done, last)
+}
+
+/// Lets each of the workers make its steps in a thread of its own, and the environment's in this one, until all are told to
+/// stop. Each makes at least one step, but where its thread can't start; then all are told to stop. The worker at a place of the
+/// list has that number, and one more from the environment's number on. `done` has room for those that come back; they come back
+/// in the order of the list.
+pub fn run_all<W: Work + Send + Drop, E: Work + Drop, G: Gate, R: Threads + Wait + Sync>(
+    rt: &R,
+    workers: Vec<W>,
+    environment: E,
+    number_of_environment: u32,
+    done: Vec<Returned<W>>,
+    structure: &Structure,
+    routes: &Routes,
+    gate: &G,
+) -> (Vec<Returned<W>>, Returned<E>)
+    requires few { vec_len workers < 2 ^ 31 }
+    requires sound { All (W.keeps structure.now routes.now) workers.items }
+    requires sound_environment { E.keeps structure.now routes.now environment }
+    requires empty { done.items ≡ [] }
+    requires room { vec_len workers ≤ vec_capacity done }
+    ensures workers { AllZip (ComesFrom (W.keeps structure.now routes.now) W.same) workers.items result.0.items }
+    ensures environment { ComesFrom (E.keeps structure.now routes.now) E.same environment result.1 }
+{
+    let told = Told::new(workers.len() as u32 + 1);
+    run_told(
+        rt,
+        workers,
+        environment,
+        number_of_environment,
+        done,
+        structure,
+        routes,
+        gate,
+        &told,
+    )
+}
+
+/// Lets all make their steps, with these hints between them.
+fn run_told<W: Work + Send + Drop, E: Work + Drop, G: Gate, R: Threads + Wait + Sync>(
+    rt: &R,
+    workers: Vec<W>,
+    environment: E,
+    number_of_environment: u32,
+    done: Vec<Returned<W>>,
+    structure: &Structure,
+    routes: &Routes,
+    gate: &G,
+    told: &Told,
+) -> (Vec<Returned<W>>, Returned<E>)
+    requires few { vec_len workers < 2 ^ 31 }
+    requires sound { All (W.keeps structure.now routes.now) workers.items }
+    requires sound_environment { E.keeps structure.now routes.now environment }
+    requires empty { done.items ≡ [] }
+    requires room { vec_len workers ≤ vec_capacity done }
+    ensures workers { AllZip (ComesFrom (W.keeps structure.now routes.now) W.same) workers.items result.0.items }
+    ensures environment { ComesFrom (E.keeps structure.now routes.now) E.same environment result.1 }
+{
+    thread::scope(
+        thread::scope_env(),
+        rt,
+        |scope| -> (Vec<Returned<W>>, Returned<E>)
+            requires { All (W.keeps structure.now routes.now) workers.items × E.keeps structure.now routes.now environment × (vec_len workers < 2 ^ 31) × (done.items ≡ []) × (vec_len workers ≤ vec_capacity done) }
+            ensures workers { AllZip (ComesFrom (W.keeps structure.entry.now routes.entry.now) W.same) workers.items result.0.items }
+            ensures environment { ComesFrom (E.keeps structure.entry.now routes.entry.now) E.same environment result.1 }
+        {
+            run_rest(
+                scope,
+                rt,
+                workers,
+                environment,
+                number_of_environment,
+                done,
+                structure,
+                routes,
+                gate,
+                told,
+            )
+        },
+    )
+}

@@ -1,0 +1,48 @@
+//! What a thread knows of its worker, and how the worker comes back.
+pub use sdl_hand::Stepped;
+use sdl_parts::Structure;
+use sdl_routes::Routes;
+use std::sync::Wait;
+
+/// Something that makes steps in a system. `keeps` is what each of its steps asks and gives back, in a system of this structure
+/// and these routes. `same` says which worker it is, whatever its steps did.
+pub trait Work {
+    ghost use Rattle.std.specs.Prelude.{List};
+    ghost use Rattle.sdl_parts.specs.Structure.{Structure};
+    ghost use Rattle.sdl_routes.specs.declared.route.TableRow.{TableRow};
+
+    ghost keeps: { Structure → List TableRow → Self → Type 0 };
+
+    ghost same: { Self → Self → Type 0 };
+
+    /// A step. `pick` chooses wherever the worker may choose. May wait for other threads.
+    fn step<R: Wait>(
+        &mut self,
+        rt: &R,
+        structure: &Structure,
+        routes: &Routes,
+        pick: u32,
+    ) -> Stepped
+        requires { keeps structure.now routes.now self.old }
+        ensures keeps { keeps structure.now routes.now self.new }
+        ensures same { same self.old self.new };
+
+    /// Whether it has made as many turns as it may. It is a hint, after which all workers are told to stop: no claim rests on
+    /// it.
+    fn is_spent(&self) -> bool;
+
+    ghost itself: { (w : Self) → same w w };
+
+    ghost and_then: { (u v w : Self) → same u v → same v w → same u w };
+}
+
+/// A worker that came back.
+#[derive(Drop)]
+pub enum Returned<W> {
+    /// It made steps until it was told to stop.
+    Ran(W),
+    /// Memory was refused to its last step.
+    Refused(W),
+    /// Its thread could not start. It made no step.
+    NotStarted(W),
+}

@@ -1,0 +1,135 @@
+//! The workers of a system, each with its ends, and all of them at once.
+ghost use Rattle.std.specs.Prelude.{◌≡◌, ◌≤◌, ◌<◌, ◌^◌, [], vec_len, vec_capacity};
+ghost use Rattle.std.specs.List.{All, AllZip};
+ghost use Rattle.sdl_threads.specs.Back.{ComesFrom};
+
+use crate::kinds::Kind;
+use crate::pace::Gate;
+use crate::scope::run_all;
+use crate::work::{Returned, Stepped, Work};
+use sdl_block::BlockWorker;
+use sdl_ends::Ends;
+use sdl_forward::{Forwarded, Forwarder};
+use sdl_log::{Event, Keeps};
+use sdl_parts::Structure;
+use sdl_routes::Routes;
+use sdl_transition::Agents;
+use std::sync::Wait;
+use std::thread::Threads;
+
+/// A forwarder with its ends.
+#[derive(Drop)]
+pub struct ForwarderThread {
+    pub forwarder: Forwarder,
+    pub ends: Ends,
+}
+
+impl Work for ForwarderThread {
+    ghost use Rattle.sdl_forward.specs.HandsOn.{IsHandingOn};
+    ghost use Rattle.sdl_threads.specs.Workers.{IsSameForwarder, IsSameForwarder-refl, IsSameForwarder-trans};
+
+    ghost keeps = { λ s rows w. IsHandingOn rows w.forwarder w.ends };
+
+    ghost same = { IsSameForwarder };
+
+    ghost itself = { IsSameForwarder-refl };
+
+    ghost and_then = { IsSameForwarder-trans };
+
+    fn step<R: Wait>(
+        &mut self,
+        rt: &R,
+        _structure: &Structure,
+        routes: &Routes,
+        _pick: u32,
+    ) -> Stepped {
+        match self.forwarder.step(rt, routes, &mut self.ends) {
+            Forwarded::Moved => Stepped::Did,
+            Forwarded::Idle => Stepped::Idle,
+            Forwarded::Held => Stepped::Memory,
+        }
+    }
+
+    fn is_spent(&self) -> bool {
+        false
+    }
+}
+
+/// A block with its ends, and the number of turns that it may make.
+#[derive(Drop)]
+pub struct BlockThread<S, K: Keeps = Vec<Event>> {
+    pub block: BlockWorker<S, K>,
+    pub ends: Ends,
+    pub budget: u32,
+}
+
+impl<S: Agents, K: Keeps> Work for BlockThread<S, K> {
+    ghost use Rattle.std.specs.Prelude.{◌≡◌};
+    ghost use Rattle.sdl_instances.specs.CoreOf.{CanFire};
+    ghost use Rattle.sdl_block.specs.Workers.{behaviours_of, worker_of, system_around};
+    ghost use Rattle.sdl_hand.specs.Apart.{IsPuttingOut};
+    ghost use Rattle.sdl_threads.specs.Workers.{IsSameBlock, IsSameBlock-refl, IsSameBlock-trans};
+
+    ghost keeps = { λ s rows w. CanFire S.may (behaviours_of w.block) × IsPuttingOut S.may (system_around w.block rows) (worker_of w.block) w.ends };
+
+    ghost same = { λ u v. IsSameBlock u v };
+
+    ghost itself = { λ w. IsSameBlock-refl w };
+
+    ghost and_then = { λ u v w p q. IsSameBlock-trans u v w p q };
+
+    fn step<R: Wait>(
+        &mut self,
+        rt: &R,
+        _structure: &Structure,
+        routes: &Routes,
+        pick: u32,
+    ) -> Stepped {
+        self.block.step(rt, routes, &mut self.ends, pick)
+    }
+
+    fn is_spent(&self) -> bool {
+        self.block.made() >= self.budget
+    }
+}
+
+/// A block or a forwarder, with its ends.
+pub type AtWork<S, K> = Kind<BlockThread<S, K>, ForwarderThread>;
+
+/// Lets each block and each forwarder of a system make its steps in a thread of its own, and the environment in this one, until
+/// all are told to stop: `run_all` of these workers.
+pub fn run_workers<
+    S: Agents + Send,
+    K: Keeps + Send,
+    E: Work + Drop,
+    G: Gate,
+    R: Threads + Wait + Sync,
+>(
+    rt: &R,
+    workers: Vec<AtWork<S, K>>,
+    environment: E,
+    number_of_environment: u32,
+    done: Vec<Returned<AtWork<S, K>>>,
+    structure: &Structure,
+    routes: &Routes,
+    gate: &G,
+) -> (Vec<Returned<AtWork<S, K>>>, Returned<E>)
+    requires few { vec_len workers < 2 ^ 31 }
+    requires sound { All (⟦<AtWork<S, K> as Work>⟧.keeps structure.now routes.now) workers.items }
+    requires sound_environment { E.keeps structure.now routes.now environment }
+    requires empty { done.items ≡ [] }
+    requires room { vec_len workers ≤ vec_capacity done }
+    ensures workers { AllZip (ComesFrom (⟦<AtWork<S, K> as Work>⟧.keeps structure.now routes.now) ⟦<AtWork<S, K> as Work>⟧.same) workers.items result.0.items }
+    ensures environment { ComesFrom (E.keeps structure.now routes.now) E.same environment result.1 }
+{
+    run_all(
+        rt,
+        workers,
+        environment,
+        number_of_environment,
+        done,
+        structure,
+        routes,
+        gate,
+    )
+}
