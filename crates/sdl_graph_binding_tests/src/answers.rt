@@ -1,0 +1,74 @@
+//! What marked answers are, and what is marked.
+use super::breaking::{Breaking, CONFORMING, NUMBERS, breaking_frame};
+use sdl_graph_binding::sdl_behaviour::Next;
+use sdl_graph_binding::sdl_graph::Graph;
+use sdl_graph_binding::sdl_signal::StateId;
+use sdl_graph_binding::{Broken, Marks, marked_answer};
+use std::test::Fail;
+
+#[test]
+fn a_conforming_answer_stands_unmarked(rt: HostRuntime) -> Result<(), Fail> {
+    let marks = Marks::new(rt.alloc())?;
+    let step = marked_answer::<Breaking>(
+        CONFORMING,
+        &Breaking::offer(CONFORMING),
+        &breaking_frame(),
+        &marks,
+    );
+    let own = Breaking::step(CONFORMING, &breaking_frame());
+    assert_eq!(rt; step.actions.as_slice(), own.actions.as_slice());
+    assert_eq!(rt; step.actions.len(), 2);
+    assert_eq!(rt; step.vars.as_slice(), own.vars.as_slice());
+    assert_eq!(rt; step.next, Next::State(StateId(1)));
+    assert_eq!(rt; marks.broken(), None);
+    Ok(())
+}
+
+/// Each is replaced by the step that does nothing, and marked.
+#[test]
+fn a_broken_answer_does_nothing(rt: HostRuntime) -> Result<(), Fail> {
+    let frame = breaking_frame();
+    for number in 1..NUMBERS {
+        let marks = Marks::new(rt.alloc())?;
+        let step = marked_answer::<Breaking>(number, &Breaking::offer(number), &frame, &marks);
+        assert_eq!(rt; step.actions.len(), 0, "transition {number}");
+        assert_eq!(rt; step.vars.as_slice(), frame.vars.as_slice());
+        assert_eq!(rt; step.next, Next::State(StateId(0)));
+        let wanted = Some(Broken {
+            first: number,
+            count: 1,
+        });
+        assert_eq!(rt; marks.broken(), wanted, "transition {number}");
+    }
+    Ok(())
+}
+
+/// Whichever share the answers have, the first is named, and all are counted.
+#[test]
+fn the_first_is_named_and_all_are_counted(rt: HostRuntime) -> Result<(), Fail> {
+    let marks = Marks::new(rt.alloc())?;
+    let share = marks.share()?;
+    let frame = breaking_frame();
+    for number in [CONFORMING, 9, 3, CONFORMING, 9, 1] {
+        let own = if number == 3 { &share } else { &marks };
+        let _step = marked_answer::<Breaking>(number, &Breaking::offer(number), &frame, own);
+    }
+    let wanted = Some(Broken { first: 9, count: 4 });
+    assert_eq!(rt; marks.broken(), wanted);
+    assert_eq!(rt; share.broken(), wanted);
+    Ok(())
+}
+
+#[test]
+fn the_least_and_the_greatest_number_are_named(rt: HostRuntime) -> Result<(), Fail> {
+    for number in [0, u32::MAX] {
+        let marks = Marks::new(rt.alloc())?;
+        marks.note(number);
+        let wanted = Some(Broken {
+            first: number,
+            count: 1,
+        });
+        assert_eq!(rt; marks.broken(), wanted);
+    }
+    Ok(())
+}
