@@ -1,3 +1,5 @@
+pub use Rattle.sdl_order.proofs as order
+pub use Rattle.sdl_outcome.proofs as outcome
 pub mod Driving
 pub mod Drives
 pub mod Rounds

@@ -1,3 +1,20 @@
+pub use Rattle.sdl_balance.specs as sdl_balance
+pub use Rattle.sdl_behaviour.specs as sdl_behaviour
+pub use Rattle.sdl_block.specs as sdl_block
+pub use Rattle.sdl_environment.specs as sdl_environment
+pub use Rattle.sdl_forward.specs as sdl_forward
+pub use Rattle.sdl_hand.specs as sdl_hand
+pub use Rattle.sdl_instances.specs as sdl_instances
+pub use Rattle.sdl_ledger.specs as sdl_ledger
+pub use Rattle.sdl_log.specs as sdl_log
+pub use Rattle.sdl_opening.specs as sdl_opening
+pub use Rattle.sdl_order.specs as sdl_order
+pub use Rattle.sdl_outcome.specs as sdl_outcome
+pub use Rattle.sdl_parts.specs as sdl_parts
+pub use Rattle.sdl_queue.specs as sdl_queue
+pub use Rattle.sdl_routes.specs as sdl_routes
+pub use Rattle.sdl_signal.specs as sdl_signal
+pub use Rattle.sdl_transition.specs as sdl_transition
 pub use Rattle.sdl_outcome.specs.Stations
 pub use Rattle.sdl_outcome.specs.Books
 pub use Rattle.sdl_outcome.specs.Steps

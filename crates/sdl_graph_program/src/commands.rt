@@ -2,15 +2,15 @@
 ghost use Rattle.std.specs.Prelude.{IfOk};
 ghost use Rattle.sdl_program.specs.Running.{CanRun, HasBudget};
 
-use sdl_command::arguments::{Arguments, Command, Options, read_arguments};
-use sdl_command::errors::{without_memory, write_error};
-use sdl_command::status::{REFUSED, WRONG_ARGUMENTS};
-use sdl_parts::Checked;
+use sdl_graph_binding::sdl_parts::Checked;
+use sdl_graph_binding::sdl_routes::Routes;
 use sdl_program::files::{FileRead, read_file};
 use sdl_program::program::{words_behind_the_name, words_of};
+use sdl_program::sdl_command::arguments::{Arguments, Command, Options, read_arguments};
+use sdl_program::sdl_command::errors::{without_memory, write_error};
+use sdl_program::sdl_command::status::{REFUSED, WRONG_ARGUMENTS};
+use sdl_program::sdl_structure::FileFault;
 use sdl_program::systems::{checked_file, write_check, write_routes, written};
-use sdl_routes::Routes;
-use sdl_structure::FileFault;
 use std::alloc::{AllocError, Global};
 use std::io::Write;
 use std::rt::{Env, Files};

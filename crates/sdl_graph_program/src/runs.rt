@@ -1,17 +1,17 @@
 //! The command `run` of a graph's program, once its transitions are stored.
-ghost use Rattle.sdl_transition.specs.Bound.{IsBound, structure_of};
+ghost use Rattle.sdl_graph_binding.specs.sdl_transition.Bound.{IsBound, structure_of};
 ghost use Rattle.sdl_program.specs.Running.{CanRun, HasBudget};
 
 use crate::commands::Prepared;
 use crate::faults::write_graph_fault;
-use sdl_command::arguments::Options;
-use sdl_command::errors::{without_memory, write_error};
-use sdl_command::status::REFUSED;
+use sdl_graph_binding::sdl_transition::Bound;
 use sdl_graph_binding::{Broken, Design, GraphAgents, GraphFault, Marks, Stored, bind_graph};
 use sdl_graph_run::run_graph;
+use sdl_graph_run::sdl_run::StartFault;
 use sdl_program::closing::report_closing;
-use sdl_run::StartFault;
-use sdl_transition::Bound;
+use sdl_program::sdl_command::arguments::Options;
+use sdl_program::sdl_command::errors::{without_memory, write_error};
+use sdl_program::sdl_command::status::REFUSED;
 use std::alloc::Global;
 use std::io::{Read, Write};
 

@@ -4,3 +4,5 @@
 pub mod running;
 
 pub use running::{GraphClosing, run_graph};
+pub use sdl_graph_binding;
+pub use sdl_run;

@@ -1,17 +1,17 @@
 -- From what holds of a run that has ended to what its exit status tells.
 use Rattle.std.proofs.Common.{ℕ, List, ◌≡◌, subst}
-use Rattle.sdl_signal.specs.declared.ends.InputEnd.{InputEnd}
-use Rattle.sdl_signal.specs.declared.ends.OutputEnd.{OutputEnd}
-use Rattle.sdl_parts.specs.Structure.{Structure}
-use Rattle.sdl_routes.specs.declared.route.TableRow.{TableRow}
-use Rattle.sdl_behaviour.specs.declared.step.Frame.{Frame}
-use Rattle.sdl_behaviour.specs.declared.step.Step.{Step}
-use Rattle.sdl_transition.specs.Rules.{Rules}
-use Rattle.sdl_outcome.specs.declared.end.RunEnd.{RunEnd}
-use Rattle.sdl_outcome.specs.Outcome.{Outcome}
-use Rattle.sdl_ledger.specs.declared.ledger.Ledger.{Ledger}
-use Rattle.sdl_driver.specs.Closings.{StopsByMemory}
-use Rattle.sdl_driver.specs.Ended.{HasEnded}
+use Rattle.sdl_run.specs.sdl_signal.declared.ends.InputEnd.{InputEnd}
+use Rattle.sdl_run.specs.sdl_signal.declared.ends.OutputEnd.{OutputEnd}
+use Rattle.sdl_run.specs.sdl_parts.Structure.{Structure}
+use Rattle.sdl_run.specs.sdl_routes.declared.route.TableRow.{TableRow}
+use Rattle.sdl_run.specs.sdl_behaviour.declared.step.Frame.{Frame}
+use Rattle.sdl_run.specs.sdl_behaviour.declared.step.Step.{Step}
+use Rattle.sdl_run.specs.sdl_transition.Rules.{Rules}
+use Rattle.sdl_run.specs.sdl_outcome.declared.end.RunEnd.{RunEnd}
+use Rattle.sdl_run.specs.sdl_outcome.Outcome.{Outcome}
+use Rattle.sdl_run.specs.sdl_ledger.declared.ledger.Ledger.{Ledger}
+use Rattle.sdl_run.specs.sdl_driver.Closings.{StopsByMemory}
+use Rattle.sdl_run.specs.sdl_driver.Ended.{HasEnded}
 use Rattle.sdl_program.specs.Outcomes.{HasRun, IsToldBy, plan_with}
 
 has_run : (may : ℕ → Frame → Step → Type 0) (s : Structure) (routes : List TableRow) (rules : List (List Rules)) (o : Outcome) (end : RunEnd) (ledger : Ledger) (read : InputEnd) (written : OutputEnd) (status : ℕ)

@@ -1,10 +1,10 @@
 -- What the program does of its commands, and its exit statuses. (This project's own.)
 use Rattle.std.specs.Prelude.{◌≡◌, ◌≢◌, ℕ, ◌⊎◌, List, Option, None, Some, IsSome}
 use Rattle.std.specs.Io.KnownBytes.{Keeps}
-use Rattle.sdl_signal.specs.declared.ends.OutputEnd.{OutputEnd}
-use Rattle.sdl_parts.specs.Structure.{Structure}
-use Rattle.sdl_routes.specs.declared.route.TableRow.{TableRow}
-use Rattle.sdl_routes.specs.Routes.{AreRoutesOf}
+use Rattle.sdl_run.specs.sdl_signal.declared.ends.OutputEnd.{OutputEnd}
+use Rattle.sdl_run.specs.sdl_parts.Structure.{Structure}
+use Rattle.sdl_run.specs.sdl_routes.declared.route.TableRow.{TableRow}
+use Rattle.sdl_run.specs.sdl_routes.Routes.{AreRoutesOf}
 use Rattle.sdl_agents.specs.Systems.{system_of}
 use Rattle.sdl_command.specs.declared.arguments.Arguments.{Arguments}
 use Rattle.sdl_command.specs.declared.arguments.Arguments.TheVariants as arguments

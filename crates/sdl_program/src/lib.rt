@@ -13,4 +13,6 @@ pub mod streams;
 pub mod systems;
 mod trace;
 
+pub use sdl_command;
 pub use sdl_command::{arguments, pipe};
+pub use sdl_structure;

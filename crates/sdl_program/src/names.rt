@@ -1,6 +1,6 @@
 //! The names of a structure's parts, as its file writes them.
-use sdl_parts::{Owner, Scope, Structure};
-use sdl_signal::{BlockId, ChannelId, GateId, SetId, SignalId};
+use sdl_run::sdl_parts::{Owner, Scope, Structure};
+use sdl_run::sdl_signal::{BlockId, ChannelId, GateId, SetId, SignalId};
 
 pub fn signal_name(structure: &Structure, signal: SignalId) -> &str {
     match structure.signals().get(signal.0 as usize) {

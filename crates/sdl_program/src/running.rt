@@ -3,7 +3,7 @@ ghost use Rattle.std.specs.Prelude.{◌≡◌, ◌⊎◌, IsSome, None};
 ghost use Rattle.sdl_agents.specs.Systems.{system_of};
 ghost use Rattle.sdl_program.specs.Outcomes.{HasRun, HasRunOrNot};
 ghost use Rattle.sdl_program.specs.Running.{CanRun, HasBudget};
-ghost use Rattle.sdl_transition.specs.Bound.{IsBound, structure_of, routes_of};
+ghost use Rattle.sdl_run.specs.sdl_transition.Bound.{IsBound, structure_of, routes_of};
 
 use crate::closing::report_closing;
 use crate::faults::write_bind_fault;
@@ -11,11 +11,11 @@ use sdl_agents::{Runner, system_named};
 use sdl_command::arguments::Options;
 use sdl_command::errors::{without_memory, write_error};
 use sdl_command::status::REFUSED;
-use sdl_log::{Event, Keeps, Unstored};
-use sdl_parts::Checked;
-use sdl_routes::Routes;
+use sdl_run::sdl_log::{Event, Keeps, Unstored};
+use sdl_run::sdl_parts::Checked;
+use sdl_run::sdl_routes::Routes;
+use sdl_run::sdl_transition::{Agents, Behaviour, Bound, bind};
 use sdl_run::{StartFault, run_keeping};
-use sdl_transition::{Agents, Behaviour, Bound, bind};
 use std::alloc::Global;
 use std::io::{Read, Write};
 

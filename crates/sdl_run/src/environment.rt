@@ -1,2 +1,2 @@
 //! The environment at work.
-pub use sdl_environment::environment::{EnvParts, EnvWorker, goes_on, stops_reading};
+pub use sdl_driver::sdl_environment::environment::{EnvParts, EnvWorker, goes_on, stops_reading};

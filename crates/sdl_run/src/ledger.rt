@@ -1,2 +1,2 @@
 //! The ledger of a run: where every signal went.
-pub use sdl_ledger::Ledger;
+pub use sdl_driver::sdl_ledger::Ledger;
