@@ -1,6 +1,10 @@
 //! The commands of a graph's program up to a run.
-ghost use Rattle.std.specs.Prelude.{IfOk};
-ghost use Rattle.sdl_program.specs.Running.{CanRun, HasBudget};
+ghost use Rattle.std.specs.Prelude.{◌≡◌, ◌≢◌, ℕ, List, IfOk, IfErr, IsErr};
+ghost use Rattle.std.specs.Io.KnownBytes.{Keeps};
+ghost use Rattle.sdl_program.specs.Commands.{IsDone};
+ghost use Rattle.sdl_program.specs.Files.{Declares};
+ghost use Rattle.sdl_program.specs.Running.{CanRun};
+ghost use Rattle.sdl_graph_program.specs.Outcomes.{IsDoneAtOnce, IsToldOf};
 
 use sdl_graph_binding::sdl_parts::Checked;
 use sdl_graph_binding::sdl_routes::Routes;
@@ -10,7 +14,7 @@ use sdl_program::sdl_command::arguments::{Arguments, Command, Options, read_argu
 use sdl_program::sdl_command::errors::{without_memory, write_error};
 use sdl_program::sdl_command::status::{REFUSED, WRONG_ARGUMENTS};
 use sdl_program::sdl_structure::FileFault;
-use sdl_program::systems::{checked_file, write_check, write_routes, written};
+use sdl_program::systems::{checked_file, routes_command, routes_in, write_check, written};
 use std::alloc::{AllocError, Global};
 use std::io::Write;
 use std::rt::{Env, Files};
@@ -35,40 +39,51 @@ pub fn prepare_file<W: Write, E: Write>(
     output: &mut W,
     errors: &mut E,
 ) -> Result<Prepared, u8>
-    ensures { IfOk result (λ p. CanRun p.checked p.routes) }
+    ensures ready { IfOk result (λ p. CanRun p.checked p.routes) }
+    ensures declared { IfOk result (λ p. Declares file.now p.checked) }
+    ensures asked { IfOk result (λ p. p.options ≡ options) }
+    // Only a run is prepared, and a run that is not is refused.
+    ensures done { options.command ≢ Command.Run → IfErr result (IsDone options.command file.now) }
+    ensures run { options.command ≡ Command.Run → IfErr result (λ status. status ≡ 1) }
+    ensures others { options.command ≢ Command.Run → IsErr result }
+    ensures told { IfErr result (IsToldOf file.now) }
+    ensures unwritten { IfOk result (λ p. output.new ≡ output.old) }
+    ensures refused { IfErr result (λ status. status ≡ 1 → output.new ≡ output.old) }
+    ensures silent { IfErr result (λ status. status ≡ 0 → Keeps (E.contents errors.old) (E.contents errors.new)) }
 {
     let Some(checked) = checked_file(alloc, file, errors) else {
         return Err(REFUSED);
     };
-    if options.command == Command::Check {
-        return Err(written(write_check(output, checked.structure()), output, errors));
-    }
-    let routes = match Routes::build(alloc, &checked) {
-        Ok(routes) => routes,
-        Err(fault) => {
-            write_error(errors, fault);
-            return Err(REFUSED);
+    match options.command {
+        Command::Check => {
+            let text = write_check(output, checked.structure());
+            Err(written(text, output, errors))
         }
-    };
-    if options.command == Command::Run {
-        return Ok(Prepared {
-            options,
-            checked,
-            routes,
-        });
+        Command::Routes => Err(routes_command(alloc, &checked, output, errors)),
+        Command::Run => match routes_in(alloc, &checked, errors) {
+            Some(routes) => Ok(Prepared {
+                options,
+                checked,
+                routes,
+            }),
+            None => Err(REFUSED),
+        },
     }
-    let text = write_routes(output, checked.structure(), &routes);
-    Err(written(text, output, errors))
 }
 
-/// The same for the arguments of the program. A line that standard error does not take is dropped.
+/// The same for the arguments of the program: a run that is asked for of the structure of a file, or the exit status of what
+/// was done at once. A line that standard error does not take is dropped.
 pub fn prepare<H: Env + Files + AllocGlobal, W: Write, E: Write>(
     rt: &H,
     alloc: Global,
     output: &mut W,
     errors: &mut E,
 ) -> Result<Prepared, u8>
-    ensures { IfOk result (λ p. CanRun p.checked p.routes) }
+    ensures ready { IfOk result (λ p. CanRun p.checked p.routes) }
+    ensures declared { IfOk result (λ p. (file : List ℕ) × Declares file p.checked) }
+    ensures done { IfErr result IsDoneAtOnce }
+    ensures unwritten { IfOk result (λ p. output.new ≡ output.old) }
+    ensures refused { IfErr result (λ status. status ≡ 1 → output.new ≡ output.old) }
 {
     match prepare_words(rt, alloc, output, errors) {
         Ok(prepared) => prepared,
@@ -86,21 +101,44 @@ fn prepare_words<H: Env + Files + AllocGlobal, W: Write, E: Write>(
     output: &mut W,
     errors: &mut E,
 ) -> Result<Result<Prepared, u8>, AllocError>
-    ensures { IfOk result (λ r. IfOk r (λ p. CanRun p.checked p.routes)) }
+    ensures ready { IfOk result (λ r. IfOk r (λ p. CanRun p.checked p.routes)) }
+    ensures declared { IfOk result (λ r. IfOk r (λ p. (file : List ℕ) × Declares file p.checked)) }
+    ensures done { IfOk result (λ r. IfErr r IsDoneAtOnce) }
+    ensures unwritten { IfOk result (λ r. IfOk r (λ p. output.new ≡ output.old)) }
+    ensures refused { IfOk result (λ r. IfErr r (λ status. status ≡ 1 → output.new ≡ output.old)) }
+    ensures memory { IsErr result → output.new ≡ output.old }
 {
     let Some(words) = words_of(rt, alloc)? else {
         return Ok(Err(wrong_arguments(errors)));
     };
     let shown = words_behind_the_name(alloc, words.as_slice())?;
-    match read_arguments(shown.as_slice()) {
-        Some(Arguments::File(options, place)) => match shown.as_slice().get(place) {
-            Some(path) => Ok(prepare_path(rt, alloc, path, options, output, errors)),
-            None => Ok(Err(wrong_arguments(errors))),
+    Ok(prepare_shown(rt, alloc, shown.as_slice(), output, errors))
+}
+
+/// The same for the words after the program's name.
+fn prepare_shown<H: Files, W: Write, E: Write>(
+    rt: &H,
+    alloc: Global,
+    words: &[&str],
+    output: &mut W,
+    errors: &mut E,
+) -> Result<Prepared, u8>
+    ensures ready { IfOk result (λ p. CanRun p.checked p.routes) }
+    ensures declared { IfOk result (λ p. (file : List ℕ) × Declares file p.checked) }
+    ensures done { IfErr result IsDoneAtOnce }
+    ensures unwritten { IfOk result (λ p. output.new ≡ output.old) }
+    ensures refused { IfErr result (λ status. status ≡ 1 → output.new ≡ output.old) }
+{
+    match read_arguments(words) {
+        Some(Arguments::File(options, place)) => match words.get(place) {
+            Some(path) => prepare_path(rt, alloc, path, options, output, errors),
+            None => Err(wrong_arguments(errors)),
         },
-        _ => Ok(Err(wrong_arguments(errors))),
+        _ => Err(wrong_arguments(errors)),
     }
 }
 
+/// The same for a command on the file of this path.
 fn prepare_path<H: Files, W: Write, E: Write>(
     rt: &H,
     alloc: Global,
@@ -109,7 +147,11 @@ fn prepare_path<H: Files, W: Write, E: Write>(
     output: &mut W,
     errors: &mut E,
 ) -> Result<Prepared, u8>
-    ensures { IfOk result (λ p. CanRun p.checked p.routes) }
+    ensures ready { IfOk result (λ p. CanRun p.checked p.routes) }
+    ensures declared { IfOk result (λ p. (file : List ℕ) × Declares file p.checked) }
+    ensures done { IfErr result IsDoneAtOnce }
+    ensures unwritten { IfOk result (λ p. output.new ≡ output.old) }
+    ensures refused { IfErr result (λ status. status ≡ 1 → output.new ≡ output.old) }
 {
     match read_file(rt, alloc, path) {
         FileRead::Bytes(file) => prepare_file(alloc, file.as_slice(), options, output, errors),
@@ -124,7 +166,9 @@ fn prepare_path<H: Files, W: Write, E: Write>(
     }
 }
 
-fn wrong_arguments<E: Write>(errors: &mut E) -> u8 {
+fn wrong_arguments<E: Write>(errors: &mut E) -> u8
+    ensures { result ≡ 2 }
+{
     write_error(errors, USAGE);
     WRONG_ARGUMENTS
 }

@@ -1,4 +1,5 @@
-//! The program of a process graph over any reader and writers: its commands, the run of its agents, and its texts.
+//! The program of a process graph over any reader and writers: its commands, the run of its agents, and its texts. What a
+//! graph is written in is passed on.
 #![tactic(auto)]
 
 pub mod commands;
@@ -8,3 +9,19 @@ pub mod runs;
 pub use commands::{Prepared, prepare, prepare_file};
 pub use faults::write_graph_fault;
 pub use runs::{BROKEN, refused, run_prepared};
+pub use sdl_graph_binding;
+pub use sdl_graph_binding::sdl_behaviour::{Dest, Frame, Kind, Offer, Run, Step, Via};
+pub use sdl_graph_binding::sdl_conformance::copied_offer;
+pub use sdl_graph_binding::sdl_graph::{
+    Graph, OfferBuilder, StepBuilder, boolean_parameter, boolean_variable, integer_parameter,
+    integer_variable, no_offer, no_step, pid_parameter, pid_variable,
+};
+pub use sdl_graph_binding::sdl_signal::{
+    ChannelId, GateId, Pid, SetId, SignalId, Sort, StateId, Value,
+};
+pub use sdl_graph_binding::{
+    Design, GraphFault, SetDesign, Stored, Use, ending_offer, marked_answer,
+};
+pub use sdl_program;
+pub use sdl_program::program::{REFUSED, without_memory};
+pub use sdl_program::streams::{Input, Output};

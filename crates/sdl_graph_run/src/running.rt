@@ -3,26 +3,27 @@ ghost use Rattle.std.specs.Prelude.{◌≡◌, ◌≤◌, IfOk, IfErr};
 ghost use Rattle.sdl_graph_binding.specs.sdl_transition.Bound.{IsBound};
 ghost use Rattle.sdl_run.specs.sdl_driver.Closings.{HasReadIn, HasWrittenIn, StopsByMemory, IsRunOf, IsSameBound, outcome_in, plan_of_bound};
 ghost use Rattle.sdl_run.specs.sdl_driver.Ended.{HasEnded};
-ghost use Rattle.sdl_run.specs.sdl_outcome.Lists.{items_in};
 ghost use Rattle.sdl_run.specs.Serial.{IsBackIn};
 
 use sdl_graph_binding::sdl_transition::Bound;
 use sdl_graph_binding::{Broken, GraphAgents, Marks};
-use sdl_run::{Closing, StartFault, run_serial};
+use sdl_run::sdl_log::{Event, Keeps};
+use sdl_run::{Closing, StartFault, run_keeping};
 use std::alloc::Global;
 use std::io::{Read, Write};
 
 /// What a run of a graph leaves.
 #[derive(Drop)]
-pub struct GraphClosing<G> {
-    pub closing: Closing<GraphAgents<G>>,
+pub struct GraphClosing<G, K: Keeps = Vec<Event>> {
+    pub closing: Closing<GraphAgents<G>, K>,
     /// The transitions that broke their offers, none where each kept to its own.
     pub broken: Option<Broken>,
 }
 
-/// Runs the agents of a graph on one thread until they end, as `run_serial` does. Each step meets the offer of its
-/// transition. `marks` are those that the transitions share. What they say at the end is the closing's `broken`.
-pub fn run_graph<G, R: Read, W: Write>(
+/// Runs the agents of a graph on one thread until they end, as `run_keeping` does, with logs that are kept as their type
+/// says: whole, or counted alone. Each step meets the offer of its transition. `marks` are those that the transitions share.
+/// What they say at the end is the closing's `broken`.
+pub fn run_graph<G, K: Keeps, R: Read, W: Write>(
     alloc: Global,
     bound: Bound<GraphAgents<G>>,
     marks: &Marks,
@@ -30,12 +31,12 @@ pub fn run_graph<G, R: Read, W: Write>(
     schedule: &[u32],
     input: &mut R,
     output: &mut W,
-) -> Result<GraphClosing<G>, StartFault<GraphAgents<G>>>
+) -> Result<GraphClosing<G, K>, StartFault<GraphAgents<G>>>
     requires bound { IsBound (λ _ _ _. Unit {0}) bound }
     requires budget { (1 ≤ budget) × (budget ≤ 1000000) }
-    ensures ended { IfOk result (λ c. HasEnded (λ _ _ _. Unit {0}) (plan_of_bound bound budget) (outcome_in items_in c.closing) c.closing.end c.closing.ledger) }
+    ensures ended { IfOk result (λ c. HasEnded (λ _ _ _. Unit {0}) (plan_of_bound bound budget) (outcome_in K.events c.closing) c.closing.end c.closing.ledger) }
     // The steps that the schedule names are made, and then those of whole rounds; none is made after a refusal.
-    ensures run { IfOk result (λ c. IsRunOf (λ _ _ _. Unit {0}) (plan_of_bound bound budget) schedule.now items_in c.closing) }
+    ensures run { IfOk result (λ c. IsRunOf (λ _ _ _. Unit {0}) (plan_of_bound bound budget) schedule.now K.events c.closing) }
     // What was read of the input, with what became of each line, and how the reading ended.
     ensures reading { IfOk result (λ c. HasReadIn (plan_of_bound bound budget) (R.remaining input.old) (R.remaining input.new) c.closing) }
     // What was written to the output.
@@ -45,7 +46,7 @@ pub fn run_graph<G, R: Read, W: Write>(
     ensures back { IfErr result (λ f. IsBackIn (λ _ _ _. Unit {0}) bound f) }
     ensures untouched { IfErr result (λ f. (input.new ≡ input.old) × (output.new ≡ output.old)) }
 {
-    let closing = run_serial(alloc, bound, budget, schedule, input, output)?;
+    let closing = run_keeping(alloc, bound, budget, schedule, input, output)?;
     let broken = marks.broken();
     Ok(GraphClosing { closing, broken })
 }

@@ -106,7 +106,7 @@ impl<R: Read, W: Write, E: Write> Runner for Job<'_, R, W, E> {
 
 /// Runs a system that is bound, with its structure's budget, and answers the exit status. The logs are stored where a trace
 /// was asked for, and else counted alone.
-fn run_bound<S: Agents + Drop, R: Read, W: Write, E: Write>(
+pub fn run_bound<S: Agents + Drop, R: Read, W: Write, E: Write>(
     settings: Settings,
     bound: Bound<S>,
     input: &mut R,

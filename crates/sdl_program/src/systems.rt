@@ -79,7 +79,7 @@ pub fn carry_out<R: Read, W: Write, E: Write>(
 }
 
 /// The command `routes`.
-fn routes_command<W: Write, E: Write>(
+pub fn routes_command<W: Write, E: Write>(
     alloc: Global,
     checked: &Checked,
     output: &mut W,
@@ -115,7 +115,7 @@ fn start_command<R: Read, W: Write, E: Write>(
 }
 
 /// The routes of the structure; where there is no table of them, why is written.
-fn routes_in<E: Write>(alloc: Global, checked: &Checked, errors: &mut E) -> Option<Routes>
+pub fn routes_in<E: Write>(alloc: Global, checked: &Checked, errors: &mut E) -> Option<Routes>
     ensures routes { IfSome result (AreRoutesOf checked.now) }
     ensures silent { IfSome result (λ routes. errors.new ≡ errors.old) }
 {
