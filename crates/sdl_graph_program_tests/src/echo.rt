@@ -1,0 +1,169 @@
+//! Echo as a graph, and an Echo whose row does not offer its output.
+ghost use Rattle.sdl_graph_program.specs.Running.{CanRun};
+
+use sdl_graph_program::{
+    Design, Dest, Frame, Graph, GraphFault, Kind, Offer, OfferBuilder, Prepared, Run, SetDesign,
+    SignalId, Sort, StateId, Step, StepBuilder, Stored, Value, Via, copied_offer, ending_offer,
+    integer_parameter, marked_answer, no_offer, no_step, run_prepared,
+};
+use std::alloc::Global;
+
+const PING: SignalId = SignalId(0);
+
+const PONG: SignalId = SignalId(1);
+
+const IDLE: StateId = StateId(0);
+
+fn echo_offer(number: u32) -> OfferBuilder {
+    let start = OfferBuilder::start(1, &[]);
+    if number == 0 {
+        start
+    } else {
+        start.row(IDLE, PING, &[Sort::Integer])
+    }
+}
+
+fn echo_step(number: u32, frame: &Frame) -> Step {
+    match number {
+        0 => StepBuilder::next_state(frame, IDLE).build(),
+        1 => {
+            let given = Value::Integer(integer_parameter(frame, 0).unwrap_or(0));
+            StepBuilder::next_state(frame, IDLE)
+                .output(PONG, &[given], Dest::Anywhere, Via::Any)
+                .build()
+        }
+        _ => no_step(),
+    }
+}
+
+pub struct Echo;
+
+impl Graph for Echo {
+    fn offer(number: u32) -> Offer {
+        match number {
+            0 => echo_offer(0).next_state(IDLE).build(),
+            1 => echo_offer(1)
+                .output(PONG, &[Sort::Integer], Via::Any)
+                .next_state(IDLE)
+                .build(),
+            _ => no_offer(),
+        }
+    }
+
+    fn step(number: u32, frame: &Frame) -> Step {
+        echo_step(number, frame)
+    }
+}
+
+/// Its row does not offer the output that it makes.
+pub struct Mute;
+
+impl Graph for Mute {
+    fn offer(number: u32) -> Offer {
+        match number {
+            0 | 1 => echo_offer(number).next_state(IDLE).build(),
+            _ => no_offer(),
+        }
+    }
+
+    fn step(number: u32, frame: &Frame) -> Step {
+        echo_step(number, frame)
+    }
+}
+
+pub const SET: SetDesign = SetDesign {
+    name: "E",
+    states: &["idle"],
+    variables: &[],
+    transitions: 2,
+};
+
+pub const DESIGN: Design = Design {
+    uses: &[
+        (Kind::Set, 0, "E"),
+        (Kind::Signal, 0, "ping"),
+        (Kind::Signal, 1, "pong"),
+    ],
+    sets: &[SET],
+};
+
+/// What a run wrote and answered.
+#[derive(Drop)]
+pub struct Ran {
+    pub status: u8,
+    pub output: Vec<u8>,
+    pub errors: Vec<u8>,
+}
+
+/// Runs Echo by the design.
+pub fn run_echo(
+    alloc: Global,
+    prepared: Prepared,
+    design: &Design,
+    lines: &[u8],
+) -> Result<Ran, GraphFault>
+    requires { CanRun prepared.checked prepared.routes }
+{
+    let mut stored: Stored<Echo> = Stored::new(alloc)?;
+    for number in 0..2 {
+        let offer = ending_offer::<Echo>(number)?;
+        let own = copied_offer(&offer);
+        let marks = stored.marks()?;
+        let run: Run = Box::new(
+            alloc,
+            move |frame: &Frame| marked_answer::<Echo>(number, &own, frame, &marks),
+        )?;
+        stored.keep(number, offer, run)?;
+    }
+    let mut input = lines;
+    let mut output = Vec::new(alloc);
+    let mut errors = Vec::new(alloc);
+    let status = run_prepared(
+        alloc,
+        prepared,
+        design,
+        stored,
+        &mut input,
+        &mut output,
+        &mut errors,
+    );
+    Ok(Ran {
+        status,
+        output,
+        errors,
+    })
+}
+
+/// Runs the Echo with a broken offer.
+pub fn run_mute(alloc: Global, prepared: Prepared, lines: &[u8]) -> Result<Ran, GraphFault>
+    requires { CanRun prepared.checked prepared.routes }
+{
+    let mut stored: Stored<Mute> = Stored::new(alloc)?;
+    for number in 0..2 {
+        let offer = ending_offer::<Mute>(number)?;
+        let own = copied_offer(&offer);
+        let marks = stored.marks()?;
+        let run: Run = Box::new(
+            alloc,
+            move |frame: &Frame| marked_answer::<Mute>(number, &own, frame, &marks),
+        )?;
+        stored.keep(number, offer, run)?;
+    }
+    let mut input = lines;
+    let mut output = Vec::new(alloc);
+    let mut errors = Vec::new(alloc);
+    let status = run_prepared(
+        alloc,
+        prepared,
+        &DESIGN,
+        stored,
+        &mut input,
+        &mut output,
+        &mut errors,
+    );
+    Ok(Ran {
+        status,
+        output,
+        errors,
+    })
+}
