@@ -57,7 +57,7 @@ fn crewman<P: Plan>(
         })),
         _ => Ok(Kind::Block(Agent {
             ends,
-            task: Task::Rests,
+            task: Task::rest(alloc),
         })),
     }
 }
@@ -85,12 +85,12 @@ fn crew_of<P: Plan>(
 }
 
 /// The ends of a worker that came back, with its task as it was left.
-fn let_go(back: Returned<Crewman>) -> Result<(Ends, Task), Stop>
+fn let_go(alloc: Global, back: Returned<Crewman>) -> Result<(Ends, Task), Stop>
     ensures { IfOk result (λ both. both.0 ≡ ends_in (λ a. a.ends) (worker_in back)) }
 {
     match back {
         Returned::Ran(Kind::Block(agent)) => Ok((agent.ends, agent.task)),
-        Returned::Ran(Kind::Forwarder(thread)) => Ok((thread.ends, Task::Rests)),
+        Returned::Ran(Kind::Forwarder(thread)) => Ok((thread.ends, Task::rest(alloc))),
         _ => Err(Stop::Memory),
     }
 }
@@ -102,7 +102,7 @@ fn let_all_go(alloc: Global, back: Vec<Returned<Crewman>>) -> Result<(Vec<Ends>,
     let mut ends = Vec::with_capacity(alloc, back.len())?;
     let mut tasks = Vec::with_capacity(alloc, back.len())?;
     for one in back {
-        let (own, task) = let_go(one)?;
+        let (own, task) = let_go(alloc, one)?;
         ends.push(own)?;
         tasks.push(task)?;
     }
@@ -125,7 +125,7 @@ fn run_crew<R: Threads + Wait + Sync>(
     }
     let nobody = Agent {
         ends: Ends::new(alloc, None, Vec::new(alloc))?,
-        task: Task::Rests,
+        task: Task::rest(alloc),
     };
     let number = crew.len() as u32;
     let done = Vec::with_capacity(alloc, crew.len())?;

@@ -1,4 +1,4 @@
-//! Items that their origins tell from others, and stations of Relay.
+//! Items that their routes and origins tell from others, and stations of Relay.
 use sdl_queue::{Rest, SerialQueue};
 use sdl_routes::{Hop, Station};
 use sdl_signal::{ChannelId, Item, Origin, RouteId};
@@ -33,6 +33,15 @@ pub fn mark_of(item: &Item) -> Mark {
     (item.route.0, item.origin.worker, item.origin.number)
 }
 
+/// The route on which a block of Relay sends what comes on this one.
+pub fn onward(route: u32) -> u32 {
+    match route {
+        0 => 2,
+        1 => 3,
+        _ => 4,
+    }
+}
+
 /// What is left of a queue. Where memory was refused, it is asked for once more.
 pub fn left_of<R: Wait>(rt: &R, rest: Rest) -> Result<SerialQueue, Stop> {
     let rejoined = match rest {
@@ -47,4 +56,13 @@ pub fn left_of<R: Wait>(rt: &R, rest: Rest) -> Result<SerialQueue, Stop> {
         Ok(queue) => Ok(queue),
         Err((_, error)) => Err(error.into()),
     }
+}
+
+/// Adds the marks of what is left of a queue.
+pub fn add_left<R: Wait>(rt: &R, marks: &mut Vec<Mark>, rest: Rest) -> Result<(), Stop> {
+    let queue = left_of(rt, rest)?;
+    for item in queue.left() {
+        marks.push(mark_of(item))?;
+    }
+    Ok(())
 }

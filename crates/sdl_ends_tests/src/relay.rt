@@ -1,5 +1,5 @@
 //! The ends of Relay, used by its workers in turn on one thread.
-use super::items::{Mark, hop, item_of, left_of, line, mark_of};
+use super::items::{Mark, hop, item_of, left_of, line, mark_of, onward};
 use super::opened::Opened;
 use sdl_examples::RELAY;
 use sdl_forward::{Forwarded, Forwarder};
@@ -16,7 +16,7 @@ use std::test::Fail;
 /// How many items the environment puts on each of the two routes that start at its gates.
 const ITEMS: u64 = 12;
 
-/// The worker puts the item, once more where memory was refused.
+/// The worker puts the item.
 fn put<R: Wait>(
     rt: &R,
     relay: &mut Opened,
@@ -26,10 +26,7 @@ fn put<R: Wait>(
 ) -> Result<(), Stop> {
     match relay.put(rt, worker, station, item) {
         Ok(()) => Ok(()),
-        Err(item) => match relay.put(rt, worker, station, item) {
-            Ok(()) => Ok(()),
-            Err(_) => Err(Stop::Memory),
-        },
+        Err(_) => Err(Stop::Memory),
     }
 }
 
@@ -57,15 +54,6 @@ fn bring<R: Wait + Abort>(rt: &R, relay: &mut Opened, channel: u32, times: u32) 
     assert!(rt; forwarder.held().is_none());
 }
 
-/// Where the block sends what comes on a route: the route, and the channel at which it starts.
-fn onward(route: u32) -> (u32, u32) {
-    match route {
-        0 => (2, 6),
-        1 => (3, 7),
-        _ => (4, 9),
-    }
-}
-
 /// The block takes so many items, and puts for each another one on the next route.
 fn pass<R: Wait>(rt: &R, relay: &mut Opened, block: u32, times: u32) -> Result<(), Stop> {
     let worker = Worker::Block(BlockId(block));
@@ -73,7 +61,12 @@ fn pass<R: Wait>(rt: &R, relay: &mut Opened, block: u32, times: u32) -> Result<(
         let Some(item) = relay.take(rt, worker) else {
             return Err(Stop::Wrong("nothing came"));
         };
-        let (route, channel) = onward(item.route.0);
+        let route = onward(item.route.0);
+        let channel = match route {
+            2 => 6,
+            3 => 7,
+            _ => 9,
+        };
         let next = item_of(route, item.origin.worker, item.origin.number);
         put(rt, relay, worker, line(channel), next)?;
     }

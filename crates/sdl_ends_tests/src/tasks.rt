@@ -1,45 +1,34 @@
 //! What a worker of a test does with its ends, step by step.
-ghost use Rattle.sdl_ends.specs.Ends.{HasFeed, IsSameEnds};
+ghost use Rattle.sdl_ends.specs.Ends.{IsSameEnds};
 
-use super::items::item_of;
+use super::items::{Mark, item_of, line, mark_of, onward};
 use sdl_ends::Ends;
 use sdl_parts::Structure;
 use sdl_routes::{Routes, Station};
 use sdl_signal::{Item, RouteId};
 use sdl_threads::{Stepped, Work};
+use std::alloc::Global;
 use std::sync::Wait;
 
-/// Items that a worker puts, by number from 0 on.
-#[derive(Clone, Copy, Debug)]
-pub struct Source {
-    pub station: Station,
+/// What a worker has yet to do, and what it took.
+#[derive(Drop)]
+pub struct Task {
+    /// It puts so many items on this route, at the path of this channel: or, in turn, on that route and the next one, each at a
+    /// path of its own.
     pub route: u32,
-    pub next: u64,
+    pub channel: u32,
+    pub in_turn: bool,
     pub count: u64,
-}
-
-/// Puts items of two kinds, and takes so many items, which it keeps.
-#[derive(Drop)]
-pub struct Trader {
-    pub first: Source,
-    pub second: Source,
+    /// How many it has put.
+    pub next: u64,
+    /// How many it takes at most.
     pub wanted: usize,
-    pub taken: Vec<Item>,
-}
-
-/// What a worker does.
-#[derive(Drop)]
-pub enum Task {
-    /// Nothing.
-    Rests,
-    /// It puts items.
-    Puts(Source),
-    /// It takes so many items, which it keeps.
-    Takes(usize, Vec<Item>),
-    /// It takes items, which it keeps, and puts for each another one on the next route.
-    PassesOn(Vec<Item>),
-    /// It puts and takes, and all stop once it has taken what it wants.
-    Trades(Trader),
+    /// Whether it puts for each that it takes another one on the next route.
+    pub passes_on: bool,
+    /// Whether all stop once it has taken what it wants.
+    pub stops_all: bool,
+    /// What it took, in order.
+    pub taken: Vec<Mark>,
 }
 
 /// A worker with its ends.
@@ -47,15 +36,6 @@ pub enum Task {
 pub struct Agent {
     pub ends: Ends,
     pub task: Task,
-}
-
-/// Where a block of Relay sends what comes on a route.
-fn onward(route: u32) -> u32 {
-    match route {
-        0 => 2,
-        1 => 3,
-        _ => 4,
-    }
 }
 
 /// Puts the item at the station.
@@ -71,86 +51,69 @@ fn put<R: Wait>(rt: &R, ends: &mut Ends, station: Station, item: Item) -> Steppe
     }
 }
 
-/// Puts the next item of the source, if there is one.
-fn put_next<R: Wait>(rt: &R, ends: &mut Ends, source: &mut Source) -> Stepped
+/// Puts another item on the next route of the one that was taken.
+fn pass_on<R: Wait>(rt: &R, ends: &mut Ends, routes: &Routes, taken: Mark) -> Stepped
     ensures { IsSameEnds ends.old ends.new }
 {
-    if source.next >= source.count {
-        return Stepped::Idle;
-    }
-    let item = item_of(source.route, source.route, source.next);
-    source.next = source.next.saturating_add(1);
-    put(rt, ends, source.station, item)
-}
-
-/// Takes an item and keeps it, where it wants more.
-fn take_next<R: Wait>(rt: &R, ends: &mut Ends, wanted: usize, taken: &mut Vec<Item>) -> Stepped
-    ensures { IsSameEnds ends.old ends.new }
-{
-    if taken.len() >= wanted {
-        return Stepped::Idle;
-    }
-    match ends.take(rt) {
-        Some(item) => match taken.push(item) {
-            Ok(()) => Stepped::Did,
-            Err(_) => Stepped::Memory,
-        },
+    let route = onward(taken.0);
+    match routes.next(RouteId(route), None) {
+        Some(station) => put(rt, ends, station, item_of(route, taken.1, taken.2)),
         None => Stepped::Idle,
     }
 }
 
-/// Takes an item, keeps it, and puts another one on the next route.
-fn pass_on<R: Wait>(rt: &R, ends: &mut Ends, routes: &Routes, taken: &mut Vec<Item>) -> Stepped
-    ensures { IsSameEnds ends.old ends.new }
-{
-    let Some(item) = ends.take(rt) else {
-        return Stepped::Idle;
-    };
-    let route = onward(item.route.0);
-    let next = item_of(route, item.origin.worker, item.origin.number);
-    if taken.push(item).is_err() {
-        return Stepped::Memory;
-    }
-    match routes.next(RouteId(route), None) {
-        Some(station) => put(rt, ends, station, next),
-        None => Stepped::Did,
-    }
-}
-
-/// What two steps did together.
-fn both(one: Stepped, other: Stepped) -> Stepped {
-    match (one, other) {
-        (Stepped::Memory, _) => Stepped::Memory,
-        (_, Stepped::Memory) => Stepped::Memory,
-        (Stepped::Idle, Stepped::Idle) => Stepped::Idle,
-        _ => Stepped::Did,
-    }
-}
-
-impl Trader {
-    /// Puts the next items of both sources, and takes one.
-    fn trade<R: Wait>(&mut self, rt: &R, ends: &mut Ends) -> Stepped
-        ensures { IsSameEnds ends.old ends.new }
-    {
-        let one = put_next(rt, ends, &mut self.first);
-        let other = put_next(rt, ends, &mut self.second);
-        let came = take_next(rt, ends, self.wanted, &mut self.taken);
-        both(both(one, other), came)
-    }
-}
-
 impl Task {
-    /// A step of the task.
-    fn step<R: Wait>(&mut self, rt: &R, ends: &mut Ends, routes: &Routes) -> Stepped
+    /// Nothing to do.
+    pub fn rest(alloc: Global) -> Task {
+        Task {
+            route: 0,
+            channel: 0,
+            in_turn: false,
+            count: 0,
+            next: 0,
+            wanted: 0,
+            passes_on: false,
+            stops_all: false,
+            taken: Vec::new(alloc),
+        }
+    }
+
+    /// Puts the next item, if there is one.
+    fn put_next<R: Wait>(&mut self, rt: &R, ends: &mut Ends) -> Stepped
         ensures { IsSameEnds ends.old ends.new }
     {
-        match self {
-            Task::Rests => Stepped::Idle,
-            Task::Puts(source) => put_next(rt, ends, source),
-            Task::Takes(wanted, taken) => take_next(rt, ends, *wanted, taken),
-            Task::PassesOn(taken) => pass_on(rt, ends, routes, taken),
-            Task::Trades(trader) => trader.trade(rt, ends),
+        if self.next >= self.count {
+            return Stepped::Idle;
         }
+        let (way, number) = if self.in_turn {
+            ((self.next % 2) as u32, self.next / 2)
+        } else {
+            (0, self.next)
+        };
+        self.next = self.next.saturating_add(1);
+        let route = self.route.saturating_add(way);
+        let station = line(self.channel.saturating_add(way));
+        put(rt, ends, station, item_of(route, route, number))
+    }
+
+    /// Takes an item, where it wants more, and passes on where it is to.
+    fn take_next<R: Wait>(&mut self, rt: &R, ends: &mut Ends, routes: &Routes) -> Stepped
+        ensures { IsSameEnds ends.old ends.new }
+    {
+        if self.taken.len() >= self.wanted {
+            return Stepped::Idle;
+        }
+        let Some(item) = ends.take(rt) else {
+            return Stepped::Idle;
+        };
+        let mark = mark_of(&item);
+        if self.taken.push(mark).is_err() {
+            return Stepped::Memory;
+        }
+        if self.passes_on {
+            return pass_on(rt, ends, routes, mark);
+        }
+        Stepped::Did
     }
 }
 
@@ -174,13 +137,15 @@ impl Work for Agent {
         routes: &Routes,
         _pick: u32,
     ) -> Stepped {
-        self.task.step(rt, &mut self.ends, routes)
+        let put = self.task.put_next(rt, &mut self.ends);
+        if put == Stepped::Memory {
+            return Stepped::Memory;
+        }
+        let taken = self.task.take_next(rt, &mut self.ends, routes);
+        if taken == Stepped::Idle { put } else { taken }
     }
 
     fn is_spent(&self) -> bool {
-        match &self.task {
-            Task::Trades(trader) => trader.taken.len() >= trader.wanted,
-            _ => false,
-        }
+        self.task.stops_all && self.task.taken.len() >= self.task.wanted
     }
 }

@@ -1,11 +1,11 @@
 //! All workers of Relay at once, each in a thread of its own.
 use super::crew::{Left, Plan, work_at_once};
-use super::items::{item_of, left_of, line};
-use super::tasks::{Source, Task, Trader};
+use super::items::{Mark, add_left, onward};
+use super::tasks::Task;
 use sdl_opening::Worker;
-use sdl_queue::{Rest, SerialQueue};
+use sdl_queue::Rest;
 use sdl_routes::{Routes, Station};
-use sdl_signal::{Item, Origin, RouteId};
+use sdl_signal::RouteId;
 use sdl_test_systems::Stop;
 use std::alloc::Global;
 use std::process::Abort;
@@ -19,208 +19,129 @@ const ITEMS: u64 = 500;
 /// How many come to it before all stop.
 const WANTED: usize = 900;
 
-/// What the environment puts on the route of this number.
-fn source(route: u32) -> Source {
-    Source {
-        station: line(route),
-        route,
-        next: 0,
-        count: ITEMS,
-    }
-}
-
 /// The environment puts and takes, the blocks pass on, and the forwarders hand on.
 struct Relaying;
 
 impl Plan for Relaying {
     fn task_of(&self, alloc: Global, worker: Worker) -> Result<Option<Task>, Stop> {
-        let room = 2 * ITEMS as usize;
+        let task = Task {
+            taken: Vec::with_capacity(alloc, 1_000)?,
+            ..Task::rest(alloc)
+        };
         Ok(match worker {
-            Worker::Block(_) => Some(Task::PassesOn(Vec::with_capacity(alloc, room)?)),
-            Worker::Environment => Some(Task::Trades(Trader {
-                first: source(0),
-                second: source(1),
+            Worker::Block(_) => Some(Task {
+                wanted: 1_000,
+                passes_on: true,
+                ..task
+            }),
+            Worker::Environment => Some(Task {
+                in_turn: true,
+                count: 2 * ITEMS,
                 wanted: WANTED,
-                taken: Vec::with_capacity(alloc, room)?,
-            })),
+                stops_all: true,
+                ..task
+            }),
             Worker::Forwarder(_) => None,
         })
     }
 }
 
-/// The items that each agent took, in order.
-#[derive(Drop)]
-struct Taken {
-    first: Vec<Item>,
-    second: Vec<Item>,
-    environment: Vec<Item>,
-}
-
-/// Whether the environment has put all that it had.
-fn all_put(tasks: &[Task]) -> bool {
-    for task in tasks {
-        if let Task::Trades(trader) = task {
-            return trader.first.next == ITEMS && trader.second.next == ITEMS;
-        }
-    }
-    false
-}
-
-/// What was taken in a task.
-fn taken_in(task: Task) -> Option<Vec<Item>> {
-    match task {
-        Task::PassesOn(taken) => Some(taken),
-        Task::Trades(trader) => Some(trader.taken),
-        _ => None,
+/// What the worker at this place took: the two blocks, and then the environment.
+fn taken_by(tasks: &[Task], place: usize) -> &[Mark] {
+    match tasks.get(place) {
+        Some(task) => task.taken.as_slice(),
+        None => &[],
     }
 }
 
-/// What the two blocks and the environment took.
-fn taken_by_all(alloc: Global, tasks: Vec<Task>) -> Result<Taken, Stop> {
-    let mut lists = Vec::with_capacity(alloc, tasks.len())?;
-    for task in tasks {
-        if let Some(taken) = taken_in(task) {
-            lists.push(taken)?;
-        }
-    }
-    let environment = lists.pop().ok_or("no environment")?;
-    let second = lists.pop().ok_or("no second block")?;
-    let first = lists.pop().ok_or("no first block")?;
-    Ok(Taken {
-        first,
-        second,
-        environment,
-    })
-}
-
-/// Adds the origins of the items of this route.
-fn add_origins(origins: &mut Vec<Origin>, route: u32, items: &[Item]) -> Result<(), Stop> {
-    for item in items {
-        if item.route.0 == route {
-            origins.push(item.origin)?;
+/// Adds those of the marks that are of this route.
+fn add_on(along: &mut Vec<Mark>, route: u32, marks: &[Mark]) -> Result<(), Stop> {
+    for mark in marks {
+        if mark.0 == route {
+            along.push(*mark)?;
         }
     }
     Ok(())
 }
 
-/// Adds those of the items of this route that wait in the queue.
-fn add_waiting(origins: &mut Vec<Origin>, route: u32, queue: &SerialQueue) -> Result<(), Stop> {
-    for item in queue.left() {
-        if item.route.0 == route {
-            origins.push(item.origin)?;
+/// Adds what was put on the route: by the environment, or in the place of those of the marks that lead on to it.
+fn add_put(put: &mut Vec<Mark>, route: u32, marks: &[Mark]) -> Result<(), Stop> {
+    if route < 2 {
+        for number in 0..ITEMS {
+            put.push((route, route, number))?;
+        }
+        return Ok(());
+    }
+    for mark in marks {
+        if onward(mark.0) == route {
+            put.push((route, mark.1, mark.2))?;
         }
     }
     Ok(())
 }
 
-impl Taken {
-    /// What arrived where the route ends.
-    fn arrived(&self, route: u32) -> &[Item] {
-        match route {
-            0 | 1 => self.first.as_slice(),
-            2 | 3 => self.second.as_slice(),
-            _ => self.environment.as_slice(),
-        }
+/// What is left at each station.
+fn all_left<R: Wait>(
+    rt: &R,
+    alloc: Global,
+    rests: Vec<(Station, Rest)>,
+) -> Result<Vec<(Station, Vec<Mark>)>, Stop> {
+    let mut left = Vec::with_capacity(alloc, rests.len())?;
+    for (station, rest) in rests {
+        let mut marks = Vec::new(alloc);
+        add_left(rt, &mut marks, rest)?;
+        left.push((station, marks))?;
     }
-
-    /// The origins of what was put on the route, in order: of what its sender took on the routes from which it passes on, or put
-    /// by itself.
-    fn put_on(&self, alloc: Global, route: u32) -> Result<Vec<Origin>, Stop> {
-        let mut origins = Vec::new(alloc);
-        match route {
-            0 | 1 => {
-                for number in 0..ITEMS {
-                    origins.push(item_of(route, route, number).origin)?;
-                }
-            }
-            2 | 3 => add_origins(&mut origins, route - 2, self.first.as_slice())?,
-            _ => {
-                for item in self.second.as_slice() {
-                    origins.push(item.origin)?;
-                }
-            }
-        }
-        Ok(origins)
-    }
+    Ok(left)
 }
 
-/// What is left at the stations of the route, from the last to the first, behind what arrived.
-fn add_left(
-    origins: &mut Vec<Origin>,
+/// Adds what is left at the stations of the route, from the last to the first.
+fn add_along(
+    along: &mut Vec<Mark>,
     routes: &Routes,
     route: u32,
-    left: &[(Station, SerialQueue)],
+    left: &[(Station, Vec<Mark>)],
 ) -> Result<(), Stop> {
     let Some(found) = routes.get(RouteId(route)) else {
         return Err(Stop::Wrong("no such route"));
     };
     for passed in found.stations.iter().rev() {
-        for (station, queue) in left {
+        for (station, marks) in left {
             if station == passed {
-                add_waiting(origins, route, queue)?;
+                add_on(along, route, marks.as_slice())?;
             }
         }
     }
     Ok(())
 }
 
-/// What is left at each station, each in a queue of one thread.
-fn all_left<R: Wait>(
-    rt: &R,
-    alloc: Global,
-    rests: Vec<(Station, Rest)>,
-) -> Result<Vec<(Station, SerialQueue)>, Stop> {
-    let mut left = Vec::with_capacity(alloc, rests.len())?;
-    for (station, rest) in rests {
-        left.push((station, left_of(rt, rest)?))?;
-    }
-    Ok(left)
-}
-
-/// Along each route, what arrived and then what is left is what was put, in order.
-fn is_in_order(
-    rt: &impl Abort,
-    alloc: Global,
-    routes: &Routes,
-    route: u32,
-    taken: &Taken,
-    left: &[(Station, SerialQueue)],
-) -> Result<(), Stop> {
-    let mut along = Vec::new(alloc);
-    add_origins(&mut along, route, taken.arrived(route))?;
-    add_left(&mut along, routes, route, left)?;
-    let put = taken.put_on(alloc, route)?;
-    assert_eq!(rt; along.len(), put.len());
-    for (one, other) in along.iter().zip(put.as_slice()) {
-        assert_eq!(rt; *one, *other, "on route {route}");
-    }
-    Ok(())
-}
-
-/// All items that are left.
-fn count_left(left: &[(Station, SerialQueue)]) -> usize {
-    let mut count: usize = 0;
-    for (_, queue) in left {
-        count = count.saturating_add(queue.len());
-    }
-    count
-}
-
-/// Lets all workers of Relay work, and compares route by route.
+/// Lets all workers of Relay work. Then along each route, what arrived and then what is left is what was put, in order.
 fn relay<R: Threads + Wait + Sync + Abort>(rt: &R, alloc: Global) -> Result<(), Stop> {
     let Left {
         routes,
         tasks,
         rests,
     } = work_at_once(rt, alloc, &Relaying)?;
-    assert!(rt; all_put(tasks.as_slice()));
-    let taken = taken_by_all(alloc, tasks)?;
     let left = all_left(rt, alloc, rests)?;
-    assert_eq!(rt; routes.len(), 5);
-    assert_eq!(rt; taken.environment.len(), WANTED);
-    assert_eq!(rt; count_left(left.as_slice()), 2 * ITEMS as usize - WANTED);
-    for route in 0..5 {
-        is_in_order(rt, alloc, &routes, route, &taken, left.as_slice())?;
+    let first = taken_by(tasks.as_slice(), 0);
+    let second = taken_by(tasks.as_slice(), 1);
+    let environment = taken_by(tasks.as_slice(), 2);
+    assert_eq!(rt; environment.len(), WANTED);
+    let nobody: &[Mark] = &[];
+    let ways = [
+        (0, nobody, first),
+        (1, nobody, first),
+        (2, first, second),
+        (3, first, second),
+        (4, second, environment),
+    ];
+    for (route, sender, receiver) in ways {
+        let mut along = Vec::new(alloc);
+        add_on(&mut along, route, receiver)?;
+        add_along(&mut along, &routes, route, left.as_slice())?;
+        let mut put = Vec::new(alloc);
+        add_put(&mut put, route, sender)?;
+        assert!(rt; along.as_slice() == put.as_slice(), "on route {route}");
     }
     Ok(())
 }
