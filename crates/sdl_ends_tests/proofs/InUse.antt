@@ -1,8 +1,7 @@
 -- The ends of all workers stay in use, and serve the forwarders.
-use Rattle.std.proofs.Common.{◌≡◌, ℕ, zero, suc, List, [], ◌∷◌, Option, Some, None, slice_get, slice_set, refl, ap, sym, ◌∙◌, subst}
+use Rattle.std.proofs.Common.{◌≡◌, ℕ, zero, suc, List, [], ◌∷◌, Some, None, slice_get, slice_set, refl, ap, sym, ◌∙◌, subst}
 use Rattle.std.proofs.lemmas.Option.{none-some, same_Some}
 use Rattle.sdl_parts.specs.Structure.{Structure}
-use Rattle.sdl_routes.specs.declared.route.Hop.{Hop}
 use Rattle.sdl_routes.specs.declared.route.Station.{Station}
 use Rattle.sdl_routes.specs.declared.route.TableRow.{TableRow}
 use Rattle.sdl_ends.specs.Ends.{WorkerEnds, IsSameEnds, AreFresh}

@@ -1,6 +1,6 @@
 use Rattle.std.proofs.Common.{sym, subst, refl}
 use Rattle.sdl_instances.specs.Core.{system_of}
-use Rattle.sdl_instances.specs.CoreOf.{core_of, parts_of, system_in, CanFire}
+use Rattle.sdl_instances.specs.CoreOf.{core_of, system_in, CanFire}
 use Rattle.sdl_hand.specs.Apart.{IsPuttingOut, HasOwnWays}
 use Rattle.sdl_hand.specs.Work.{with_core}
 use Rattle.sdl_transition.specs.Rules.{block_rules}

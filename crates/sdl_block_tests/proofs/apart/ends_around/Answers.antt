@@ -4,7 +4,6 @@ use Rattle.sdl_hand.specs.Apart.{HasOwnWays}
 use Rattle.sdl_opening.specs.declared.worker.Worker.{Worker}
 use Rattle.sdl_opening.specs.declared.worker.Worker.TheVariants.{Block}
 use Rattle.sdl_opening.specs.Workers.{workers_in}
-use Rattle.sdl_opening.specs.Opens.{ends_of}
 use Rattle.sdl_ways.proofs.Serving.{fresh, own_ways}
 use Rattle.sdl_ways.proofs.Standing.{own_ends}
 use Rattle.sdl_block_tests.proofs.apart.ends_around.Goals as goal
