@@ -1,8 +1,11 @@
-//! A block at work: steps of the block P of Ring, and a hand put out over the board of Ring.
+//! A block at work: steps of the block P of Ring, over a board and through its own ends, and a hand put out over the board of
+//! Ring.
 #![tactic(auto)]
 
 #[cfg(test)]
 mod acts;
+#[cfg(test)]
+mod apart;
 #[cfg(test)]
 mod hands;
 #[cfg(test)]

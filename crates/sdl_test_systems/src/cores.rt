@@ -1,5 +1,5 @@
 //! The core of a block that a test drives.
-ghost use Rattle.std.specs.Prelude.{◌≡◌, ◌<◌, ◌∷◌, length, IfOk};
+ghost use Rattle.std.specs.Prelude.{◌≡◌, ◌<◌, [], ◌∷◌, length, IfOk};
 ghost use Rattle.sdl_transition.specs.Bound.{AreOneSystem, IsBound};
 ghost use Rattle.sdl_transition.specs.Rules.{block_rules};
 ghost use Rattle.sdl_instances.specs.Core.{IsBoundIn, IsSound, signals_of, sets_of};
@@ -24,12 +24,12 @@ pub fn first_core<S: Agents + Drop>(
     ensures parts { IfOk result (λ both. CanFire S.may (parts_of both.1)) }
 {
     let (checked, routes, blocks) = bound.into_blocks();
-    let core = first_of(alloc, &checked, &routes, blocks, budget)?;
+    let core = first_core_in(alloc, &checked, &routes, blocks, budget)?;
     Ok((routes, core))
 }
 
-/// The core of the first of the blocks of one system.
-fn first_of<S: Agents + Drop>(
+/// The core of the first of the blocks of one system, with this budget.
+pub fn first_core_in<S: Agents + Drop>(
     alloc: Global,
     checked: &Checked,
     routes: &Routes,
@@ -39,6 +39,7 @@ fn first_of<S: Agents + Drop>(
     requires { AreOneSystem S.may checked.now routes.now blocks.items }
     ensures sound { IfOk result (λ core. (routes : _) → IsSound S.may (system_in core routes) (core_of core)) }
     ensures parts { IfOk result (λ core. CanFire S.may (parts_of core)) }
+    ensures new { IfOk result (λ core. ((core_of core).log ≡ []) × ((core_of core).sets ≡ sets_of checked.now)) }
 {
     let parts = first_parts(checked, routes, blocks)?;
     core_with(alloc, checked, parts, budget)
@@ -81,6 +82,7 @@ fn core_with<S: Agents + Drop>(
     requires parts { CanFire S.may parts }
     ensures sound { IfOk result (λ core. (routes : _) → IsSound S.may (system_in core routes) (core_of core)) }
     ensures parts { IfOk result (λ core. CanFire S.may (parts_of core)) }
+    ensures new { IfOk result (λ core. ((core_of core).log ≡ []) × ((core_of core).sets ≡ sets_of checked.now)) }
 {
     if budget < 1 || budget > 1_000_000 {
         return Err(Stop::Wrong("no such budget"));

@@ -5,6 +5,6 @@ mod cores;
 mod stop;
 mod structures;
 
-pub use cores::first_core;
+pub use cores::{first_core, first_core_in};
 pub use stop::Stop;
 pub use structures::{bind_to, routes_of};
