@@ -1,3 +1,11 @@
-pub mod Beginning
-pub mod Begins
-pub mod Fresh
+pub mod Pairs
+pub mod Comes
+pub mod Places
+pub mod Site
+pub mod Begin
+pub mod Settles
+pub mod Environments
+pub mod Rooms
+pub mod Parts
+pub mod Together
+pub mod Whole

@@ -1,22 +1,22 @@
-//! Whole runs of a system.
+//! Whole runs of a system: in threads, each block and each delaying path in one of its own and the environment on the caller's, or
+//! on one thread.
 #![tactic(auto)]
 
-pub mod balance;
-pub mod blocks;
-pub mod closing;
-pub mod driver;
-pub mod environment;
-pub mod environment_output;
-pub mod laws;
-pub mod ledger;
-pub mod serial;
-pub mod start;
+mod back;
+mod environment_thread;
+mod joining;
+mod rejoining;
+mod room;
+mod settling;
+mod sharing;
+mod threads;
 
-pub use sdl_driver;
-pub use sdl_driver::sdl_ledger::Ledger;
-pub use sdl_driver::sdl_outcome::{EnvOut, RunEnd, Worker};
-pub use sdl_driver::{
-    Closing, StartFault, sdl_behaviour, sdl_instances, sdl_ledger, sdl_log, sdl_outcome, sdl_parts,
-    sdl_routes, sdl_signal, sdl_transition,
+pub use sdl_serial_run;
+pub use sdl_serial_run::{
+    Closing, EnvOut, Ledger, RunEnd, StartFault, Worker, balance, closing, driver, environment,
+    environment_output, laws, ledger, run_keeping, run_serial, sdl_behaviour, sdl_block,
+    sdl_driver, sdl_environment, sdl_instances, sdl_ledger, sdl_log, sdl_order, sdl_outcome,
+    sdl_parts, sdl_routes, sdl_signal, sdl_transition,
 };
-pub use serial::{run_keeping, run_serial};
+pub use sdl_threads::{Gate, OpenGate};
+pub use threads::{run_threads, run_threads_keeping};

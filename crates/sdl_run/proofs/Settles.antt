@@ -1,0 +1,56 @@
+-- What a driver that goes on reads and writes, and the system that it hands back.
+use Rattle.std.proofs.Common.{ℕ, List, Option, map, ◌≡◌, sym, ◌∙◌, subst}
+use Rattle.sdl_signal.specs.declared.values.Item.{Item}
+use Rattle.sdl_routes.specs.declared.route.Station.{Station}
+use Rattle.sdl_routes.specs.Routes.{EachOnce}
+use Rattle.sdl_queue.specs.declared.rest.Rest.{Rest}
+use Rattle.sdl_queue.specs.Rest.{left_in}
+use Rattle.sdl_behaviour.specs.declared.step.Frame.{Frame}
+use Rattle.sdl_behaviour.specs.declared.step.Step.{Step}
+use Rattle.sdl_forward.specs.Boards.{stations_of, lists_of}
+use Rattle.sdl_serial_run.specs.sdl_block.Workers.{worker_of}
+use Rattle.sdl_opening.proofs.Opened.{order_once}
+use Rattle.sdl_transition.specs.declared.binding.Bound.{Bound}
+use Rattle.sdl_serial_run.specs.sdl_outcome.Plan.{Plan, blocks_in}
+use Rattle.sdl_serial_run.specs.sdl_outcome.EnvironmentWork.{HasReadSoFar, HasWrittenSoFar}
+use Rattle.sdl_serial_run.specs.sdl_driver.declared.closing.Closing.{Closing}
+use Rattle.sdl_serial_run.specs.sdl_driver.declared.driver.Driver.{Driver}
+use Rattle.sdl_serial_run.specs.sdl_driver.Closings.{HasReadIn, HasWrittenIn, IsSystemOf}
+use Rattle.sdl_serial_run.specs.sdl_driver.Drivers.{plan_of, IsSameSystem, ReadsOver, WritesOver}
+use Rattle.sdl_serial_run.specs.sdl_driver.Drivers.{IsBetweenSteps}
+use Rattle.sdl_serial_run.specs.sdl_driver.declared.parked.Parked.{Parked}
+use Rattle.sdl_serial_run.specs.sdl_driver.Stopped.{plan_of_parked, IsParked}
+use Rattle.sdl_serial_run.proofs.driving.Drives.{same_plan, map_map}
+
+module _ {S K I : Type 0} {F : I → Type 0} {g : _} (old new : Driver S K I F g) (same : IsSameSystem old new) where
+  pub bound_over : (b : Bound S I F g) → IsSystemOf new b → IsSystemOf old b
+  bound_over b (s, r, bs) = (s ∙ same.checked, r ∙ same.routes, bs ∙ same.behaviours)
+
+  module _ (c : Closing S K I F g) (x y : Option (List ℕ)) where
+    pub reading_over : ReadsOver (plan_of old) old.environment x new.environment y
+        → ((start now : Option (List ℕ)) → HasReadSoFar new.checked new.routes (blocks_in (plan_of new)) start now new.environment → HasReadIn (plan_of new) start now c)
+        → (start : Option (List ℕ)) → HasReadSoFar old.checked old.routes (blocks_in (plan_of old)) start x old.environment → HasReadIn (plan_of old) start y c
+    reading_over over ends start h =
+        subst (λ (p : Plan). HasReadIn p start y c) (same_plan old new same)
+        (ends start y (subst (λ (p : Plan). HasReadSoFar p.structure p.routes (blocks_in p) start y new.environment) (sym (same_plan old new same)) (over start h)))
+
+    pub writing_over : WritesOver (plan_of old) old.environment x new.environment y
+        → ((start now : Option (List ℕ)) → HasWrittenSoFar new.checked new.routes (blocks_in (plan_of new)) start now new.environment → HasWrittenIn (plan_of new) start now c)
+        → (start : Option (List ℕ)) → HasWrittenSoFar old.checked old.routes (blocks_in (plan_of old)) start x old.environment → HasWrittenIn (plan_of old) start y c
+    writing_over over ends start h =
+        subst (λ (p : Plan). HasWrittenIn p start y c) (same_plan old new same)
+        (ends start y (subst (λ (p : Plan). HasWrittenSoFar p.structure p.routes (blocks_in p) start y new.environment) (sym (same_plan old new same)) (over start h)))
+
+module _ {S K I : Type 0} {F : I → Type 0} {g : _} (may : ℕ → Frame → Step → Type 0) (p : Parked S K I F g) (parked : IsParked may p) where
+  -- there is one queue left for each station
+  pub left_once : EachOnce (stations_of p.rests.items)
+  left_once =
+      subst EachOnce (map_map (λ (e : Station × List Item). e.0) (λ (r : Station × Rest). (r.0, left_in r.1)) p.rests.items)
+      (order_once (stations_of (lists_of p.rests.items)) parked.work.board.order)
+
+  -- the workers stand the same where what is left is on a board
+  pub on_board : (board : List (Station × List Item)) → board ≡ lists_of p.rests.items
+      → IsBetweenSteps may (plan_of_parked p) (record { blocks = map worker_of p.blocks.items; environment = p.environment; forwarders = p.forwarders.items; board = board }) p.blocks.items
+  on_board board e =
+      subst (λ (b : List (Station × List Item)). IsBetweenSteps may (plan_of_parked p) (record { blocks = map worker_of p.blocks.items; environment = p.environment; forwarders = p.forwarders.items; board = b }) p.blocks.items)
+      (sym e) parked

@@ -1,0 +1,32 @@
+use Rattle.std.proofs.Common.{sym, subst, MatchOption, ◌<◌, length}
+use Rattle.sdl_serial_run.specs.sdl_outcome.Plan.{Plan, workers_of}
+use Rattle.sdl_serial_run.specs.sdl_order.Driver.{IsIdle}
+use Rattle.sdl_serial_run.proofs.driving.Drives.{same_plan}
+use Rattle.sdl_serial_run.specs.sdl_driver.Closings.{outcome_in}
+use Rattle.sdl_serial_run.specs.sdl_driver.Drivers.{site_of}
+use Rattle.sdl_serial_run.proofs.Fresh.{system_same, room_same, ended_same}
+use Rattle.sdl_run.proofs.Settles.{reading_over, writing_over, bound_over}
+use Rattle.sdl_run.proofs.settling.drive_on.Goals as goal
+
+pub close-requires-clause-system : goal.close-requires-clause-system
+close-requires-clause-system g c = system_same g.S.Agents.may c.args.driver c.run-refused.new.self c.run-refused.ensures.same c.requires.system
+
+pub close-requires-clause-room : goal.close-requires-clause-room
+close-requires-clause-room g c = room_same g.S.Agents.may c.args.driver c.run-refused.new.self c.args.room c.run-refused.ensures.same c.requires.driving c.run-refused.ensures.driving c.requires.room
+
+pub close-requires-clause-refused : goal.close-requires-clause-refused
+close-requires-clause-refused g c =
+    subst (λ (p : Plan). MatchOption c.run-refused.result (IsIdle (site_of c.run-refused.new.self)) (λ w. w < length (workers_of p)))
+    (sym (same_plan c.args.driver c.run-refused.new.self c.run-refused.ensures.same)) c.run-refused.ensures.answer
+
+pub returns-clause-ended : goal.returns-clause-ended
+returns-clause-ended g c = ended_same g.S.Agents.may c.args.driver c.run-refused.new.self (outcome_in g.K.Keeps.events c.close.result) c.close.result.end c.close.result.ledger c.run-refused.ensures.same c.close.ensures.ended
+
+pub returns-clause-reading : goal.returns-clause-reading
+returns-clause-reading g c = reading_over c.args.driver c.run-refused.new.self c.run-refused.ensures.same c.close.result _ _ c.run-refused.ensures.reading c.close.ensures.reading
+
+pub returns-clause-writing : goal.returns-clause-writing
+returns-clause-writing g c = writing_over c.args.driver c.run-refused.new.self c.run-refused.ensures.same c.close.result _ _ c.run-refused.ensures.writing c.close.ensures.writing
+
+pub returns-clause-bound : goal.returns-clause-bound
+returns-clause-bound g c = bound_over c.args.driver c.run-refused.new.self c.run-refused.ensures.same c.close.result.bound c.close.ensures.bound

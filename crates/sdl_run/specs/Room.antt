@@ -1,0 +1,52 @@
+-- What stands before the blocks of a run in threads start.
+use Rattle.std.specs.Prelude.{◌≡◌, ℕ, ◌+◌, ◌≤◌, List, [], map, length, vec_len, vec_capacity}
+use Rattle.sdl_parts.specs.Structure.{Structure}
+use Rattle.sdl_routes.specs.declared.route.TableRow.{TableRow}
+use Rattle.sdl_opening.specs.Opens.{AreOpen}
+use Rattle.sdl_serial_run.specs.sdl_outcome.Plan.{lines_from}
+use Rattle.sdl_serial_run.specs.Starting.{idle_at}
+use Rattle.sdl_serial_run.specs.sdl_block.Workers.{behaviours_of}
+use Rattle.sdl_serial_run.specs.sdl_driver.Closings.{HasRoom}
+use Rattle.sdl_serial_run.specs.sdl_driver.declared.parked.Parked.{Parked}
+use Rattle.sdl_run.specs.declared.joining.Starting.{Starting}
+use Rattle.sdl_run.specs.declared.room.ApartRoom.{ApartRoom}
+use Rattle.sdl_run.specs.declared.room.Opened.{Opened}
+use Rattle.sdl_run.specs.declared.room.ThreadRoom.{ThreadRoom}
+
+-- there is room for so many blocks and forwarders, and the environment, as they are taken apart
+pub record HasApartRoom {S K I : Type 0} {F : I → Type 0} {g : _} (blocks forwarders : ℕ) (r : ApartRoom S K I F g) : Type 0 where
+  pub block_threads_empty : r.block_threads.items ≡ []
+  pub block_threads : vec_len r.block_threads + blocks ≤ vec_capacity r.block_threads
+  pub forwarder_threads_empty : r.forwarder_threads.items ≡ []
+  pub forwarder_threads : vec_len r.forwarder_threads + forwarders ≤ vec_capacity r.forwarder_threads
+  pub blocks_empty : r.blocks.items ≡ []
+  pub blocks_room : vec_len r.blocks + blocks ≤ vec_capacity r.blocks
+  pub forwarders_empty : r.forwarders.items ≡ []
+  pub forwarders_room : vec_len r.forwarders + forwarders ≤ vec_capacity r.forwarders
+  pub ends_empty : r.ends.items ≡ []
+  pub ends : vec_len r.ends + (blocks + (forwarders + 1)) ≤ vec_capacity r.ends
+
+-- all ends are open, and there is room for all workers
+pub record IsOpened {S K I : Type 0} {F : I → Type 0} {g : _} (s : Structure) (routes : List TableRow) (o : Opened S K I F g) : Type 0 where
+  pub forwarders : o.forwarders.items ≡ map idle_at (lines_from 0 s.channels)
+  pub opening : AreOpen s routes o.ends.items o.shelf
+  pub workers_empty : o.workers.items ≡ []
+  pub workers : vec_len o.workers + (length s.blocks + length o.forwarders.items) ≤ vec_capacity o.workers
+  pub done_empty : o.done.items ≡ []
+  pub done : length s.blocks + length o.forwarders.items ≤ vec_capacity o.done
+  pub room : HasApartRoom (length s.blocks) (length o.forwarders.items) o.room
+
+-- there is all that a run in threads needs beside its blocks
+pub record IsThreadRoom {S K I : Type 0} {F : I → Type 0} {g : _} (s : Structure) (routes : List TableRow) (r : ThreadRoom S K I F g) : Type 0 where
+  pub opened : IsOpened s routes r.opened
+  pub room : HasRoom (length s.blocks) (length s.blocks + (length r.opened.forwarders.items + 1)) r.room
+  pub room_empty : (r.room.parts.items ≡ []) × (r.room.logs.items ≡ []) × (r.room.hands.items ≡ [])
+  pub started_empty : r.started.items ≡ []
+  pub started : vec_len r.started + length s.blocks ≤ vec_capacity r.started
+
+-- it is the system that was started, which has stopped
+pub record IsParkedOf {S K I : Type 0} {F : I → Type 0} {g : _} (system : Starting S K I F g) (p : Parked S K I F g) : Type 0 where
+  pub checked : p.checked ≡ system.checked
+  pub routes : p.routes ≡ system.routes
+  pub budget : p.budget ≡ system.budget
+  pub behaviours : map behaviours_of p.blocks.items ≡ map behaviours_of system.blocks.items

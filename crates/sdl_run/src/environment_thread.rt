@@ -1,0 +1,63 @@
+//! The environment at work on the thread that starts the others.
+ghost use Rattle.std.specs.Prelude.{◌≡◌};
+
+use sdl_ends::Ends;
+use sdl_hand::Stepped;
+use sdl_parts::Structure;
+use sdl_routes::Routes;
+use sdl_serial_run::sdl_environment::EnvApart;
+use sdl_threads::Work;
+use std::io::{Read, Write};
+use std::snapshot::Snapshot;
+use std::sync::Wait;
+
+/// The environment with its ends, what it reads from, and what it writes to.
+#[derive(Drop)]
+pub struct EnvironmentThread<'i, 'o, I, O> {
+    pub environment: EnvApart,
+    pub ends: Ends,
+    pub input: &'i mut I,
+    pub output: &'o mut O,
+    /// The input as it was when the run started, for contracts alone.
+    pub started_input: Snapshot<I>,
+    /// The output as it was when the run started, for contracts alone.
+    pub started_output: Snapshot<O>,
+}
+
+impl<'i, 'o, I: Read, O: Write> Work for EnvironmentThread<'i, 'o, I, O> {
+    ghost use Rattle.std.specs.Prelude.{◌≡◌, refl};
+    ghost use Rattle.std.proofs.Common.{◌∙◌};
+    ghost use Rattle.sdl_run.specs.Environment.{KeepsEnvironment};
+    ghost use Rattle.sdl_ends.specs.Ends.{IsSameEnds};
+
+    ghost keeps = { λ s rows w. KeepsEnvironment s rows w.environment.worker w.environment.astray w.ends (I.remaining w.started_input.value) (I.remaining w.input.now) (O.contents w.started_output.value) (O.contents w.output.now) };
+
+    // the references are the ones given, and the ends are the same
+    ghost same = { λ u v. (v.input.ghost_name ≡ u.input.ghost_name) × (v.output.ghost_name ≡ u.output.ghost_name) × (v.started_input ≡ u.started_input) × (v.started_output ≡ u.started_output) × IsSameEnds u.ends v.ends };
+
+    ghost itself = { λ w. (refl, refl, refl, refl, record { feeds = refl; tap = refl }) };
+
+    ghost and_then = { λ u v w p q. (q.0 ∙ p.0, q.1 ∙ p.1, q.2 ∙ p.2, q.3 ∙ p.3, record { feeds = q.4.feeds ∙ p.4.feeds; tap = q.4.tap ∙ p.4.tap }) };
+
+    fn step<R: Wait>(
+        &mut self,
+        rt: &R,
+        structure: &Structure,
+        routes: &Routes,
+        pick: u32,
+    ) -> Stepped {
+        self.environment.step(
+            rt,
+            structure,
+            routes,
+            &mut self.ends,
+            pick,
+            self.input,
+            self.output,
+        )
+    }
+
+    fn is_spent(&self) -> bool {
+        false
+    }
+}

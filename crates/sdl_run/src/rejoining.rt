@@ -1,0 +1,63 @@
+//! The workers that came back are taken apart, and the queues put together again.
+ghost use Rattle.std.specs.Prelude.{◌≡◌, ◌+◌, ◌≤◌, length, map};
+ghost use Rattle.std.specs.List.{AllByRecursion};
+ghost use Rattle.sdl_routes.specs.Routes.{EachOnce};
+ghost use Rattle.sdl_ends.specs.Ends.{column, AreAllEndsOf, AreRejoined};
+ghost use Rattle.sdl_run.specs.Coming.{blocks_back, forwarders_back, ends_back};
+ghost use Rattle.sdl_run.specs.Room.{HasApartRoom};
+
+use crate::back::{part, take_blocks, take_forwarders};
+use crate::room::ApartRoom;
+use sdl_ends::{Ends, Shelf, ends_rejoin};
+use sdl_forward::Forwarder;
+use sdl_log::{Event, Keeps};
+use sdl_queue::Rest;
+use sdl_routes::Station;
+use sdl_serial_run::blocks::put_last;
+use sdl_serial_run::sdl_block::BlockWorker;
+use sdl_threads::{AtWork, Returned};
+use sdl_transition::Agents;
+use std::sync::Wait;
+
+/// The blocks and forwarders that came back, and what is left at each station.
+#[derive(Drop)]
+pub struct Joined<S, K: Keeps = Vec<Event>> {
+    pub blocks: Vec<BlockWorker<S, K>>,
+    pub forwarders: Vec<Forwarder>,
+    pub rests: Vec<(Station, Rest)>,
+}
+
+/// Takes the workers that came back apart, and puts the queues together again.
+pub fn join_ends<S: Agents, K: Keeps, T: Wait>(
+    rt: &T,
+    room: ApartRoom<S, K>,
+    done: Vec<Returned<AtWork<S, K>>>,
+    own: Ends,
+    shelf: Shelf,
+) -> Joined<S, K>
+    requires room { HasApartRoom (length (blocks_back done.items)) (length (forwarders_back done.items)) room }
+    requires once { EachOnce (map (λ x. x.0) shelf) }
+    requires all { AreAllEndsOf (map (λ x. x.0) shelf) (ends_back own done.items) }
+    requires enough { AllByRecursion (λ x. length (column x.0 (ends_back own done.items)) ≤ x.1) shelf }
+    ensures blocks { result.blocks.items ≡ map (λ t. t.block) (blocks_back done.items) }
+    ensures forwarders { result.forwarders.items ≡ map (λ t. t.forwarder) (forwarders_back done.items) }
+    ensures rests { AreRejoined (ends_back own done.items) (map (λ x. x.0) shelf) result.rests.items }
+{
+    let ApartRoom {
+        mut block_threads,
+        mut forwarder_threads,
+        mut blocks,
+        mut forwarders,
+        mut ends,
+    } = room;
+    part(&mut block_threads, &mut forwarder_threads, done);
+    take_blocks(&mut blocks, &mut ends, block_threads);
+    put_last(&mut ends, own);
+    take_forwarders(&mut forwarders, &mut ends, forwarder_threads);
+    let rests = ends_rejoin(rt, ends, shelf);
+    Joined {
+        blocks,
+        forwarders,
+        rests,
+    }
+}

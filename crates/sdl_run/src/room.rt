@@ -1,0 +1,138 @@
+//! What a run in threads takes before its blocks start.
+ghost use Rattle.std.specs.Prelude.{◌≡◌, ◌<◌, ◌≤◌, ◌^◌, [], length, IfOk};
+ghost use Rattle.sdl_serial_run.specs.sdl_driver.Closings.{HasRoom};
+ghost use Rattle.sdl_routes.specs.Routes.{AreRoutesOf};
+ghost use Rattle.sdl_run.specs.Room.{HasApartRoom, IsOpened, IsThreadRoom};
+
+use sdl_ends::{Ends, Shelf};
+use sdl_forward::Forwarder;
+use sdl_log::{Event, Keeps};
+use sdl_opening::ends_open;
+use sdl_parts::Checked;
+use sdl_routes::Routes;
+use sdl_serial_run::sdl_block::BlockWorker;
+use sdl_serial_run::sdl_driver::closing::Room;
+use sdl_serial_run::start::forwarders_of;
+use sdl_threads::{AtWork, BlockThread, ForwarderThread, Returned};
+use sdl_transition::Agents;
+use std::alloc::{AllocError, Global};
+use std::sync::Wait;
+
+/// The forwarders, all ends, and lists with room for all that is to come into them.
+#[derive(Drop)]
+pub struct Opened<S, K: Keeps = Vec<Event>> {
+    /// A forwarder for each delaying path that carries a signal.
+    pub forwarders: Vec<Forwarder>,
+    /// The ends of all workers, by number.
+    pub ends: Vec<Ends>,
+    /// Room for the queues once all ends come back.
+    pub shelf: Shelf,
+    /// Room for the workers of the threads.
+    pub workers: Vec<AtWork<S, K>>,
+    /// Room for them as they come back.
+    pub done: Vec<Returned<AtWork<S, K>>>,
+    /// Room for them as they are taken apart.
+    pub room: ApartRoom<S, K>,
+}
+
+/// Room for workers as they are taken apart.
+#[derive(Drop)]
+pub struct ApartRoom<S, K: Keeps = Vec<Event>> {
+    pub block_threads: Vec<BlockThread<S, K>>,
+    pub forwarder_threads: Vec<ForwarderThread>,
+    pub blocks: Vec<BlockWorker<S, K>>,
+    pub forwarders: Vec<Forwarder>,
+    pub ends: Vec<Ends>,
+}
+
+/// What a run in threads takes before its blocks start.
+#[derive(Drop)]
+pub struct ThreadRoom<S, K: Keeps = Vec<Event>> {
+    pub opened: Opened<S, K>,
+    /// Room for the closing.
+    pub room: Room<S, K>,
+    /// Room for the blocks as they start.
+    pub started: Vec<BlockWorker<S, K>>,
+}
+
+/// Room for so many blocks and forwarders, and the environment, as they are taken apart.
+fn make_apart_room<S: Agents, K: Keeps>(
+    alloc: Global,
+    blocks: usize,
+    forwarders: usize,
+) -> Result<ApartRoom<S, K>, AllocError>
+    requires blocks { blocks ≤ 16 }
+    requires forwarders { forwarders < 2 ^ 63 }
+    ensures { IfOk result (HasApartRoom blocks forwarders) }
+{
+    Ok(ApartRoom {
+        block_threads: Vec::with_capacity(alloc, blocks)?,
+        forwarder_threads: Vec::with_capacity(alloc, forwarders)?,
+        blocks: Vec::with_capacity(alloc, blocks)?,
+        forwarders: Vec::with_capacity(alloc, forwarders)?,
+        ends: Vec::with_capacity(alloc, blocks + forwarders + 1)?,
+    })
+}
+
+/// Empty lists, with room for what so many blocks and so many workers leave.
+fn make_closing_room<S: Agents, K: Keeps>(
+    alloc: Global,
+    blocks: usize,
+    workers: usize,
+) -> Result<Room<S, K>, AllocError>
+    ensures empty { IfOk result (λ r. (r.parts.items ≡ []) × (r.logs.items ≡ []) × (r.hands.items ≡ [])) }
+    ensures room { IfOk result (λ r. HasRoom blocks workers r) }
+{
+    let parts = Vec::with_capacity(alloc, blocks)?;
+    let logs = Vec::with_capacity(alloc, blocks)?;
+    let hands = Vec::with_capacity(alloc, workers)?;
+    Ok(Room { parts, logs, hands })
+}
+
+/// Opens the ends of all workers, and takes the room for so many blocks, the forwarders and the environment.
+fn open_all<S: Agents, K: Keeps, T: Wait>(
+    rt: &T,
+    alloc: Global,
+    checked: &Checked,
+    routes: &Routes,
+    blocks: usize,
+) -> Result<Opened<S, K>, AllocError>
+    requires routes { AreRoutesOf checked.now routes.now }
+    requires blocks { blocks ≡ length checked.now.blocks }
+    ensures { IfOk result (IsOpened checked.now routes.now) }
+{
+    let forwarders = forwarders_of(alloc, checked.structure().channels())?;
+    let (ends, shelf) = ends_open(rt, alloc, checked, routes)?;
+    let lines = forwarders.len();
+    let room = make_apart_room(alloc, blocks, lines)?;
+    Ok(Opened {
+        forwarders,
+        ends,
+        shelf,
+        workers: Vec::with_capacity(alloc, blocks + lines)?,
+        done: Vec::with_capacity(alloc, blocks + lines)?,
+        room,
+    })
+}
+
+/// Takes what a run in threads of so many blocks needs, before any block starts.
+pub fn make_thread_room<S: Agents, K: Keeps, T: Wait>(
+    rt: &T,
+    alloc: Global,
+    checked: &Checked,
+    routes: &Routes,
+    blocks: usize,
+) -> Result<ThreadRoom<S, K>, AllocError>
+    requires routes { AreRoutesOf checked.now routes.now }
+    requires blocks { blocks ≡ length checked.now.blocks }
+    ensures { IfOk result (IsThreadRoom checked.now routes.now) }
+{
+    let opened = open_all(rt, alloc, checked, routes, blocks)?;
+    let room = make_closing_room(alloc, blocks, blocks + 1 + opened.forwarders.len())?;
+    let started = Vec::with_capacity(alloc, blocks)?;
+    Ok(ThreadRoom {
+        opened,
+        room,
+        started,
+    })
+}

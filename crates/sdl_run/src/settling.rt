@@ -1,0 +1,126 @@
+//! What joined workers leave is settled on one thread, and the run is closed.
+ghost use Rattle.std.specs.Prelude.{◌≡◌, ℕ, List, Option, ◌+◌, ◌<◌, [], length, map, MatchOption, ⊤};
+ghost use Rattle.sdl_transition.specs.Bound.{AreOneSystem};
+ghost use Rattle.sdl_serial_run.specs.sdl_block.Workers.{behaviours_of};
+ghost use Rattle.sdl_serial_run.specs.sdl_outcome.Plan.{blocks_in, workers_of};
+ghost use Rattle.sdl_serial_run.specs.sdl_outcome.EnvironmentWork.{HasReadSoFar, HasWrittenSoFar};
+ghost use Rattle.sdl_serial_run.specs.sdl_driver.Closings.{HasRoom, HasReadIn, HasWrittenIn, StopsByMemory, IsSystemOf, outcome_in};
+ghost use Rattle.sdl_serial_run.specs.sdl_driver.Drivers.{plan_of, IsDriving};
+ghost use Rattle.sdl_serial_run.specs.sdl_driver.Ended.{HasEnded};
+ghost use Rattle.sdl_serial_run.specs.sdl_driver.Stopped.{plan_of_parked, IsParked, IsSystemOfParked};
+
+use sdl_forward::{Board, Forwarder};
+use sdl_log::Keeps;
+use sdl_routes::Station;
+use sdl_serial_run::sdl_driver::closing::{Closing, Room};
+use sdl_serial_run::sdl_driver::{Driver, Parked};
+use sdl_transition::Agents;
+use std::io::{Read, Write};
+use std::sync::Wait;
+
+/// The number of the worker that takes from the station: a block, the environment behind the blocks, or a forwarder behind it.
+fn number_of_taker(station: Station, blocks: u32, forwarders: &[Forwarder]) -> u32
+    requires few { length forwarders.now < 1000 }
+    requires blocks { blocks < 1000 }
+    ensures { result < blocks + (length forwarders.now + 1) }
+{
+    match station {
+        Station::Inlet(block) => block.0.min(blocks),
+        Station::Outlet => blocks,
+        Station::Line(hop) => {
+            for (place, forwarder) in forwarders.iter().enumerate() {
+                if forwarder.hop() == hop {
+                    return blocks + 1 + place as u32;
+                }
+            }
+            blocks
+        }
+    }
+}
+
+/// Lets the workers take turns on this thread until nothing is left to do, and takes them apart.
+fn drive_on<S: Agents, K: Keeps, R: Read, W: Write>(
+    driver: Driver<S, K>,
+    room: Room<S, K>,
+    input: &mut R,
+    output: &mut W,
+) -> Closing<S, K>
+    requires driving { IsDriving S.may driver }
+    requires system { AreOneSystem S.may driver.checked driver.routes (map behaviours_of driver.blocks.items) }
+    requires room { HasRoom (length driver.blocks.items) (length driver.blocks.items + (length driver.forwarders.items + 1)) room }
+    requires empty { (room.parts.items ≡ []) × (room.logs.items ≡ []) × (room.hands.items ≡ []) }
+    ensures ended { HasEnded S.may (plan_of driver) (outcome_in K.events result) result.end result.ledger }
+    ensures reading { (start : Option (List ℕ)) → HasReadSoFar driver.checked driver.routes (blocks_in (plan_of driver)) start (R.remaining input.old) driver.environment
+        → HasReadIn (plan_of driver) start (R.remaining input.new) result }
+    ensures writing { (start : Option (List ℕ)) → HasWrittenSoFar driver.checked driver.routes (blocks_in (plan_of driver)) start (W.contents output.old) driver.environment
+        → HasWrittenIn (plan_of driver) start (W.contents output.new) result }
+    ensures stopped { StopsByMemory result.input result.end }
+    ensures bound { IsSystemOf driver result.bound }
+{
+    let mut driver = driver;
+    let refused = driver.run(&[], input, output);
+    driver.close(room, refused)
+}
+
+/// Settles what the workers leave where none was refused memory, and closes the run. The worker named is the one that was refused.
+pub fn settle<S: Agents, K: Keeps, T: Wait, R: Read, W: Write>(
+    rt: &T,
+    parked: Parked<S, K>,
+    room: Room<S, K>,
+    refused: Option<u32>,
+    input: &mut R,
+    output: &mut W,
+) -> Closing<S, K>
+    requires parked { IsParked S.may parked }
+    requires system { AreOneSystem S.may parked.checked parked.routes (map behaviours_of parked.blocks.items) }
+    requires room { HasRoom (length parked.blocks.items) (length parked.blocks.items + (length parked.forwarders.items + 1)) room }
+    requires empty { (room.parts.items ≡ []) × (room.logs.items ≡ []) × (room.hands.items ≡ []) }
+    requires refused { MatchOption refused ⊤ (λ w. w < length (workers_of (plan_of_parked parked))) }
+    ensures ended { HasEnded S.may (plan_of_parked parked) (outcome_in K.events result) result.end result.ledger }
+    ensures reading { (start : Option (List ℕ)) → HasReadSoFar parked.checked parked.routes (blocks_in (plan_of_parked parked)) start (R.remaining input.old) parked.environment
+        → HasReadIn (plan_of_parked parked) start (R.remaining input.new) result }
+    ensures writing { (start : Option (List ℕ)) → HasWrittenSoFar parked.checked parked.routes (blocks_in (plan_of_parked parked)) start (W.contents output.old) parked.environment
+        → HasWrittenIn (plan_of_parked parked) start (W.contents output.new) result }
+    ensures stopped { StopsByMemory result.input result.end }
+    ensures bound { IsSystemOfParked parked result.bound }
+{
+    if let Some(worker) = refused {
+        return parked.close(room, Some(worker));
+    }
+    let Parked {
+        checked,
+        routes,
+        blocks,
+        environment,
+        forwarders,
+        rests,
+        budget,
+    } = parked;
+    match Board::adopt(rt, rests) {
+        Ok(board) => {
+            let driver = Driver {
+                checked,
+                routes,
+                blocks,
+                environment,
+                forwarders,
+                board,
+                budget,
+            };
+            drive_on(driver, room, input, output)
+        }
+        Err((rests, station)) => {
+            let worker = number_of_taker(station, blocks.len() as u32, forwarders.as_slice());
+            let parked = Parked {
+                checked,
+                routes,
+                blocks,
+                environment,
+                forwarders,
+                rests,
+                budget,
+            };
+            parked.close(room, Some(worker))
+        }
+    }
+}

@@ -1,0 +1,166 @@
+//! A whole run in threads.
+ghost use Rattle.std.specs.Prelude.{◌≡◌, ◌≤◌, length, IfOk, IfErr};
+ghost use Rattle.sdl_transition.specs.Bound.{AreOneSystem, IsBound};
+ghost use Rattle.sdl_serial_run.specs.sdl_driver.Closings.{HasReadIn, HasWrittenIn, StopsByMemory, IsSameBound, outcome_in, plan_of_bound};
+ghost use Rattle.sdl_serial_run.specs.sdl_driver.Ended.{HasEnded};
+ghost use Rattle.sdl_serial_run.specs.sdl_outcome.Lists.{items_in};
+ghost use Rattle.sdl_serial_run.specs.Serial.{IsBoundOf, IsBackIn, plan_of_parts};
+ghost use Rattle.sdl_run.specs.Room.{IsThreadRoom};
+
+use crate::joining::{Starting, run_apart};
+use crate::room::{ThreadRoom, make_thread_room};
+use crate::settling::settle;
+use sdl_instances::bounds::parts_are_bound;
+use sdl_log::Keeps;
+use sdl_parts::Checked;
+use sdl_routes::Routes;
+use sdl_serial_run::blocks::{gather, start_blocks};
+use sdl_serial_run::sdl_driver::closing::{Closing, StartFault};
+use sdl_serial_run::sdl_environment::EnvWorker;
+use sdl_threads::Gate;
+use sdl_transition::{Agents, BlockParts, Bound};
+use std::alloc::Global;
+use std::io::{Read, Write};
+use std::sync::Wait;
+use std::thread::Threads;
+
+/// A bound system, taken apart.
+#[derive(Drop)]
+struct System<S> {
+    checked: Checked,
+    routes: Routes,
+    blocks: Vec<BlockParts<S>>,
+    budget: u32,
+}
+
+/// Runs the blocks in threads, where they all start, and settles what they leave.
+fn run_in<S: Agents + Send, K: Keeps + Send, G: Gate, T: Threads + Wait + Sync, R: Read, W: Write>(
+    rt: &T,
+    alloc: Global,
+    system: System<S>,
+    thread_room: ThreadRoom<S, K>,
+    gate: &G,
+    input: &mut R,
+    output: &mut W,
+) -> Result<Closing<S, K>, Bound<S>>
+    requires budget { (1 ≤ system.budget) × (system.budget ≤ 1000000) }
+    requires system { AreOneSystem S.may system.checked system.routes system.blocks.items }
+    requires room { IsThreadRoom system.checked system.routes thread_room }
+    ensures ended { IfOk result (λ c. HasEnded S.may (plan_of_parts system.checked system.routes system.blocks.items system.budget) (outcome_in K.events c) c.end c.ledger) }
+    ensures reading { IfOk result (λ c. HasReadIn (plan_of_parts system.checked system.routes system.blocks.items system.budget) (R.remaining input.old) (R.remaining input.new) c) }
+    ensures writing { IfOk result (λ c. HasWrittenIn (plan_of_parts system.checked system.routes system.blocks.items system.budget) (W.contents output.old) (W.contents output.new) c) }
+    ensures stopped { IfOk result (λ c. StopsByMemory c.input c.end) }
+    ensures bound { IfOk result (λ c. IsBoundOf system.checked system.routes system.blocks.items c.bound) }
+    ensures back { IfErr result (λ b. IsBoundOf system.checked system.routes system.blocks.items b × IsBound S.may b) }
+    ensures untouched { IfErr result (λ b. (input.new ≡ input.old) × (output.new ≡ output.old)) }
+{
+    let System {
+        checked,
+        routes,
+        blocks,
+        budget,
+    } = system;
+    checked.structure();
+    parts_are_bound(&checked, &routes, blocks.as_slice());
+    routes.len();
+    let ThreadRoom {
+        opened,
+        room,
+        started,
+    } = thread_room;
+    let environment = EnvWorker::new(alloc, blocks.len() as u32);
+    match start_blocks(alloc, &checked, budget, blocks, started) {
+        Ok(blocks) => {
+            let starting = Starting {
+                checked,
+                routes,
+                blocks,
+                environment,
+                budget,
+            };
+            let (parked, refused) = run_apart(rt, starting, opened, gate, input, output);
+            Ok(settle(rt, parked, room, refused, input, output))
+        }
+        Err((workers, refused, rest)) => {
+            let parts = gather(room.parts, workers, refused, rest);
+            Err(Bound::of_blocks(checked, routes, parts))
+        }
+    }
+}
+
+/// Runs a system as `run_threads` does, and keeps the log of each block as the type of the logs says: whole, or counted alone.
+pub fn run_threads_keeping<
+    S: Agents + Send,
+    K: Keeps + Send,
+    G: Gate,
+    T: Threads + Wait + Sync,
+    R: Read,
+    W: Write,
+>(
+    rt: &T,
+    alloc: Global,
+    bound: Bound<S>,
+    budget: u32,
+    gate: &G,
+    input: &mut R,
+    output: &mut W,
+) -> Result<Closing<S, K>, StartFault<S>>
+    requires bound { IsBound S.may bound }
+    requires budget { (1 ≤ budget) × (budget ≤ 1000000) }
+    ensures ended { IfOk result (λ c. HasEnded S.may (plan_of_bound bound budget) (outcome_in K.events c) c.end c.ledger) }
+    // What was read of the input, with what became of each line, and how the reading ended.
+    ensures reading { IfOk result (λ c. HasReadIn (plan_of_bound bound budget) (R.remaining input.old) (R.remaining input.new) c) }
+    // What was written to the output.
+    ensures writing { IfOk result (λ c. HasWrittenIn (plan_of_bound bound budget) (W.contents output.old) (W.contents output.new) c) }
+    ensures stopped { IfOk result (λ c. StopsByMemory c.input c.end) }
+    ensures bound { IfOk result (λ c. IsSameBound bound c.bound) }
+    ensures back { IfErr result (λ f. IsBackIn S.may bound f) }
+    ensures untouched { IfErr result (λ f. (input.new ≡ input.old) × (output.new ≡ output.old)) }
+{
+    let (checked, routes, blocks) = bound.into_blocks();
+    match make_thread_room(rt, alloc, &checked, &routes, blocks.len()) {
+        Ok(thread_room) => {
+            let system = System {
+                checked,
+                routes,
+                blocks,
+                budget,
+            };
+            match run_in(rt, alloc, system, thread_room, gate, input, output) {
+                Ok(closing) => Ok(closing),
+                Err(bound) => Err(StartFault::Memory(bound)),
+            }
+        }
+        Err(_) => Err(StartFault::Memory(Bound::of_blocks(checked, routes, blocks))),
+    }
+}
+
+/// Runs a system in threads until it ends: each block and each forwarder in a thread of its own, the environment on this one,
+/// which reads the environment's signals as lines of the input, and writes what the environment receives as lines of the output.
+/// All are told to stop once the input has ended and none has anything to do, or a budget is used, or memory is refused; what is
+/// left is then settled on this thread. `budget` is the number of turns that each block may have. `gate` is called before each
+/// step of each worker. Where memory is refused before the first step, the system is handed back; where it is refused to a worker,
+/// or a worker's thread could not start, the run ends with `Memory` and that worker. May wait for other threads.
+pub fn run_threads<S: Agents + Send, G: Gate, T: Threads + Wait + Sync, R: Read, W: Write>(
+    rt: &T,
+    alloc: Global,
+    bound: Bound<S>,
+    budget: u32,
+    gate: &G,
+    input: &mut R,
+    output: &mut W,
+) -> Result<Closing<S>, StartFault<S>>
+    requires bound { IsBound S.may bound }
+    requires budget { (1 ≤ budget) × (budget ≤ 1000000) }
+    ensures ended { IfOk result (λ c. HasEnded S.may (plan_of_bound bound budget) (outcome_in items_in c) c.end c.ledger) }
+    // What was read of the input, with what became of each line, and how the reading ended.
+    ensures reading { IfOk result (λ c. HasReadIn (plan_of_bound bound budget) (R.remaining input.old) (R.remaining input.new) c) }
+    // What was written to the output.
+    ensures writing { IfOk result (λ c. HasWrittenIn (plan_of_bound bound budget) (W.contents output.old) (W.contents output.new) c) }
+    ensures stopped { IfOk result (λ c. StopsByMemory c.input c.end) }
+    ensures bound { IfOk result (λ c. IsSameBound bound c.bound) }
+    ensures back { IfErr result (λ f. IsBackIn S.may bound f) }
+    ensures untouched { IfErr result (λ f. (input.new ≡ input.old) × (output.new ≡ output.old)) }
+{
+    run_threads_keeping(rt, alloc, bound, budget, gate, input, output)
+}

@@ -1,0 +1,62 @@
+-- What stands before the first step of a run, and what comes back where it did not start.
+use Rattle.std.specs.Prelude.{◌≡◌, ℕ, ◌+◌, ◌≤◌, List, [], map, length, vec_len, vec_capacity}
+use Rattle.sdl_driver.specs.sdl_parts.Structure.{Structure}
+use Rattle.sdl_driver.specs.sdl_routes.declared.route.TableRow.{TableRow}
+use Rattle.sdl_driver.specs.sdl_routes.declared.route.Station.{Station}
+use Rattle.sdl_driver.specs.sdl_behaviour.declared.step.Frame.{Frame}
+use Rattle.sdl_driver.specs.sdl_behaviour.declared.step.Step.{Step}
+use Rattle.sdl_driver.specs.sdl_transition.declared.block_parts.BlockParts.{BlockParts}
+use Rattle.sdl_driver.specs.sdl_transition.declared.binding.Bound.{Bound}
+use Rattle.sdl_driver.specs.sdl_transition.Bound.{structure_of, routes_of, blocks_of, IsBound}
+use Rattle.sdl_driver.specs.sdl_transition.Rules.{block_rules}
+use Rattle.sdl_driver.specs.sdl_instances.Core.{Core, IsSound, signals_of, sets_of}
+use Rattle.sdl_driver.specs.sdl_instances.Run.{initial}
+use Rattle.sdl_driver.specs.sdl_forward.Boards.{waiting, IsBoardOf}
+use Rattle.sdl_driver.specs.sdl_block.declared.worker.BlockWorker.{BlockWorker}
+use Rattle.sdl_driver.specs.sdl_hand.Work.{with_core}
+use Rattle.sdl_driver.specs.sdl_block.Workers.{worker_of, behaviours_of, system_around}
+use Rattle.sdl_driver.specs.declared.closing.StartFault.{StartFault}
+use Rattle.sdl_driver.specs.declared.closing.StartFault.TheVariants as fault
+use Rattle.sdl_serial_run.specs.declared.start.StartRoom.{StartRoom}
+use Rattle.sdl_driver.specs.Closings.{IsSameBound, HasRoom}
+use Rattle.sdl_driver.specs.sdl_outcome.Plan.{Plan, lines_from}
+use Rattle.sdl_serial_run.specs.Starting.{idle_at}
+
+-- the first core of a block with these parts
+abbrev pub first_core : {S I : Type 0} {F : I → Type 0} {g : _} → Structure → ℕ → BlockParts S I F g → Core
+first_core s budget p =
+    record {
+      block = p.block;
+      signals = signals_of s;
+      sets = sets_of s;
+      state = initial (block_rules p) (sets_of s) p.block;
+      log = [];
+      budget = budget;
+    }
+
+-- a worker that has done nothing
+pub record IsNew {S K I : Type 0} {F : I → Type 0} {g : _} (may : ℕ → Frame → Step → Type 0) (s : Structure) (budget : ℕ) (w : BlockWorker S K I F g) : Type 0 where
+  pub worker : worker_of w ≡ with_core (first_core s budget (behaviours_of w))
+  pub sound : (routes : List TableRow) → IsSound may (system_around w routes) (worker_of w).core
+
+-- there is all that a run of so many blocks needs beside them
+pub record IsStartRoom {S K I : Type 0} {F : I → Type 0} {g : _} (s : Structure) (routes : List TableRow) (blocks : ℕ) (start_room : StartRoom S K I F g) : Type 0 where
+  pub board : IsBoardOf routes start_room.board
+  pub empty : (t : Station) → waiting start_room.board t ≡ []
+  pub forwarders : start_room.forwarders.items ≡ map idle_at (lines_from 0 s.channels)
+  pub room : HasRoom blocks (blocks + (length start_room.forwarders.items + 1)) start_room.room
+  pub room_empty : (start_room.room.parts.items ≡ []) × (start_room.room.logs.items ≡ []) × (start_room.room.hands.items ≡ [])
+  pub workers : start_room.workers.items ≡ []
+  pub workers_room : vec_len start_room.workers + blocks ≤ vec_capacity start_room.workers
+
+-- the plan of a system of these parts
+abbrev pub plan_of_parts : {S I : Type 0} {F : I → Type 0} {g : _} → Structure → List TableRow → List (BlockParts S I F g) → ℕ → Plan
+plan_of_parts s routes blocks budget = record { structure = s; routes = routes; rules = map block_rules blocks; budget = budget }
+
+-- it is the system of these parts
+abbrev pub IsBoundOf : {S I : Type 0} {F : I → Type 0} {g : _} → Structure → List TableRow → List (BlockParts S I F g) → Bound S I F g → Type 0
+IsBoundOf s routes blocks b = (structure_of b ≡ s) × (routes_of b ≡ routes) × (blocks_of b ≡ blocks)
+
+-- where a run did not start, the system comes back as it was handed in
+abbrev pub IsBackIn : {S I : Type 0} {F : I → Type 0} {g : _} → (ℕ → Frame → Step → Type 0) → Bound S I F g → StartFault S I F g → Type 0
+IsBackIn may bound (fault.Memory b) = IsSameBound bound b × IsBound may b

@@ -1,0 +1,101 @@
+//! The blocks of a run, started and given back.
+ghost use Rattle.std.specs.Prelude.{◌≡◌, ℕ, ◌+◌, ◌≤◌, ◌++◌, ◌∷◌, [], All, map, length, vec_len, vec_capacity, IfOk, IfErr};
+ghost use Rattle.std.specs.List.{AllByRecursion};
+ghost use Rattle.sdl_driver.specs.sdl_transition.Rules.{block_rules};
+ghost use Rattle.sdl_driver.specs.sdl_instances.Core.{IsBoundIn, signals_of, sets_of};
+ghost use Rattle.sdl_driver.specs.sdl_block.Workers.{behaviours_of};
+ghost use Rattle.sdl_serial_run.specs.Serial.{IsNew};
+
+use sdl_driver::closing::take_first;
+use sdl_driver::sdl_block::BlockWorker;
+use sdl_driver::sdl_instances::BlockCore;
+use sdl_driver::sdl_log::Keeps;
+use sdl_driver::sdl_parts::Checked;
+use sdl_driver::sdl_transition::{Agents, BlockParts};
+use std::alloc::Global;
+
+/// Puts an element behind the others of a list that has room for it.
+pub fn put_last<T: Drop>(list: &mut Vec<T>, element: T)
+    requires { vec_len list.old + 1 ≤ vec_capacity list.old }
+    ensures items { list.new.items ≡ list.old.items ++ element ∷ [] }
+    ensures room { (more : ℕ) → vec_len list.old + (more + 1) ≤ vec_capacity list.old → vec_len list.new + more ≤ vec_capacity list.new }
+{
+    match list.push(element) {
+        Ok(()) => {}
+        Err(_) => unreachable!(),
+    }
+}
+
+/// Makes a worker of each block, in order. A refusal hands back the workers so far, the parts that were refused, and the
+/// parts of the blocks behind.
+pub fn start_blocks<S: Agents, K: Keeps>(
+    alloc: Global,
+    checked: &Checked,
+    budget: u32,
+    blocks: Vec<BlockParts<S>>,
+    workers: Vec<BlockWorker<S, K>>,
+) -> Result<Vec<BlockWorker<S, K>>, (Vec<BlockWorker<S, K>>, BlockParts<S>, Vec<BlockParts<S>>)>
+    requires budget { (1 ≤ budget) × (budget ≤ 1000000) }
+    requires bound { All (λ p. IsBoundIn (signals_of checked.now) (sets_of checked.now) (block_rules p) p.block) blocks.items }
+    requires empty { workers.items ≡ [] }
+    requires room { vec_len workers + length blocks.items ≤ vec_capacity workers }
+    ensures parts { IfOk result (λ ws. map behaviours_of ws.items ≡ blocks.items) }
+    ensures new { IfOk result (λ ws. AllByRecursion (IsNew S.may checked.now budget) ws.items) }
+    ensures back { IfErr result (λ e. map behaviours_of e.0.items ++ e.1 ∷ e.2.items ≡ blocks.items) }
+{
+    let mut rest = blocks;
+    let mut made = workers;
+    while rest.len() > 0 {
+        let parts = take_first(&mut rest);
+        match BlockCore::new(alloc, parts, checked, budget) {
+            Ok(core) => put_last(&mut made, BlockWorker::new(core)),
+            Err((parts, _)) => return Err((made, parts, rest)),
+        }
+    }
+    Ok(made)
+}
+
+/// Takes the parts of all these workers, in order.
+fn regain<S: Agents, K: Keeps>(parts: &mut Vec<BlockParts<S>>, workers: Vec<BlockWorker<S, K>>)
+    requires room { vec_len parts.old + length workers.items ≤ vec_capacity parts.old }
+    ensures parts { parts.new.items ≡ parts.old.items ++ map behaviours_of workers.items }
+    ensures room { (more : ℕ) → vec_len parts.old + (length workers.items + more) ≤ vec_capacity parts.old → vec_len parts.new + more ≤ vec_capacity parts.new }
+{
+    let mut rest = workers;
+    while rest.len() > 0 {
+        let worker = take_first(&mut rest);
+        let (core, _) = worker.into_parts();
+        let (mine, _, _) = core.into_parts();
+        put_last(parts, mine);
+    }
+}
+
+/// Takes all elements of a list, in order.
+fn take_all<T: Drop>(list: &mut Vec<T>, more: Vec<T>)
+    requires room { vec_len list.old + length more.items ≤ vec_capacity list.old }
+    ensures { list.new.items ≡ list.old.items ++ more.items }
+{
+    let mut rest = more;
+    while rest.len() > 0 {
+        let next = take_first(&mut rest);
+        put_last(list, next);
+    }
+}
+
+/// The parts of all blocks, in order, where some have started.
+pub fn gather<S: Agents, K: Keeps>(
+    empty: Vec<BlockParts<S>>,
+    workers: Vec<BlockWorker<S, K>>,
+    refused: BlockParts<S>,
+    rest: Vec<BlockParts<S>>,
+) -> Vec<BlockParts<S>>
+    requires empty { empty.items ≡ [] }
+    requires room { vec_len empty + (length workers.items + (length rest.items + 1)) ≤ vec_capacity empty }
+    ensures { result.items ≡ map behaviours_of workers.items ++ refused ∷ rest.items }
+{
+    let mut parts = empty;
+    regain(&mut parts, workers);
+    put_last(&mut parts, refused);
+    take_all(&mut parts, rest);
+    parts
+}
