@@ -26,7 +26,14 @@ fn main(rt: HostRuntime) -> ExitCode {
     };
     let mut output = Output { buffer: &buffer };
     let status = match prepare(&rt, rt.alloc(), &mut output, &mut errors) {
-        Ok(prepared) => running::run(rt.alloc(), prepared, &mut input, &mut output, &mut errors),
+        Ok(prepared) => running::run(
+            &rt,
+            rt.alloc(),
+            prepared,
+            &mut input,
+            &mut output,
+            &mut errors,
+        ),
         Err(status) => status,
     };
     ExitCode::from(status)

@@ -8,9 +8,12 @@ use sdl_graph_program::{
 };
 use std::alloc::Global;
 use std::io::{Read, Write};
+use std::sync::Wait;
+use std::thread::Threads;
 
 /// Runs the exchange in the structure that is prepared, and answers the exit status.
-pub fn run<R: Read, W: Write, E: Write>(
+pub fn run<T: Threads + Wait + Sync, R: Read, W: Write, E: Write>(
+    rt: &T,
     alloc: Global,
     prepared: Prepared,
     input: &mut R,
@@ -19,14 +22,15 @@ pub fn run<R: Read, W: Write, E: Write>(
 ) -> u8
     requires { CanRun prepared.checked prepared.routes }
 {
-    match run_stored(alloc, prepared, input, output, &mut *errors) {
+    match run_stored(rt, alloc, prepared, input, output, &mut *errors) {
         Ok(status) => status,
         Err(fault) => refused(errors, &DESIGN, fault),
     }
 }
 
 /// Stores all transitions, and runs them.
-fn run_stored<R: Read, W: Write, E: Write>(
+fn run_stored<T: Threads + Wait + Sync, R: Read, W: Write, E: Write>(
+    rt: &T,
     alloc: Global,
     prepared: Prepared,
     input: &mut R,
@@ -46,5 +50,5 @@ fn run_stored<R: Read, W: Write, E: Write>(
         )?;
         stored.keep(number, offer, run)?;
     }
-    Ok(run_prepared(alloc, prepared, &DESIGN, stored, input, output, errors))
+    Ok(run_prepared(rt, alloc, prepared, &DESIGN, stored, input, output, errors))
 }

@@ -8,11 +8,14 @@ use crate::commands::Prepared;
 use crate::faults::write_graph_fault;
 use sdl_graph_binding::sdl_transition::Bound;
 use sdl_graph_binding::{Broken, Design, GraphAgents, GraphFault, Marks, Stored, bind_graph};
-use sdl_program::running::{Settings, run_bound};
+use sdl_program::in_threads::run_bound_in_threads;
+use sdl_program::running::Settings;
 use sdl_program::sdl_command::errors::write_error;
 use sdl_program::sdl_command::status::REFUSED;
 use std::alloc::Global;
 use std::io::{Read, Write};
+use std::sync::Wait;
+use std::thread::Threads;
 
 /// The status of a run in which a transition broke its offer.
 pub const BROKEN: u8 = 4;
@@ -29,7 +32,8 @@ pub fn refused<E: Write>(errors: &mut E, design: &Design, fault: GraphFault) -> 
 /// the run ended. Where a transition broke its offer, a line of standard error names the first, with the number of
 /// answers that broke theirs. The logs are stored where a trace was asked for, and else counted alone.
 #[tactic(auto, unfolding(sdl_program::specs::Running::CanRun))]
-pub fn run_prepared<G, R: Read, W: Write, E: Write>(
+pub fn run_prepared<G: Send, T: Threads + Wait + Sync, R: Read, W: Write, E: Write>(
+    rt: &T,
     alloc: Global,
     prepared: Prepared,
     design: &Design,
@@ -55,13 +59,14 @@ pub fn run_prepared<G, R: Read, W: Write, E: Write>(
     };
     let (transitions, marks) = stored.into_parts();
     match bind_graph(alloc, checked, routes, design, transitions) {
-        Ok(bound) => run_marked(settings, bound, &marks, input, output, errors),
+        Ok(bound) => run_marked(rt, settings, bound, &marks, input, output, errors),
         Err(fault) => refused(errors, design, fault),
     }
 }
 
 /// Runs the agents of a graph that is bound, with its structure's budget, and answers the exit status.
-fn run_marked<G, R: Read, W: Write, E: Write>(
+fn run_marked<G: Send, T: Threads + Wait + Sync, R: Read, W: Write, E: Write>(
+    rt: &T,
     settings: Settings,
     bound: Bound<GraphAgents<G>>,
     marks: &Marks,
@@ -74,7 +79,7 @@ fn run_marked<G, R: Read, W: Write, E: Write>(
     ensures run { HasRunGraphOrNot (structure_of bound) (routes_of bound) result }
     ensures refused { result ≡ 1 → (input.new ≡ input.old) × (output.new ≡ output.old) }
 {
-    let status = run_bound(settings, bound, input, output, &mut *errors);
+    let status = run_bound_in_threads(rt, settings, bound, input, output, &mut *errors);
     if status == REFUSED {
         return REFUSED;
     }

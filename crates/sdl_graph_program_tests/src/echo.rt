@@ -7,6 +7,8 @@ use sdl_graph_program::{
     integer_parameter, marked_answer, no_offer, no_step, run_prepared,
 };
 use std::alloc::Global;
+use std::sync::Wait;
+use std::thread::Threads;
 
 const PING: SignalId = SignalId(0);
 
@@ -96,7 +98,8 @@ pub struct Ran {
 }
 
 /// Runs Echo by the design.
-pub fn run_echo(
+pub fn run_echo<T: Threads + Wait + Sync>(
+    rt: &T,
     alloc: Global,
     prepared: Prepared,
     design: &Design,
@@ -119,6 +122,7 @@ pub fn run_echo(
     let mut output = Vec::new(alloc);
     let mut errors = Vec::new(alloc);
     let status = run_prepared(
+        rt,
         alloc,
         prepared,
         design,
@@ -135,7 +139,12 @@ pub fn run_echo(
 }
 
 /// Runs the Echo with a broken offer.
-pub fn run_mute(alloc: Global, prepared: Prepared, lines: &[u8]) -> Result<Ran, GraphFault>
+pub fn run_mute<T: Threads + Wait + Sync>(
+    rt: &T,
+    alloc: Global,
+    prepared: Prepared,
+    lines: &[u8],
+) -> Result<Ran, GraphFault>
     requires { CanRun prepared.checked prepared.routes }
 {
     let mut stored: Stored<Mute> = Stored::new(alloc)?;
@@ -153,6 +162,7 @@ pub fn run_mute(alloc: Global, prepared: Prepared, lines: &[u8]) -> Result<Ran, 
     let mut output = Vec::new(alloc);
     let mut errors = Vec::new(alloc);
     let status = run_prepared(
+        rt,
         alloc,
         prepared,
         &DESIGN,

@@ -5,6 +5,7 @@
 pub mod closing;
 pub mod faults;
 pub mod files;
+pub mod in_threads;
 mod ledger;
 mod names;
 pub mod program;

@@ -1,0 +1,73 @@
+//! A run of a bound system in threads.
+ghost use Rattle.std.specs.Prelude.{◌≡◌};
+ghost use Rattle.sdl_program.specs.Outcomes.{HasRunOrNot};
+ghost use Rattle.sdl_program.specs.Running.{HasBudget};
+ghost use Rattle.sdl_run.specs.sdl_transition.Bound.{IsBound, structure_of, routes_of};
+
+use crate::closing::report_closing;
+use crate::running::{Settings, run_bound};
+use sdl_command::errors::without_memory;
+use sdl_command::status::REFUSED;
+use sdl_run::sdl_log::{Event, Keeps, Unstored};
+use sdl_run::sdl_transition::{Agents, Bound};
+use sdl_run::{OpenGate, StartFault, run_threads_keeping};
+use std::io::{Read, Write};
+use std::sync::Wait;
+use std::thread::Threads;
+
+/// Runs a system that is bound, with its structure's budget, and answers the exit status: with each block and each delaying path
+/// in a thread of its own, unless one thread was asked for. The logs are stored where a trace was asked for, and else counted
+/// alone. May wait for other threads.
+pub fn run_bound_in_threads<
+    S: Agents + Send + Drop,
+    T: Threads + Wait + Sync,
+    R: Read,
+    W: Write,
+    E: Write,
+>(rt: &T, settings: Settings, bound: Bound<S>, input: &mut R, output: &mut W, errors: &mut E) -> u8
+    requires bound { IsBound S.may bound }
+    requires budget { HasBudget (structure_of bound) }
+    ensures run { HasRunOrNot (structure_of bound) (routes_of bound) result }
+    ensures refused { result ≡ 1 → (input.new ≡ input.old) × (output.new ≡ output.old) }
+{
+    if settings.options.serial {
+        run_bound(settings, bound, input, output, errors)
+    } else if settings.options.trace {
+        run_with::<S, Vec<Event>, T, R, W, E>(rt, settings, bound, input, output, errors)
+    } else {
+        run_with::<S, Unstored, T, R, W, E>(rt, settings, bound, input, output, errors)
+    }
+}
+
+/// Runs a system that is bound in threads, with its structure's budget and logs of this kind, and answers the exit status.
+fn run_with<
+    S: Agents + Send + Drop,
+    K: Keeps + Send,
+    T: Threads + Wait + Sync,
+    R: Read,
+    W: Write,
+    E: Write,
+>(rt: &T, settings: Settings, bound: Bound<S>, input: &mut R, output: &mut W, errors: &mut E) -> u8
+    requires bound { IsBound S.may bound }
+    requires budget { HasBudget (structure_of bound) }
+    ensures run { HasRunOrNot (structure_of bound) (routes_of bound) result }
+    ensures refused { result ≡ 1 → (input.new ≡ input.old) × (output.new ≡ output.old) }
+{
+    let structure = bound.checked().structure();
+    let budget = structure.budget();
+    match run_threads_keeping::<S, K, OpenGate, T, R, W>(
+        rt,
+        settings.alloc,
+        bound,
+        budget,
+        &OpenGate,
+        input,
+        output,
+    ) {
+        Ok(closing) => report_closing(settings.options, &closing, output, errors),
+        Err(StartFault::Memory(_)) => {
+            without_memory(errors);
+            REFUSED
+        }
+    }
+}
