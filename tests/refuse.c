@@ -2,13 +2,14 @@
 #define _GNU_SOURCE
 #include <dlfcn.h>
 #include <errno.h>
+#include <stdatomic.h>
 #include <stdlib.h>
 
-static long made;
+static atomic_long made;
 
 static int is_refused(void) {
     const char *number = getenv("REFUSE");
-    return ++made == (number ? atol(number) : 0);
+    return atomic_fetch_add(&made, 1) + 1 == (number ? atol(number) : 0);
 }
 
 void *malloc(size_t size) {
