@@ -16,3 +16,4 @@ pub use laws::{
     forwarders_have_handed_on, forwarders_stay_handing_on, new_forwarders_are_handing_on,
 };
 pub use sdl_ends::{Ends, Shelf, ends_rejoin};
+pub use sdl_opening::ends_open;
