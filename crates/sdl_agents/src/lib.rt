@@ -13,4 +13,5 @@ pub mod steps;
 pub mod systems;
 
 pub use runner::Runner;
+pub use sdl_behaviour::{Frame, Run, Transition};
 pub use systems::{System, run, system_named};

@@ -1,22 +1,20 @@
 //! Spawn: a Boss that makes Kids, kills them and answers their queries.
-ghost use Rattle.std.specs.Prelude.{IfOk, ◌≡◌, [], ◌∷◌};
+ghost use Rattle.std.specs.Prelude.{IfOk, ◌≡◌, [], ◌∷◌, map};
+ghost use Rattle.std.specs.List.{AllByRecursion};
 ghost use Rattle.sdl_behaviour.specs.Transitions.{IsAllowed, IsAllowedBehaviour};
 ghost use Rattle.sdl_agents.specs.Handed.{handled, handled_by_spawn, of_set};
 ghost use Rattle.sdl_agents.specs.Tables.{SpawnMay};
 ghost use Rattle.sdl_agents.specs.Stored.{IsAllowedBoss, IsAllowedKid};
 
-mod offers;
-mod steps;
+pub mod offers;
+pub mod steps;
 
 use crate::behaviours::{Use, behaviour, with_row};
-use crate::offers::{forward_offer, start_offer};
 use crate::runner::Runner;
-use crate::steps::{begin, forward};
-use offers::{answer_offer, born_offer, die_offer, kill_offer, make_offer};
-use sdl_behaviour::{Agents, Behaviour, Frame, Kind, Run, Transition};
+use offers::die_offer;
+use sdl_behaviour::{Agents, Behaviour, Kind, Run, Transition};
 use sdl_signal::{SetId, SignalId};
 use std::alloc::{AllocError, Global};
-use steps::{kill, make, reply, stop, tell_answer, tell_born};
 
 pub const MAKE: SignalId = SignalId(0);
 
@@ -75,21 +73,60 @@ const USES_OF_KID: [Use; 8] = [
 
 /// The transitions of the Boss.
 #[derive(Drop)]
-struct OfBoss {
-    start: Transition<Spawn>,
-    make: Transition<Spawn>,
-    kill: Transition<Spawn>,
-    query: Transition<Spawn>,
+pub struct OfBoss {
+    pub start: Transition<Spawn>,
+    pub make: Transition<Spawn>,
+    pub kill: Transition<Spawn>,
+    pub query: Transition<Spawn>,
 }
 
 /// The transitions of a Kid.
 #[derive(Drop)]
-struct OfKid {
-    start: Transition<Spawn>,
-    ask: Transition<Spawn>,
-    hello: Transition<Spawn>,
-    reply: Transition<Spawn>,
-    die: Transition<Spawn>,
+pub struct OfKid {
+    pub start: Transition<Spawn>,
+    pub ask: Transition<Spawn>,
+    pub hello: Transition<Spawn>,
+    pub reply: Transition<Spawn>,
+    pub die: Transition<Spawn>,
+}
+
+/// The behaviours of Spawn, for a structure of so many sets, in a function whose result may be an `AllocError`. A function that
+/// makes closures can't hand them out, so that they are made where they are used.
+#[macro_export]
+macro_rules! spawn_behaviours {
+    ($alloc:expr, $sets:expr) => {{
+        let alloc = $alloc;
+        let sets = $sets;
+        let start_boss: $crate::Run = Box::new(alloc, |frame: &$crate::Frame| $crate::steps::begin(frame))?;
+        let on_make: $crate::Run = Box::new(alloc, |_frame: &$crate::Frame| $crate::spawn::steps::make())?;
+        let on_kill: $crate::Run = Box::new(alloc, |frame: &$crate::Frame| $crate::spawn::steps::kill(frame))?;
+        let on_query: $crate::Run = Box::new(alloc, |frame: &$crate::Frame| $crate::spawn::steps::reply(frame))?;
+        let start_kid: $crate::Run = Box::new(alloc, |frame: &$crate::Frame| $crate::steps::begin(frame))?;
+        let on_ask: $crate::Run = Box::new(alloc, |frame: &$crate::Frame| {
+            $crate::steps::forward(frame, $crate::spawn::QUERY)
+        })?;
+        let on_hello: $crate::Run = Box::new(alloc, |frame: &$crate::Frame| $crate::spawn::steps::tell_born(frame))?;
+        let on_reply: $crate::Run = Box::new(alloc, |frame: &$crate::Frame| $crate::spawn::steps::tell_answer(frame))?;
+        let on_die: $crate::Run = Box::new(alloc, |_frame: &$crate::Frame| $crate::spawn::steps::stop())?;
+        let query_offer =
+            $crate::offers::forward_offer(sets, $crate::spawn::QUERY, $crate::spawn::REPLY);
+        let ask_offer =
+            $crate::offers::forward_offer(sets, $crate::spawn::ASK, $crate::spawn::QUERY);
+        let of_boss = $crate::spawn::OfBoss {
+            start: $crate::Transition::store(0, $crate::offers::start_offer(sets), start_boss),
+            make: $crate::Transition::store(1, $crate::spawn::offers::make_offer(sets), on_make),
+            kill: $crate::Transition::store(2, $crate::spawn::offers::kill_offer(sets), on_kill),
+            query: $crate::Transition::store(3, query_offer, on_query),
+        };
+        let of_kid = $crate::spawn::OfKid {
+            start: $crate::Transition::store(0, $crate::offers::start_offer(sets), start_kid),
+            ask: $crate::Transition::store(4, ask_offer, on_ask),
+            hello: $crate::Transition::store(5, $crate::spawn::offers::born_offer(sets), on_hello),
+            reply: $crate::Transition::store(6, $crate::spawn::offers::answer_offer(sets), on_reply),
+            die: $crate::spawn::stored_die(sets, on_die),
+        };
+        $crate::spawn::behaviours(alloc, of_boss, of_kid)?
+    }};
 }
 
 /// Makes the behaviours of the Boss and of a Kid, and hands them to the runner.
@@ -97,33 +134,12 @@ pub fn run<R: Runner + Drop>(alloc: Global, sets: u32, runner: R) -> Result<R::A
     requires { R.can_run runner }
     ensures { IfOk result (R.answers runner handled_by_spawn) }
 {
-    let start_boss: Run = Box::new(alloc, |frame: &Frame| begin(frame))?;
-    let on_make: Run = Box::new(alloc, |_frame: &Frame| make())?;
-    let on_kill: Run = Box::new(alloc, |frame: &Frame| kill(frame))?;
-    let on_query: Run = Box::new(alloc, |frame: &Frame| reply(frame))?;
-    let start_kid: Run = Box::new(alloc, |frame: &Frame| begin(frame))?;
-    let on_ask: Run = Box::new(alloc, |frame: &Frame| forward(frame, QUERY))?;
-    let on_hello: Run = Box::new(alloc, |frame: &Frame| tell_born(frame))?;
-    let on_reply: Run = Box::new(alloc, |frame: &Frame| tell_answer(frame))?;
-    let on_die: Run = Box::new(alloc, |_frame: &Frame| stop())?;
-    let of_boss = OfBoss {
-        start: Transition::store(0, start_offer(sets), start_boss),
-        make: Transition::store(1, make_offer(sets), on_make),
-        kill: Transition::store(2, kill_offer(sets), on_kill),
-        query: Transition::store(3, forward_offer(sets, QUERY, REPLY), on_query),
-    };
-    let of_kid = OfKid {
-        start: Transition::store(0, start_offer(sets), start_kid),
-        ask: Transition::store(4, forward_offer(sets, ASK, QUERY), on_ask),
-        hello: Transition::store(5, born_offer(sets), on_hello),
-        reply: Transition::store(6, answer_offer(sets), on_reply),
-        die: stored_die(sets, on_die),
-    };
-    run_stored(alloc, of_boss, of_kid, runner)
+    let behaviours = spawn_behaviours!(alloc, sets);
+    Ok(runner.run(behaviours))
 }
 
 /// The Kid's row for `die`.
-fn stored_die(sets: u32, run: Run) -> Transition<Spawn>
+pub fn stored_die(sets: u32, run: Run) -> Transition<Spawn>
     requires callable { (f : _) → Run.pre run f }
     requires allowed { (f : _) (step : _) → Run.post run f step → SpawnMay 7 f.now step }
     ensures { IsAllowed SpawnMay result }
@@ -156,20 +172,19 @@ fn kid(alloc: Global, stored: OfKid) -> Result<Behaviour<Spawn>, AllocError>
     with_row(kid, DIE, stored.die)
 }
 
-/// Hands the Boss and the Kid to the runner, with their transitions.
-fn run_stored<R: Runner + Drop>(
+/// The behaviours of the Boss and of a Kid, with their transitions.
+pub fn behaviours(
     alloc: Global,
     of_boss: OfBoss,
     of_kid: OfKid,
-    runner: R,
-) -> Result<R::Answer, AllocError>
-    requires runner { R.can_run runner }
+) -> Result<Vec<Behaviour<Spawn>>, AllocError>
     requires of_boss { IsAllowedBoss of_boss }
     requires of_kid { IsAllowedKid of_kid }
-    ensures { IfOk result (R.answers runner handled_by_spawn) }
+    ensures allowed { IfOk result (λ b. AllByRecursion (IsAllowedBehaviour SpawnMay) b.items) }
+    ensures handled { IfOk result (λ b. map handled b.items ≡ handled_by_spawn) }
 {
     let boss = boss(alloc, of_boss)?;
     let kid = kid(alloc, of_kid)?;
     let behaviours = Vec::from_array(alloc, [boss, kid])?;
-    Ok(runner.run(behaviours))
+    Ok(behaviours)
 }

@@ -2,6 +2,7 @@
 //! asked for and the command `pipe` are passed on.
 #![tactic(auto)]
 
+mod built_in;
 pub mod closing;
 pub mod faults;
 pub mod files;

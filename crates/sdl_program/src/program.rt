@@ -16,13 +16,15 @@ use std::alloc::{AllocError, Global};
 use std::env;
 use std::io::{ErrorKind, Read, Write};
 use std::rt::{Env, Files};
+use std::sync::Wait;
+use std::thread::Threads;
 
 const USAGE: &str =
     "usage: sdlrun pipe | check FILE | routes FILE | run [--serial] [--ledger] [--trace] FILE";
 
 /// Does what the program's arguments ask for, and answers the exit status. A line that standard error does not take
-/// is dropped.
-pub fn run<H: Env + Files + AllocGlobal, R: Read, W: Write, E: Write>(
+/// is dropped. May wait for other threads.
+pub fn run<H: Env + Files + AllocGlobal + Threads + Wait + Sync, R: Read, W: Write, E: Write>(
     rt: &H,
     alloc: Global,
     input: &mut R,
@@ -41,7 +43,7 @@ pub fn run<H: Env + Files + AllocGlobal, R: Read, W: Write, E: Write>(
 }
 
 /// The same, where the arguments find memory.
-fn run_arguments<H: Env + Files + AllocGlobal, R: Read, W: Write, E: Write>(
+fn run_arguments<H: Env + Files + AllocGlobal + Threads + Wait + Sync, R: Read, W: Write, E: Write>(
     rt: &H,
     alloc: Global,
     input: &mut R,
@@ -59,7 +61,7 @@ fn run_arguments<H: Env + Files + AllocGlobal, R: Read, W: Write, E: Write>(
 }
 
 /// Does what the words after the program's name ask for.
-fn run_words<H: Files, R: Read, W: Write, E: Write>(
+fn run_words<H: Files + Threads + Wait + Sync, R: Read, W: Write, E: Write>(
     rt: &H,
     alloc: Global,
     words: &[&str],
@@ -115,7 +117,7 @@ fn cannot_read<E: Write>(errors: &mut E) -> u8
 }
 
 /// A command on a structure file.
-fn file_command<H: Files, R: Read, W: Write, E: Write>(
+fn file_command<H: Files + Threads + Wait + Sync, R: Read, W: Write, E: Write>(
     rt: &H,
     alloc: Global,
     path: &str,

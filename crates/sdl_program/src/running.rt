@@ -1,30 +1,32 @@
-//! The command `run`, once the behaviours of a system are made.
+//! The command `run`: a built-in system is bound to the structure and run.
 ghost use Rattle.std.specs.Prelude.{◌≡◌, ◌⊎◌, IsSome, None};
 ghost use Rattle.sdl_agents.specs.Systems.{system_of};
 ghost use Rattle.sdl_program.specs.Outcomes.{HasRun, HasRunOrNot};
 ghost use Rattle.sdl_program.specs.Running.{CanRun, HasBudget};
 ghost use Rattle.sdl_run.specs.sdl_transition.Bound.{IsBound, structure_of, routes_of};
 
+use crate::built_in::run_system;
 use crate::closing::report_closing;
-use crate::faults::write_bind_fault;
-use sdl_agents::{Runner, system_named};
+use sdl_agents::system_named;
 use sdl_command::arguments::Options;
 use sdl_command::errors::{without_memory, write_error};
 use sdl_command::status::REFUSED;
 use sdl_run::sdl_log::{Event, Keeps, Unstored};
 use sdl_run::sdl_parts::Checked;
 use sdl_run::sdl_routes::Routes;
-use sdl_run::sdl_transition::{Agents, Behaviour, Bound, bind};
+use sdl_run::sdl_transition::{Agents, Bound};
 use sdl_run::{StartFault, run_keeping};
 use std::alloc::Global;
 use std::io::{Read, Write};
+use std::sync::Wait;
+use std::thread::Threads;
 
 /// How a system is run.
 #[derive(Clone, Copy)]
 pub struct Settings<'a> {
     pub alloc: Global,
     pub options: Options,
-    /// The workers that make a step before all take turns, each with its pick.
+    /// On one thread: the workers that make a step before all take turns, each with its pick.
     pub schedule: &'a [u32],
 }
 
@@ -39,9 +41,10 @@ pub struct Job<'a, R, W, E> {
     pub errors: &'a mut E,
 }
 
-/// Runs the built-in system that has the structure's name, and answers the exit status: the first refusal, or how the run
-/// ended.
-pub fn run_command<R: Read, W: Write, E: Write>(
+/// Runs the built-in system that has the structure's name, in threads unless one was asked for, and answers the exit status:
+/// the first refusal, or how the run ended. May wait for other threads.
+pub fn run_command<T: Threads + Wait + Sync, R: Read, W: Write, E: Write>(
+    rt: &T,
     settings: Settings,
     checked: Checked,
     routes: Routes,
@@ -58,7 +61,6 @@ pub fn run_command<R: Read, W: Write, E: Write>(
         write_error(errors, format_args!("no agents for {name}"));
         return REFUSED;
     };
-    let sets = checked.structure().sets().len() as u32;
     let job = Job {
         settings,
         checked,
@@ -67,39 +69,11 @@ pub fn run_command<R: Read, W: Write, E: Write>(
         output,
         errors: &mut *errors,
     };
-    match sdl_agents::run(system, settings.alloc, sets, job) {
+    match run_system(rt, system, job) {
         Ok(status) => status,
         Err(_) => {
             without_memory(errors);
             REFUSED
-        }
-    }
-}
-
-impl<R: Read, W: Write, E: Write> Runner for Job<'_, R, W, E> {
-    type Answer = u8;
-
-    ghost can_run = { λ job. CanRun job.checked job.routes };
-
-    ghost answers = { λ job handled status. HasRunOrNot job.checked job.routes status };
-
-    #[tactic(auto, unfolding(crate::specs::Running::CanRun))]
-    /// Binds the behaviours to the structure and runs the system, and answers the exit status.
-    fn run<S: Agents + Drop>(self, behaviours: Vec<Behaviour<S>>) -> u8 {
-        let Job {
-            settings,
-            checked,
-            routes,
-            input,
-            output,
-            errors,
-        } = self;
-        match bind(settings.alloc, checked, routes, behaviours) {
-            Ok(bound) => run_bound(settings, bound, input, output, errors),
-            Err(unbound) => {
-                write_bind_fault(errors, unbound.fault);
-                REFUSED
-            }
         }
     }
 }

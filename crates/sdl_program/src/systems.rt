@@ -23,12 +23,14 @@ use sdl_structure::{FileFault, read_structure};
 use std::alloc::Global;
 use std::io;
 use std::io::{Read, Write};
+use std::sync::Wait;
+use std::thread::Threads;
 
 /// Carries out the command on the bytes of a structure file, and answers the exit status: the first refusal of the
 /// file, of its structure, of the table of its routes or of its agents; and else what the command prints, or how the run
 /// ended.
-pub fn run_file<H, R: Read, W: Write, E: Write>(
-    _rt: &H,
+pub fn run_file<H: Threads + Wait + Sync, R: Read, W: Write, E: Write>(
+    rt: &H,
     alloc: Global,
     file: &[u8],
     options: Options,
@@ -47,11 +49,12 @@ pub fn run_file<H, R: Read, W: Write, E: Write>(
         options,
         schedule: &[],
     };
-    carry_out(settings, file, input, output, errors)
+    carry_out(rt, settings, file, input, output, errors)
 }
 
-/// Carries out a command on the bytes of a structure file; a run by the schedule of the settings.
-pub fn carry_out<R: Read, W: Write, E: Write>(
+/// Carries out a command on the bytes of a structure file; a run on one thread by the schedule of the settings.
+pub fn carry_out<H: Threads + Wait + Sync, R: Read, W: Write, E: Write>(
+    rt: &H,
     settings: Settings,
     file: &[u8],
     input: &mut R,
@@ -74,7 +77,7 @@ pub fn carry_out<R: Read, W: Write, E: Write>(
             written(text, output, errors)
         }
         Command::Routes => routes_command(settings.alloc, &checked, output, errors),
-        Command::Run => start_command(settings, checked, input, output, errors),
+        Command::Run => start_command(rt, settings, checked, input, output, errors),
     }
 }
 
@@ -98,7 +101,8 @@ pub fn routes_command<W: Write, E: Write>(
 
 #[tactic(auto, unfolding(crate::specs::Running::CanRun))]
 /// The command `run`.
-fn start_command<R: Read, W: Write, E: Write>(
+fn start_command<H: Threads + Wait + Sync, R: Read, W: Write, E: Write>(
+    rt: &H,
     settings: Settings,
     checked: Checked,
     input: &mut R,
@@ -109,7 +113,7 @@ fn start_command<R: Read, W: Write, E: Write>(
     ensures done { (result ≡ 1) ⊎ ComesTo Command.Run checked result }
 {
     match routes_in(settings.alloc, &checked, errors) {
-        Some(routes) => run_command(settings, checked, routes, input, output, errors),
+        Some(routes) => run_command(rt, settings, checked, routes, input, output, errors),
         None => REFUSED,
     }
 }

@@ -63,7 +63,7 @@ fn relay_goes_by_the_schedule(rt: HostRuntime) {
             schedule,
             ..RELAY_TRIAL
         };
-        let ran = run(rt.alloc(), trial, &mut reader_of(lines));
+        let ran = run(&rt, rt.alloc(), trial, &mut reader_of(lines));
         assert_eq!(rt; ran.output.as_slice(), wanted);
         assert_eq!(rt; ran.status, WHOLE);
     }
@@ -77,7 +77,7 @@ fn writes_four_bytes_where_no_more_are_taken(rt: HostRuntime) {
             output_room: 4,
             ..ECHO_TRIAL
         };
-        let ran = run(rt.alloc(), trial, &mut reader_of(PING));
+        let ran = run(&rt, rt.alloc(), trial, &mut reader_of(PING));
         assert_eq!(rt; ran.status, FAULTY);
         assert_eq!(rt; ran.output.as_slice(), b"line".as_slice());
         assert_eq!(rt; ran.errors.as_slice(), WRITE_FAULT);
@@ -93,7 +93,7 @@ fn writes_a_front_where_the_writer_fails(rt: HostRuntime) {
             output_room: count,
             ..ECHO_TRIAL
         };
-        let ran = run(rt.alloc(), trial, &mut reader_of(PING));
+        let ran = run(&rt, rt.alloc(), trial, &mut reader_of(PING));
         assert_eq!(rt; ran.status, FAULTY);
         assert_eq!(rt; ran.output.as_slice(), &BOOKS[..count]);
         assert_eq!(rt; ran.errors.as_slice(), WRITE_FAULT);
@@ -109,7 +109,7 @@ fn reads_up_to_the_readers_fault(rt: HostRuntime) {
             interruptions: 0,
             fails: true,
         };
-        let ran = run(rt.alloc(), ECHO_TRIAL, &mut input);
+        let ran = run(&rt, rt.alloc(), ECHO_TRIAL, &mut input);
         assert_eq!(rt; ran.status, FAULTY);
         let wanted = if count == PING.len() { PONG } else { &[] };
         assert_eq!(rt; ran.output.as_slice(), wanted, "after {count} bytes");
@@ -128,7 +128,7 @@ fn writes_the_books_after_a_readers_fault(rt: HostRuntime) {
         interruptions: 0,
         fails: true,
     };
-    let ran = run(rt.alloc(), trial, &mut input);
+    let ran = run(&rt, rt.alloc(), trial, &mut input);
     assert_eq!(rt; ran.output.as_slice(), BOOKS);
 }
 
@@ -137,7 +137,7 @@ fn tries_interrupted_reads_again(rt: HostRuntime) {
     for (interruptions, status) in [(1_000, WHOLE), (1_001, FAULTY)] {
         let mut input = reader_of(PING);
         input.interruptions = interruptions;
-        assert_eq!(rt; run(rt.alloc(), ECHO_TRIAL, &mut input).status, status);
+        assert_eq!(rt; run(&rt, rt.alloc(), ECHO_TRIAL, &mut input).status, status);
     }
 }
 
@@ -149,7 +149,12 @@ const SILENT: Trial = Trial {
 
 #[test]
 fn goes_on_where_standard_error_fails(rt: HostRuntime) {
-    let ran = run(rt.alloc(), SILENT, &mut reader_of(b"line ping 7\nline\n"));
+    let ran = run(
+        &rt,
+        rt.alloc(),
+        SILENT,
+        &mut reader_of(b"line ping 7\nline\n"),
+    );
     assert_eq!(rt; ran.status, FAULTY);
     assert_eq!(rt; ran.output.as_slice(), PONG);
 }
@@ -165,6 +170,9 @@ fn answers_a_status_where_standard_error_fails(rt: HostRuntime) {
         ..SILENT
     };
     for (trial, status) in [(refused, REFUSED), (full, FAULTY)] {
-        assert_eq!(rt; run(rt.alloc(), trial, &mut reader_of(PING)).status, status);
+        assert_eq!(rt;
+            run(&rt, rt.alloc(), trial, &mut reader_of(PING)).status,
+            status
+        );
     }
 }

@@ -5,6 +5,8 @@ use sdl_program::arguments::{Command, Options};
 use sdl_program::running::Settings;
 use sdl_program::systems::carry_out;
 use std::alloc::Global;
+use std::sync::Wait;
+use std::thread::Threads;
 
 /// What a run wrote and answered.
 #[derive(Drop)]
@@ -41,7 +43,12 @@ pub const RELAY_TRIAL: Trial = Trial {
     ..ECHO_TRIAL
 };
 
-pub fn run(alloc: Global, trial: Trial, input: &mut Bytes) -> Ran {
+pub fn run<T: Threads + Wait + Sync>(
+    rt: &T,
+    alloc: Global,
+    trial: Trial,
+    input: &mut Bytes,
+) -> Ran {
     let mut output = writer_of(alloc, trial.output_room);
     let mut errors = writer_of(alloc, trial.errors_room);
     let settings = Settings {
@@ -55,6 +62,7 @@ pub fn run(alloc: Global, trial: Trial, input: &mut Bytes) -> Ran {
         schedule: trial.schedule,
     };
     let status = carry_out(
+        rt,
         settings,
         trial.file.as_bytes(),
         input,

@@ -1,0 +1,13 @@
+//! Whole runs in threads.
+#![tactic(auto)]
+
+#[cfg(test)]
+mod counted;
+#[cfg(test)]
+mod gates;
+#[cfg(test)]
+mod many;
+#[cfg(test)]
+mod plan;
+#[cfg(test)]
+mod runs;

@@ -1,0 +1,121 @@
+//! Many runs of Relay in threads whose steps are held back at random, each against a run in turns.
+use crate::counted;
+use crate::gates::Jitter;
+use crate::plan::{Left, lines};
+use sdl_run::{Ledger, RunEnd};
+use sdl_signal::{InputEnd, Item, Origin, OutputEnd, Value};
+use sdl_test_systems::Stop;
+use std::alloc::Global;
+use std::process::Abort;
+use std::sync::atomic::AtomicU64;
+use std::sync::{Arc, Wait};
+use std::test::Fail;
+use std::thread::Threads;
+
+/// Runs Relay on the lines, in threads with this gate, or else in turns.
+fn run<T: Threads + Wait + Sync>(
+    rt: &T,
+    alloc: Global,
+    input: &[u8],
+    gate: Option<&Jitter>,
+) -> Result<Left, Stop> {
+    let calls = Arc::new(alloc, AtomicU64::new(0))?;
+    counted::run(rt, alloc, &calls, input, gate)
+}
+
+/// All of so many came, by one route in the order in which B sent them, and the numbers of each side in the order of the lines.
+fn are_in_order(rt: &impl Abort, received: &[Item], count: u32) {
+    let mut next = [0, 1];
+    for (place, item) in received.iter().enumerate() {
+        assert_eq!(rt; item.route, received[0].route);
+        let origin = Origin {
+            worker: 1,
+            number: place as u64,
+        };
+        assert_eq!(rt; item.origin, origin);
+        let number = number_of(item);
+        let side = if number % 2 == 0 { 0 } else { 1 };
+        assert_eq!(rt; number, next[side]);
+        next[side] = number.wrapping_add(2);
+    }
+    let count = i64::from(count);
+    assert_eq!(rt; next, [count, count + 1]);
+}
+
+/// The number that the signal carries, and -1 where it carries something else.
+fn number_of(item: &Item) -> i64 {
+    match item.signal.params.as_slice() {
+        [Value::Integer(number)] => *number,
+        _ => -1,
+    }
+}
+
+/// Each output is accounted for, and each signal that entered.
+fn balances(rt: &impl Abort, ledger: &Ledger) {
+    let ends = [
+        ledger.no_route,
+        ledger.entered,
+        ledger.no_instance,
+        ledger.gone,
+        ledger.left,
+    ];
+    assert_eq!(rt; ledger.output, sum(&ends));
+    let uses = [
+        ledger.fired,
+        ledger.implicit,
+        ledger.stopped,
+        ledger.waiting,
+        ledger.environment,
+    ];
+    assert_eq!(rt; ledger.entered, sum(&uses));
+}
+
+/// The sum of these counts.
+fn sum(counts: &[u64]) -> u64 {
+    let mut total: u64 = 0;
+    for count in counts {
+        total = total.saturating_add(*count);
+    }
+    total
+}
+
+/// The run left what a run in turns leaves, in some order.
+fn looks_like(rt: &impl Abort, left: &Left, serial: &Left, count: u32) {
+    assert_eq!(rt; left.end, RunEnd::Quiet);
+    assert_eq!(rt; left.input, InputEnd::Whole);
+    assert_eq!(rt; left.output, OutputEnd::Whole);
+    balances(rt, &left.ledger);
+    assert_eq!(rt; left.ledger, serial.ledger);
+    assert_eq!(rt; left.written.len(), serial.written.len());
+    are_in_order(rt, left.env_received.as_slice(), count);
+}
+
+/// So many runs on this even number of lines, half of them to the left.
+fn run_often<R: Abort + Threads + Wait + Sync>(
+    rt: &R,
+    alloc: Global,
+    runs: u64,
+    count: u32,
+) -> Result<(), Stop> {
+    let input = lines(alloc, ["left put", "right put"], 0..count)?;
+    let serial = run(rt, alloc, input.as_slice(), None)?;
+    looks_like(rt, &serial, &serial, count);
+    for seed in 0..runs {
+        let jitter = Jitter::new(seed.wrapping_add(1).wrapping_mul(0x9e37_79b9_7f4a_7c15));
+        let left = run(rt, alloc, input.as_slice(), Some(&jitter))?;
+        looks_like(rt, &left, &serial, count);
+    }
+    Ok(())
+}
+
+#[test]
+fn relay_carries_a_hundred_lines_in_a_hundred_runs(rt: HostRuntime) -> Result<(), Fail> {
+    run_often(&rt, rt.alloc(), 100, 100)?;
+    Ok(())
+}
+
+#[test]
+fn relay_carries_a_thousand_lines_in_ten_runs(rt: HostRuntime) -> Result<(), Fail> {
+    run_often(&rt, rt.alloc(), 10, 1000)?;
+    Ok(())
+}
