@@ -136,6 +136,7 @@ impl Work for Agent {
         _structure: &Structure,
         routes: &Routes,
         _pick: u32,
+        _may_ask: bool,
     ) -> Stepped {
         let put = self.task.put_next(rt, &mut self.ends);
         if put == Stepped::Memory {
@@ -143,6 +144,10 @@ impl Work for Agent {
         }
         let taken = self.task.take_next(rt, &mut self.ends, routes);
         if taken == Stepped::Idle { put } else { taken }
+    }
+
+    fn asks_outside(&self) -> bool {
+        false
     }
 
     fn is_spent(&self) -> bool {

@@ -138,6 +138,25 @@ module _ (s : Structure) (rows : List TableRow) (worker : ℕ) where
       })
       (no_readings s rows worker old new (inl (refl, ap (λ (w : EnvWorking). w.ended) h.same, ap (λ (w : EnvWorking). w.reading) h.same)))
 
+  -- a step that only receives
+  sends_still : (w : EnvWorking) (ends : WorkerEnds) → IsEnvSound s rows worker w → SendsApart s rows worker w ends w ends
+  sends_still w ends sound =
+      sends_of s rows worker w ends [] [] w ends
+      (record {
+        putting = record { takes = refl; puts = λ t. sym (append-nil (put_at ends t)) };
+        received = refl;
+        output = refl;
+        went = sym (append-nil w.outgoing);
+        outputs = sym (append-nil w.put);
+        sound = sound;
+      })
+      (no_readings s rows worker w w (inl (refl, refl, refl)))
+
+  pub works_receiving : (result : Result Bool Refused) (old : EnvWorking) (before : WorkerEnds) (new : EnvWorking) (is : Option Item) (after : WorkerEnds)
+      → ReceivesApart s rows worker old before result new is after → IsEnvSound s rows worker old → EnvWorksApart s rows worker old None before new is after
+  works_receiving result old before new is after receives sound =
+      works_of result old before old before new is after (sends_still old before sound) (receiving result old before new is after receives)
+
   sends_any : (result : Result Bool Refused) (old : EnvWorking) (before : WorkerEnds) (new : EnvWorking) (after : WorkerEnds) → SendsTo s rows worker old before result new after → IsEnvSound s rows worker old
       → SendsApart s rows worker old before new after
   sends_any (Ok true) old before new after h sound = h.0

@@ -6,6 +6,7 @@ use Rattle.sdl_routes.specs.declared.route.TableRow.{TableRow}
 use Rattle.sdl_routes.specs.declared.route.Station.{Station}
 use Rattle.sdl_ends.specs.Ends.{WorkerEnds, put_at, taken_by}
 use Rattle.sdl_hand.specs.declared.hand.Refused.{Refused}
+use Rattle.sdl_hand.specs.declared.hand.Stepped.{Stepped}
 use Rattle.sdl_hand.specs.Puts.{answer_of}
 use Rattle.sdl_hand.specs.Work.{beginning_at}
 use Rattle.sdl_outcome.specs.declared.environment_output.EnvOut.{EnvOut}
@@ -72,3 +73,8 @@ ReceivesApart structure routes worker old before (Err _) new is after =
 
 abbrev pub EnvStepsToApart : Structure → List TableRow → ℕ → EnvWorking → Option Item → WorkerEnds → Result Bool Refused → EnvWorking → Option Item → WorkerEnds → Type 0
 EnvStepsToApart structure routes worker old was before result new is after = EnvStepsApart structure routes worker old was before (answer_of result) new is after
+
+-- A step that reads nothing: what it did, by its answer.
+abbrev pub TakesOne : Structure → List TableRow → ℕ → EnvWorking → WorkerEnds → Stepped → EnvWorking → Option Item → WorkerEnds → Type 0
+TakesOne structure routes worker old before answer new is after =
+    (result : Result Bool Refused) × (answer ≡ answer_of result) × ReceivesApart structure routes worker old before result new is after

@@ -1,6 +1,7 @@
 //! The environment's step where each queue has ends of its own.
-ghost use Rattle.std.specs.Prelude.{◌≡◌, ◌≢◌, ℕ, List, [], Option, Some, None, IfOk};
+ghost use Rattle.std.specs.Prelude.{◌≡◌, ◌≢◌, ℕ, List, [], true, false, Option, Some, None, IfOk};
 ghost use Rattle.sdl_signal.specs.declared.values.Item.{Item};
+ghost use Rattle.sdl_signal.specs.Source.{HoldsLine};
 ghost use Rattle.sdl_parts.specs.Structure.{IsStructure};
 ghost use Rattle.sdl_routes.specs.Routes.{AreRoutesOf};
 ghost use Rattle.sdl_ends.specs.Ends.{IsSameEnds};
@@ -10,7 +11,7 @@ ghost use Rattle.sdl_hand.specs.PutsApart.{HaveWaysOut, PutsOutApart};
 ghost use Rattle.sdl_outcome.specs.EnvironmentWork.{IsEnvSound, HasReadSoFar, HasWrittenSoFar};
 ghost use Rattle.sdl_environment.specs.EnvSteps.{ReadsNext};
 ghost use Rattle.sdl_environment.specs.EnvApart.{EnvStepsApart, IsEnvPuttingOut, HasGateWays};
-ghost use Rattle.sdl_environment.specs.EnvPhasesApart.{SendsTo, SentOn, ReceivesApart, EnvStepsToApart};
+ghost use Rattle.sdl_environment.specs.EnvPhasesApart.{SendsTo, SentOn, ReceivesApart, TakesOne, EnvStepsToApart};
 
 use crate::environment::EnvWorker;
 use crate::leaving::may_leave;
@@ -86,6 +87,46 @@ impl EnvApart {
             return Stepped::Memory;
         }
         answer_of(self.try_step(rt, structure, routes, ends, pick, input, output))
+    }
+
+    /// Whether a step waits for no reader: the reading has ended, or a whole line or 321 bytes of one were read ahead.
+    pub fn is_ready(&self) -> bool
+        ensures ready { result ≡ true → self.now.worker.ended ≡ None → self.now.worker.reading.source.ended ≡ None → HoldsLine self.now.worker.reading.source.ahead }
+        ensures asks { result ≡ false → (self.now.worker.ended ≡ None) × (self.now.worker.reading.source.ended ≡ None) }
+    {
+        self.worker.is_ready()
+    }
+
+    /// The part of a step that reads nothing: it takes one item and writes its line. With it, who would wait for the reader can
+    /// first let out what came. Where an item is astray it does nothing. May wait for other threads.
+    pub fn receive<T: Wait, W: Write>(
+        &mut self,
+        rt: &T,
+        structure: &Structure,
+        routes: &Routes,
+        ends: &mut Ends,
+        output: &mut W,
+    ) -> Stepped
+        requires structure { IsStructure structure.now }
+        requires routes { AreRoutesOf structure.now routes.now }
+        requires keeps { IsEnvPuttingOut structure.now routes.now self.old.worker.number self.old.worker self.old.astray ends.old }
+        ensures received { self.old.astray ≡ None → TakesOne structure.now routes.now self.old.worker.number self.old.worker ends.old result self.new.worker self.new.astray ends.new }
+        ensures astray { (i : Item) → self.old.astray ≡ Some i → (result ≡ Memory) × (self.new ≡ self.old) × (ends.new ≡ ends.old) }
+        ensures reading { (start now : Option (List ℕ)) → HasReadSoFar structure.now routes.now self.old.worker.number start now self.old.worker
+            → HasReadSoFar structure.now routes.now self.old.worker.number start now self.new.worker }
+        ensures writing { (start : Option (List ℕ)) → HasWrittenSoFar structure.now routes.now self.old.worker.number start (W.contents output.old) self.old.worker
+            → HasWrittenSoFar structure.now routes.now self.old.worker.number start (W.contents output.new) self.new.worker }
+        ensures keeps { IsEnvPuttingOut structure.now routes.now self.new.worker.number self.new.worker self.new.astray ends.new }
+        ensures number { self.new.worker.number ≡ self.old.worker.number }
+        ensures ends { IsSameEnds ends.old ends.new }
+    {
+        if self.astray.is_none() {
+            let received = self
+                .worker
+                .receive_one_apart(rt, structure, routes, ends, output, &mut self.astray);
+            return answer_of(received);
+        }
+        Stepped::Memory
     }
 
     /// A step with nothing astray, which says whether it did anything.

@@ -1,5 +1,6 @@
 //! The environment at work: it reads lines and outputs their signals, and writes what it receives as lines.
-ghost use Rattle.std.specs.Prelude.{◌≡◌, ◌≢◌, ℕ, List, [], Option, All, IfOk};
+ghost use Rattle.std.specs.Prelude.{◌≡◌, ◌≢◌, ℕ, List, [], true, false, Option, None, All, IfOk};
+ghost use Rattle.sdl_signal.specs.Source.{HoldsLine};
 ghost use Rattle.sdl_signal.specs.declared.values.Item.{Item};
 ghost use Rattle.sdl_parts.specs.Structure.{IsStructure};
 ghost use Rattle.sdl_routes.specs.declared.route.Station.{Station};
@@ -83,6 +84,14 @@ impl EnvWorker {
             sink: LineSink::new(),
             output: OutputEnd::Whole,
         }
+    }
+
+    /// Whether a step waits for no reader.
+    pub(crate) fn is_ready(&self) -> bool
+        ensures ready { result ≡ true → self.now.ended ≡ None → self.now.reading.source.ended ≡ None → HoldsLine self.now.reading.source.ahead }
+        ensures asks { result ≡ false → (self.now.ended ≡ None) × (self.now.reading.source.ended ≡ None) }
+    {
+        self.ended.is_some() || self.reader.is_ready()
     }
 
     /// A step. It puts out what is in hand. Unless its reading has ended, it reads one line and outputs its signal, with the

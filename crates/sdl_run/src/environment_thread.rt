@@ -45,7 +45,25 @@ impl<'i, 'o, I: Read, O: Write> Work for EnvironmentThread<'i, 'o, I, O> {
         structure: &Structure,
         routes: &Routes,
         pick: u32,
+        may_ask: bool,
     ) -> Stepped {
+        if self.environment.is_ready() {
+            return self.environment.step(
+                rt,
+                structure,
+                routes,
+                &mut self.ends,
+                pick,
+                self.input,
+                self.output,
+            );
+        }
+        let received = self
+            .environment
+            .receive(rt, structure, routes, &mut self.ends, self.output);
+        if !may_ask || received != Stepped::Idle {
+            return received;
+        }
         self.environment.step(
             rt,
             structure,
@@ -55,6 +73,10 @@ impl<'i, 'o, I: Read, O: Write> Work for EnvironmentThread<'i, 'o, I, O> {
             self.input,
             self.output,
         )
+    }
+
+    fn asks_outside(&self) -> bool {
+        !self.environment.is_ready()
     }
 
     fn is_spent(&self) -> bool {

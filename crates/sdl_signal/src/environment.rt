@@ -1,6 +1,7 @@
 //! The environment's reading of an input: its lines, read as signals, up to the end, a fault or the limit.
-ghost use Rattle.std.specs.Prelude.{◌≡◌, ℕ, List, [], Option};
+ghost use Rattle.std.specs.Prelude.{◌≡◌, ℕ, true, false, List, [], Option, None};
 ghost use Rattle.sdl_signal.specs.declared.values.EnvLine.{EnvLine};
+ghost use Rattle.sdl_signal.specs.Source.{HoldsLine};
 ghost use Rattle.sdl_signal.specs.Environment.{Counts, EndsItself, GoesOn, HasCarried, IsEnvLine};
 
 use crate::ends::InputEnd;
@@ -50,6 +51,14 @@ impl EnvReader {
             source: LineSource::new(),
             carried: 0,
         }
+    }
+
+    /// Whether the next answer is told without asking the reader.
+    pub fn is_ready(&self) -> bool
+        ensures ready { result ≡ true → self.now.source.ended ≡ None → HoldsLine self.now.source.ahead }
+        ensures asks { result ≡ false → self.now.source.ended ≡ None }
+    {
+        self.source.is_ready()
     }
 
     /// The next line, or how the reading ended. After an end it is called no more.

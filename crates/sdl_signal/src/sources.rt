@@ -1,5 +1,5 @@
 //! The lines of an input.
-ghost use Rattle.std.specs.Prelude.{◌≡◌, ◌≢◌, ◌≤◌, ◌<◌, ◌+◌, ℕ, [], ◌∷◌, ◌++◌, length, take, drop, Some, None, IfSome, IfNone, slice_index};
+ghost use Rattle.std.specs.Prelude.{◌≡◌, ◌≢◌, ◌≤◌, ◌<◌, ◌+◌, ℕ, true, false, [], ◌∷◌, ◌++◌, length, take, drop, Some, None, IfSome, IfNone, slice_index};
 ghost use Rattle.sdl_signal.specs.Bytes.{newline, HasNoNewline};
 ghost use Rattle.sdl_signal.specs.Source.{HoldsLine, IsNextLine, IsWaitingLine, IsLastLine, last_answer, to_come};
 
@@ -71,6 +71,16 @@ impl LineSource {
             Some(Ended::Fault) => LineRead::Fault,
             None => self.next_open(input),
         }
+    }
+
+    /// Whether the next line is told without asking the reader: the input has ended, or a whole line or 321 bytes of one wait.
+    pub fn is_ready(&self) -> bool
+        ensures ready { result ≡ true → self.now.ended ≡ None → HoldsLine self.now.ahead }
+        ensures asks { result ≡ false → (self.now.ended ≡ None) × HasNoNewline self.now.ahead × (length self.now.ahead ≤ 320) }
+    {
+        let waiting = self.ahead.as_slice();
+        let shown = waiting.len().min(LONGEST_LINE + 1);
+        self.ended.is_some() || shown > LONGEST_LINE || newline_place(&waiting[..shown]).is_some()
     }
 
     fn next_open<R: Read>(&mut self, input: &mut R) -> LineRead

@@ -30,10 +30,18 @@ impl<B: Work, F: Work> Work for Kind<B, F> {
         structure: &Structure,
         routes: &Routes,
         pick: u32,
+        may_ask: bool,
     ) -> Stepped {
         match self {
-            Kind::Block(block) => block.step(rt, structure, routes, pick),
-            Kind::Forwarder(forwarder) => forwarder.step(rt, structure, routes, pick),
+            Kind::Block(block) => block.step(rt, structure, routes, pick, may_ask),
+            Kind::Forwarder(forwarder) => forwarder.step(rt, structure, routes, pick, may_ask),
+        }
+    }
+
+    fn asks_outside(&self) -> bool {
+        match self {
+            Kind::Block(block) => block.asks_outside(),
+            Kind::Forwarder(forwarder) => forwarder.asks_outside(),
         }
     }
 

@@ -33,6 +33,15 @@ const NAP_MICROS: u64 = 64;
 
 const DOUBLINGS: u32 = 7;
 
+/// How often a worker that finds nothing to do spins before it first sleeps, each time twice as long.
+const MOST_SPINS: u32 = 4;
+
+/// After how many sleeps, or steps, a worker asks outside the system although the others are not at rest: some never are. That
+/// many sleeps take 80 ms.
+const MOST_NAPS: u32 = 16;
+
+const MOST_LISTENED: u32 = 4_096;
+
 /// What the threads tell each other. These are hints, and no claim rests on them: however they come, a worker comes back with
 /// what its steps keep.
 ///
@@ -64,6 +73,11 @@ impl Told {
     /// Tells all to stop, and wakes those that sleep.
     pub(crate) fn stop(&self) {
         self.stop.store(1, SeqCst);
+        self.wakes_all();
+    }
+
+    /// Wakes those that sleep.
+    fn wakes_all(&self) {
         self.stop.wake_all();
     }
 
@@ -74,6 +88,11 @@ impl Told {
     /// The round in which workers are counted now.
     fn round(&self) -> u64 {
         self.resting.load(SeqCst) >> 32
+    }
+
+    /// Whether all workers but one are at rest in the present round.
+    fn all_but_one_rest(&self) -> bool {
+        (self.resting.load(SeqCst) & COUNT).wrapping_add(1) >= self.workers as u64
     }
 
     /// Begins a round, in which no worker is at rest yet. False where the word changed meanwhile: it is to be tried again.
@@ -130,7 +149,14 @@ struct Idling {
     /// The round in which it counts as at rest.
     counted: Option<u64>,
     pause: Backoff,
+    spins: u32,
     naps: u32,
+    /// The round in which it last slept.
+    slept: u64,
+    /// It has done nothing yet.
+    fresh: bool,
+    /// How many steps it made since it last might ask.
+    listened: u32,
 }
 
 impl Idling {
@@ -139,8 +165,28 @@ impl Idling {
             stirred: true,
             counted: None,
             pause: Backoff::new(),
+            spins: 0,
             naps: 0,
+            slept: 0,
+            fresh: true,
+            listened: 0,
         }
+    }
+
+    /// Whether a worker may ask outside the system now, where it could wait long: not before what it did has come to its end,
+    /// and all that comes of it. So it may where all others are at rest in a round that began after it last did something,
+    /// and where it has waited for that long enough.
+    fn may_ask(&mut self, told: &Told) -> bool {
+        let may = self.fresh
+            || (!self.stirred && told.all_but_one_rest())
+            || self.naps >= MOST_NAPS
+            || self.listened >= MOST_LISTENED;
+        self.listened = if may {
+            0
+        } else {
+            self.listened.saturating_add(1)
+        };
+        may
     }
 
     /// A step did something. Where the worker was at rest, a round begins in which it is not.
@@ -150,23 +196,46 @@ impl Idling {
             self.counted = None;
         }
         self.stirred = true;
+        self.fresh = false;
         self.pause.reset();
+        self.spins = 0;
         self.naps = 0;
     }
 
-    /// A step that began in this round did nothing. The worker comes to rest, and lets the processor go: it spins and yields
-    /// at first, and then sleeps, each time longer than before, up to some milliseconds.
+    /// A step did nothing, as the worker may not ask yet. It begins a round, so that the others come to rest after what it did,
+    /// wakes them, so that they say so soon, and lets the processor go. It is not at rest itself.
+    fn listens<R: Wait>(&mut self, rt: &R, told: &Told, round: u64) {
+        if self.stirred && told.begins_round() {
+            self.stirred = false;
+            told.wakes_all();
+        }
+        self.pauses(rt, told, round);
+    }
+
+    /// A step that began in this round did nothing. The worker comes to rest, and lets the processor go.
     fn rests<R: Wait>(&mut self, rt: &R, told: &Told, round: u64) {
         if self.stirred {
             self.stirred = !told.begins_round();
         } else if self.counted != Some(round) && told.counts_in(round) {
             self.counted = Some(round);
         }
-        if self.pause.is_completed() {
+        self.pauses(rt, told, round);
+    }
+
+    /// Lets the processor go: the worker spins a little, and then sleeps, each time longer than before, up to some milliseconds.
+    /// Where a round has begun since it last slept, others are at work, and it sleeps briefly again. It never yields: on a
+    /// machine with other work, whoever yields is put behind all of it.
+    fn pauses<R: Wait>(&mut self, rt: &R, told: &Told, round: u64) {
+        if self.spins < MOST_SPINS {
+            self.pause.spin();
+            self.spins += 1;
+        } else {
+            if self.slept != round {
+                self.slept = round;
+                self.naps = 0;
+            }
             told.nap(rt, self.naps);
             self.naps = self.naps.saturating_add(1);
-        } else {
-            self.pause.snooze();
         }
     }
 }
@@ -190,10 +259,14 @@ pub(crate) fn drive<W: Work, G: Gate, R: Wait>(
     for _ in rt.forever() {
         gate.before(number, step);
         let round = told.round();
-        let stepped = worker.step(rt, structure, routes, (step % 4_294_967_296) as u32);
+        let asks = worker.asks_outside();
+        let may_ask = !asks || idling.may_ask(told);
+        let pick = (step % 4_294_967_296) as u32;
+        let stepped = worker.step(rt, structure, routes, pick, may_ask);
         step = step.saturating_add(1);
         match stepped {
             Stepped::Did => idling.wakes(told),
+            Stepped::Idle if asks => idling.listens(rt, told, round),
             Stepped::Idle => idling.rests(rt, told, round),
             Stepped::Memory => {
                 told.stop();

@@ -15,17 +15,22 @@ pub trait Work {
 
     ghost same: { Self → Self → Type 0 };
 
-    /// A step. `pick` chooses wherever the worker may choose. May wait for other threads.
+    /// A step. `pick` chooses wherever the worker may choose. Where it may not ask, it waits for nobody outside the system,
+    /// and does what it can without: this is a hint, and no claim rests on it. May wait for other threads.
     fn step<R: Wait>(
         &mut self,
         rt: &R,
         structure: &Structure,
         routes: &Routes,
         pick: u32,
+        may_ask: bool,
     ) -> Stepped
         requires { keeps structure.now routes.now self.old }
         ensures keeps { keeps structure.now routes.now self.new }
         ensures same { same self.old self.new };
+
+    /// Whether its next step would ask somebody outside the system, and could wait for him long. It is a hint.
+    fn asks_outside(&self) -> bool;
 
     /// Whether it has made as many turns as it may. It is a hint, after which all workers are told to stop: no claim rests on
     /// it.

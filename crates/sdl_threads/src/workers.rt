@@ -42,12 +42,17 @@ impl Work for ForwarderThread {
         _structure: &Structure,
         routes: &Routes,
         _pick: u32,
+        _may_ask: bool,
     ) -> Stepped {
         match self.forwarder.step(rt, routes, &mut self.ends) {
             Forwarded::Moved => Stepped::Did,
             Forwarded::Idle => Stepped::Idle,
             Forwarded::Held => Stepped::Memory,
         }
+    }
+
+    fn asks_outside(&self) -> bool {
+        false
     }
 
     fn is_spent(&self) -> bool {
@@ -84,8 +89,13 @@ impl<S: Agents, K: Keeps> Work for BlockThread<S, K> {
         _structure: &Structure,
         routes: &Routes,
         pick: u32,
+        _may_ask: bool,
     ) -> Stepped {
         self.block.step(rt, routes, &mut self.ends, pick)
+    }
+
+    fn asks_outside(&self) -> bool {
+        false
     }
 
     fn is_spent(&self) -> bool {

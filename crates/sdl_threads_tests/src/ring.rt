@@ -65,6 +65,7 @@ impl Work for Passer {
         _structure: &Structure,
         _routes: &Routes,
         _pick: u32,
+        _may_ask: bool,
     ) -> Stepped {
         let hops = self.ring.take(self.place);
         if hops == 0 {
@@ -74,6 +75,10 @@ impl Work for Passer {
         self.ring.put(next, hops - 1);
         self.passed = self.passed.saturating_add(1);
         Stepped::Did
+    }
+
+    fn asks_outside(&self) -> bool {
+        false
     }
 
     fn is_spent(&self) -> bool {

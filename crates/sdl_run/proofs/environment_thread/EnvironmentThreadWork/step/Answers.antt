@@ -1,10 +1,25 @@
-use Rattle.sdl_run.proofs.Environments.{puts_out, goes_over}
+use Rattle.sdl_run.specs.Environment.{KeepsEnvironment}
+use Rattle.sdl_run.proofs.Environments.{goes_over}
 use Rattle.sdl_run.proofs.environment_thread.EnvironmentThreadWork.step.Goals as goal
 
-pub returns-clause-keeps : goal.returns-clause-keeps
-returns-clause-keeps g c =
+pub returns-then-is_ready-clause-keeps : goal.returns-then-is_ready-clause-keeps
+returns-then-is_ready-clause-keeps g c =
     goes_over c.args.structure.now c.args.routes.now c.args.self.now.environment.worker c.args.self.now.environment.astray c.args.self.now.ends _ _ _ _ c.requires
     c.step.new.self.worker c.step.new.self.astray c.step.new.ends _ _ c.step.ensures.number c.step.ensures.keeps c.step.ensures.reading c.step.ensures.writing
 
-pub step-requires-clause-keeps : goal.step-requires-clause-keeps
-step-requires-clause-keeps g c = puts_out c.args.structure.now c.args.routes.now c.args.self.now.environment.worker c.args.self.now.environment.astray c.args.self.now.ends _ _ _ _ c.requires
+pub returns-then-not-may_ask-clause-keeps : goal.returns-then-not-may_ask-clause-keeps
+returns-then-not-may_ask-clause-keeps g c =
+    let taken = c.receive-received in
+    goes_over c.args.structure.now c.args.routes.now c.args.self.now.environment.worker c.args.self.now.environment.astray c.args.self.now.ends _ _ _ _ c.requires
+    taken.new.self.worker taken.new.self.astray taken.new.ends _ _ taken.ensures.number taken.ensures.keeps (λ start. taken.ensures.reading start _) taken.ensures.writing
+
+pub returns-clause-keeps : goal.returns-clause-keeps
+returns-clause-keeps g c =
+    let s = c.args.structure.now in
+    let rows = c.args.routes.now in
+    let taken = c.receive-received in
+    let kept =
+    goes_over s rows c.args.self.now.environment.worker c.args.self.now.environment.astray c.args.self.now.ends _ (g.I.Read.remaining c.args.self.now.input.now) _ _ c.requires
+    taken.new.self.worker taken.new.self.astray taken.new.ends (g.I.Read.remaining c.args.self.now.input.now) (g.O.Write.contents taken.new.output) taken.ensures.number taken.ensures.keeps (λ start. taken.ensures.reading start _) taken.ensures.writing in
+    goes_over s rows taken.new.self.worker taken.new.self.astray taken.new.ends _ _ _ _ kept
+    c.step-2.new.self.worker c.step-2.new.self.astray c.step-2.new.ends _ _ c.step-2.ensures.number c.step-2.ensures.keeps c.step-2.ensures.reading c.step-2.ensures.writing
