@@ -1,4 +1,4 @@
 pub use Rattle.sdl_graph_binding.specs as sdl_graph_binding
-pub use Rattle.sdl_program.specs as sdl_program
-pub use Rattle.sdl_program.specs.Running
+pub use Rattle.sdl_file_commands.specs as sdl_file_commands
+pub use Rattle.sdl_file_commands.specs.Running
 pub mod Outcomes

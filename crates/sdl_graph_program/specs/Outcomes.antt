@@ -2,9 +2,9 @@
 use Rattle.std.specs.Prelude.{◌≡◌, ℕ, ◌⊎◌, List}
 use Rattle.sdl_graph_binding.specs.sdl_parts.Structure.{Structure}
 use Rattle.sdl_graph_binding.specs.sdl_routes.declared.route.TableRow.{TableRow}
-use Rattle.sdl_program.specs.Commands.{HasPrinted}
-use Rattle.sdl_program.specs.Files.{Declares}
-use Rattle.sdl_program.specs.Outcomes.{HasRun}
+use Rattle.sdl_file_commands.specs.Commands.{HasPrinted}
+use Rattle.sdl_file_commands.specs.Files.{Declares}
+use Rattle.sdl_file_commands.specs.Outcomes.{HasRun}
 
 -- The structure was run to an end, and the status tells how; or it tells that an answer of the run broke its offer.
 abbrev pub HasRunGraph : Structure → List TableRow → ℕ → Type 0

@@ -1,20 +1,21 @@
 //! The commands of a graph's program up to a run.
 ghost use Rattle.std.specs.Prelude.{◌≡◌, ◌≢◌, ℕ, List, IfOk, IfErr, IsErr};
 ghost use Rattle.std.specs.Io.KnownBytes.{Keeps};
-ghost use Rattle.sdl_program.specs.Commands.{IsDone};
-ghost use Rattle.sdl_program.specs.Files.{Declares};
-ghost use Rattle.sdl_program.specs.Running.{CanRun};
+ghost use Rattle.sdl_file_commands.specs.Commands.{IsDone};
+ghost use Rattle.sdl_file_commands.specs.Files.{Declares};
+ghost use Rattle.sdl_file_commands.specs.Outcomes.{HasRun};
+ghost use Rattle.sdl_file_commands.specs.Running.{CanRun};
 ghost use Rattle.sdl_graph_program.specs.Outcomes.{IsDoneAtOnce, IsToldOf};
 
+use sdl_file_commands::commands::{checked_file, routes_command, routes_in, write_check, written};
+use sdl_file_commands::files::{FileRead, read_file};
+use sdl_file_commands::sdl_command::arguments::{Arguments, Command, Options, read_arguments};
+use sdl_file_commands::sdl_command::errors::{without_memory, write_error};
+use sdl_file_commands::sdl_command::status::{REFUSED, WRONG_ARGUMENTS};
+use sdl_file_commands::sdl_structure::FileFault;
+use sdl_file_commands::words::{words_behind_the_name, words_of};
 use sdl_graph_binding::sdl_parts::Checked;
 use sdl_graph_binding::sdl_routes::Routes;
-use sdl_program::files::{FileRead, read_file};
-use sdl_program::program::{words_behind_the_name, words_of};
-use sdl_program::sdl_command::arguments::{Arguments, Command, Options, read_arguments};
-use sdl_program::sdl_command::errors::{without_memory, write_error};
-use sdl_program::sdl_command::status::{REFUSED, WRONG_ARGUMENTS};
-use sdl_program::sdl_structure::FileFault;
-use sdl_program::systems::{checked_file, routes_command, routes_in, write_check, written};
 use std::alloc::{AllocError, Global};
 use std::io::Write;
 use std::rt::{Env, Files};
@@ -31,7 +32,7 @@ pub struct Prepared {
 
 /// Carries out `check` or `routes` on the bytes of a structure file, and answers the exit status; for `run` the run that
 /// is asked for, where the file and its structure keep all rules, and else the status of a refusal.
-#[tactic(auto, unfolding(sdl_program::specs::Running::CanRun))]
+#[tactic(auto, unfolding(sdl_file_commands::specs::Running::CanRun))]
 pub fn prepare_file<W: Write, E: Write>(
     alloc: Global,
     file: &[u8],
@@ -43,7 +44,7 @@ pub fn prepare_file<W: Write, E: Write>(
     ensures declared { IfOk result (λ p. Declares file.now p.checked) }
     ensures asked { IfOk result (λ p. p.options ≡ options) }
     // Only a run is prepared, and a run that is not is refused.
-    ensures done { options.command ≢ Command.Run → IfErr result (IsDone options.command file.now) }
+    ensures done { options.command ≢ Command.Run → IfErr result (IsDone HasRun options.command file.now) }
     ensures run { options.command ≡ Command.Run → IfErr result (λ status. status ≡ 1) }
     ensures others { options.command ≢ Command.Run → IsErr result }
     ensures told { IfErr result (IsToldOf file.now) }

@@ -1,7 +1,7 @@
 //! The texts of the faults of a graph.
+use sdl_file_commands::faults::write_bind_fault;
+use sdl_file_commands::sdl_command::errors::{without_memory, write_error};
 use sdl_graph_binding::{Design, GraphFault};
-use sdl_program::faults::write_bind_fault;
-use sdl_program::sdl_command::errors::{without_memory, write_error};
 use std::io::Write;
 
 /// Writes why a graph does not run, as one line. A line that is not taken is dropped.

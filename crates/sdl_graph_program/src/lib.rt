@@ -9,6 +9,10 @@ pub mod runs;
 pub use commands::{Prepared, prepare, prepare_file};
 pub use faults::write_graph_fault;
 pub use runs::{BROKEN, refused, run_prepared};
+pub use sdl_file_commands;
+pub use sdl_file_commands::sdl_command::errors::without_memory;
+pub use sdl_file_commands::sdl_command::status::REFUSED;
+pub use sdl_file_commands::streams::{Input, Output};
 pub use sdl_graph_binding;
 pub use sdl_graph_binding::sdl_behaviour::{Dest, Frame, Kind, Offer, Run, Step, Via};
 pub use sdl_graph_binding::sdl_conformance::copied_offer;
@@ -22,6 +26,3 @@ pub use sdl_graph_binding::sdl_signal::{
 pub use sdl_graph_binding::{
     Design, GraphFault, SetDesign, Stored, Use, ending_offer, marked_answer,
 };
-pub use sdl_program;
-pub use sdl_program::program::{REFUSED, without_memory};
-pub use sdl_program::streams::{Input, Output};

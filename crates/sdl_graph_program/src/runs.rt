@@ -1,17 +1,17 @@
 //! The command `run` of a graph's program, once its transitions are stored.
 ghost use Rattle.std.specs.Prelude.{◌≡◌, ◌⊎◌, MatchOption};
 ghost use Rattle.sdl_graph_binding.specs.sdl_transition.Bound.{IsBound, structure_of, routes_of};
-ghost use Rattle.sdl_program.specs.Running.{CanRun, HasBudget};
+ghost use Rattle.sdl_file_commands.specs.Running.{CanRun, HasBudget};
 ghost use Rattle.sdl_graph_program.specs.Outcomes.{HasRunGraphOrNot};
 
 use crate::commands::Prepared;
 use crate::faults::write_graph_fault;
+use sdl_file_commands::in_threads::run_bound_in_threads;
+use sdl_file_commands::running::Settings;
+use sdl_file_commands::sdl_command::errors::write_error;
+use sdl_file_commands::sdl_command::status::REFUSED;
 use sdl_graph_binding::sdl_transition::Bound;
 use sdl_graph_binding::{Broken, Design, GraphAgents, GraphFault, Marks, Stored, bind_graph};
-use sdl_program::in_threads::run_bound_in_threads;
-use sdl_program::running::Settings;
-use sdl_program::sdl_command::errors::write_error;
-use sdl_program::sdl_command::status::REFUSED;
 use std::alloc::Global;
 use std::io::{Read, Write};
 use std::sync::Wait;
@@ -31,7 +31,7 @@ pub fn refused<E: Write>(errors: &mut E, design: &Design, fault: GraphFault) -> 
 /// Binds the stored transitions to the structure and runs the agents, and answers the exit status: the first refusal, or how
 /// the run ended. Where a transition broke its offer, a line of standard error names the first, with the number of
 /// answers that broke theirs. The logs are stored where a trace was asked for, and else counted alone.
-#[tactic(auto, unfolding(sdl_program::specs::Running::CanRun))]
+#[tactic(auto, unfolding(sdl_file_commands::specs::Running::CanRun))]
 pub fn run_prepared<G: Send, T: Threads + Wait + Sync, R: Read, W: Write, E: Write>(
     rt: &T,
     alloc: Global,

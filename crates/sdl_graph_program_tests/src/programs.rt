@@ -4,7 +4,7 @@ ghost use Rattle.sdl_graph_program.specs.Running.{CanRun};
 
 use super::echo::{DESIGN, SET, run_echo, run_mute};
 use sdl_examples::ECHO;
-use sdl_graph_program::sdl_program::arguments::{Command, Options};
+use sdl_graph_program::sdl_file_commands::sdl_command::arguments::{Command, Options};
 use sdl_graph_program::{BROKEN, Design, Prepared, SetDesign, prepare_file};
 use std::alloc::Global;
 use std::test::Fail;

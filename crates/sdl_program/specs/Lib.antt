@@ -1,6 +1,2 @@
-pub use Rattle.sdl_command.specs as sdl_command
-pub use Rattle.sdl_run.specs as sdl_run
-pub mod Running
-pub mod Files
-pub mod Outcomes
+pub use Rattle.sdl_file_commands.specs as sdl_file_commands
 pub mod Commands

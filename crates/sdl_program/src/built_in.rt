@@ -1,16 +1,16 @@
 //! The built-in systems: the behaviours of each are made, bound to the structure and run.
 ghost use Rattle.std.specs.Prelude.{IfOk};
 ghost use Rattle.std.specs.List.{AllByRecursion};
-ghost use Rattle.sdl_program.specs.Outcomes.{HasRunOrNot};
-ghost use Rattle.sdl_program.specs.Running.{CanRun};
-ghost use Rattle.sdl_run.specs.sdl_transition.Transitions.{IsAllowedBehaviour};
+ghost use Rattle.sdl_file_commands.specs.Outcomes.{HasRunOrNot};
+ghost use Rattle.sdl_file_commands.specs.Running.{CanRun};
+ghost use Rattle.sdl_file_commands.specs.sdl_run.sdl_transition.Transitions.{IsAllowedBehaviour};
 
-use crate::faults::write_bind_fault;
-use crate::in_threads::run_bound_in_threads;
 use crate::running::Job;
 use sdl_agents::{System, echo_behaviours, relay_behaviours, ring_behaviours, spawn_behaviours};
-use sdl_command::status::REFUSED;
-use sdl_run::sdl_transition::{Agents, Behaviour, bind};
+use sdl_file_commands::faults::write_bind_fault;
+use sdl_file_commands::in_threads::run_bound_in_threads;
+use sdl_file_commands::sdl_command::status::REFUSED;
+use sdl_file_commands::sdl_run::sdl_transition::{Agents, Behaviour, bind};
 use std::alloc::AllocError;
 use std::io::{Read, Write};
 use std::sync::Wait;
@@ -87,7 +87,7 @@ fn run_ring<T: Threads + Wait + Sync, R: Read, W: Write, E: Write>(
     Ok(run_behaviours(rt, job, behaviours))
 }
 
-#[tactic(auto, unfolding(crate::specs::Running::CanRun))]
+#[tactic(auto, unfolding(sdl_file_commands::specs::Running::CanRun))]
 /// Binds the behaviours to the structure and runs the system, and answers the exit status.
 fn run_behaviours<S: Agents + Send + Drop, T: Threads + Wait + Sync, R: Read, W: Write, E: Write>(
     rt: &T,

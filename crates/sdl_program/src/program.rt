@@ -1,20 +1,21 @@
 //! What the program does, over any reader and writers, and its exit statuses.
 ghost use Rattle.std.specs.Prelude.{◌≡◌, ◌≢◌, ◌⊎◌, List, ℕ, map, IfOk, IsErr};
 ghost use Rattle.std.specs.Io.KnownBytes.{Keeps};
-ghost use Rattle.sdl_command.specs.Arguments.{arguments_of};
-ghost use Rattle.sdl_program.specs.Commands.{Answers, IsAnswered, IsDone, IsUntouched};
+ghost use Rattle.sdl_file_commands.specs.sdl_command.Arguments.{arguments_of};
+ghost use Rattle.sdl_file_commands.specs.Commands.{IsDone};
+ghost use Rattle.sdl_program.specs.Commands.{Answers, HasRunBuiltIn, IsAnswered, IsUntouched};
 
-use crate::files::{FileRead, read_file};
 use crate::systems::run_file;
-use sdl_command::arguments::{Arguments, Command, Options, read_arguments};
-pub use sdl_command::errors::without_memory;
-use sdl_command::errors::write_error;
-pub use sdl_command::pipe::pipe_command;
-pub use sdl_command::status::{FAULTY, REFUSED, WHOLE, WRONG_ARGUMENTS};
-use sdl_structure::FileFault;
+use sdl_file_commands::files::{FileRead, read_file};
+use sdl_file_commands::sdl_command::arguments::{Arguments, Command, Options, read_arguments};
+pub use sdl_file_commands::sdl_command::errors::without_memory;
+use sdl_file_commands::sdl_command::errors::write_error;
+pub use sdl_file_commands::sdl_command::pipe::pipe_command;
+pub use sdl_file_commands::sdl_command::status::{FAULTY, REFUSED, WHOLE, WRONG_ARGUMENTS};
+use sdl_file_commands::sdl_structure::FileFault;
+use sdl_file_commands::words::{words_behind_the_name, words_of};
 use std::alloc::{AllocError, Global};
-use std::env;
-use std::io::{ErrorKind, Read, Write};
+use std::io::{Read, Write};
 use std::rt::{Env, Files};
 use std::sync::Wait;
 use std::thread::Threads;
@@ -81,27 +82,6 @@ fn run_words<H: Files + Threads + Wait + Sync, R: Read, W: Write, E: Write>(
     }
 }
 
-/// The words after the first.
-pub fn words_behind_the_name(alloc: Global, words: &[String]) -> Result<Vec<&str>, AllocError> {
-    let mut shown = Vec::new(alloc);
-    for word in words.iter().skip(1) {
-        shown.push(word.as_str())?;
-    }
-    Ok(shown)
-}
-
-/// The program's name and the words after it, and None where one of them is not UTF-8.
-pub fn words_of<H: Env + AllocGlobal>(
-    rt: &H,
-    alloc: Global,
-) -> Result<Option<Vec<String>>, AllocError> {
-    match env::args(rt) {
-        Ok(words) => Ok(Some(words.collect(alloc)?)),
-        Err(e) if e.kind() == ErrorKind::OutOfMemory => Err(AllocError),
-        Err(_) => Ok(None),
-    }
-}
-
 fn wrong_arguments<E: Write>(errors: &mut E) -> u8
     ensures { result ≡ 2 }
 {
@@ -126,7 +106,7 @@ fn file_command<H: Files + Threads + Wait + Sync, R: Read, W: Write, E: Write>(
     output: &mut W,
     errors: &mut E,
 ) -> u8
-    ensures done { (file : List ℕ) × IsDone options.command file result }
+    ensures done { (file : List ℕ) × IsDone HasRunBuiltIn options.command file result }
     ensures unread { options.command ≢ Command.Run → input.new ≡ input.old }
 {
     match read_file(rt, alloc, path) {

@@ -2,7 +2,7 @@
 use super::bytes::{Bytes, writer_of};
 use sdl_examples::{ECHO, RELAY};
 use sdl_program::arguments::{Command, Options};
-use sdl_program::running::Settings;
+use sdl_program::sdl_file_commands::running::Settings;
 use sdl_program::systems::carry_out;
 use std::alloc::Global;
 use std::sync::Wait;

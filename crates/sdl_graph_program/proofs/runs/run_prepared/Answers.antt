@@ -1,5 +1,5 @@
 use Rattle.std.proofs.Common.{sym, subst}
-use Rattle.sdl_program.specs.Running.{CanRun, HasBudget}
+use Rattle.sdl_file_commands.specs.Running.{CanRun, HasBudget}
 use Rattle.sdl_graph_program.proofs.runs.run_prepared.Goals as goal
 
 pub run_marked-requires-clause-budget : goal.run_marked-requires-clause-budget

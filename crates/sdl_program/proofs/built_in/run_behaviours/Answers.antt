@@ -1,6 +1,6 @@
 use Rattle.std.proofs.Common.{sym, subst}
 use Rattle.std.proofs.lemmas.List.Elements.{All-from_recursion}
-use Rattle.sdl_program.specs.Running.{CanRun, HasBudget}
+use Rattle.sdl_file_commands.specs.Running.{CanRun, HasBudget}
 use Rattle.sdl_program.proofs.built_in.run_behaviours.Goals as goal
 
 pub bind-requires-clause-allowed : goal.bind-requires-clause-allowed

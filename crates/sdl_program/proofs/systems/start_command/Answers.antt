@@ -1,4 +1,4 @@
-use Rattle.sdl_program.specs.Running.{CanRun}
+use Rattle.sdl_file_commands.specs.Running.{CanRun}
 use Rattle.sdl_program.proofs.systems.start_command.Goals as goal
 
 pub run_command-requires-after_bounds : goal.run_command-requires-after_bounds

@@ -2,7 +2,7 @@
 ghost use Rattle.std.specs.Prelude.{◌≡◌, false, IsOk};
 ghost use Rattle.std.specs.Io.KnownBytes.{Keeps};
 ghost use Rattle.sdl_command.specs.Status.{HasFlushed};
-ghost use Rattle.sdl_program.specs.Outcomes.{status_of_end, IsToldBy};
+ghost use Rattle.sdl_file_commands.specs.Outcomes.{status_of_end, IsToldBy};
 
 use crate::ledger::write_ledger;
 use crate::names::block_name;

@@ -12,7 +12,7 @@ use Rattle.sdl_run.specs.sdl_outcome.Outcome.{Outcome}
 use Rattle.sdl_run.specs.sdl_ledger.declared.ledger.Ledger.{Ledger}
 use Rattle.sdl_run.specs.sdl_driver.Closings.{StopsByMemory}
 use Rattle.sdl_run.specs.sdl_driver.Ended.{HasEnded}
-use Rattle.sdl_program.specs.Outcomes.{HasRun, IsToldBy, plan_with}
+use Rattle.sdl_file_commands.specs.Outcomes.{HasRun, IsToldBy, plan_with}
 
 has_run : (may : ℕ → Frame → Step → Type 0) (s : Structure) (routes : List TableRow) (rules : List (List Rules)) (o : Outcome) (end : RunEnd) (ledger : Ledger) (read : InputEnd) (written : OutputEnd) (status : ℕ)
     → HasEnded may (plan_with s routes rules) o end ledger → StopsByMemory read end → IsToldBy read written end status → HasRun s routes status

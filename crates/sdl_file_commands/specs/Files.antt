@@ -4,8 +4,8 @@ use Rattle.toml.specs.Parse.{parse_document}
 use Rattle.sdl_structure.specs.File.{IsFileOf}
 use Rattle.sdl_run.specs.sdl_parts.Structure.{Structure}
 use Rattle.sdl_run.specs.sdl_parts.Rules.{IsWellFormed}
-use Rattle.sdl_program.specs.declared.files.FileRead.{FileRead}
-use Rattle.sdl_program.specs.declared.files.FileRead.TheVariants as file
+use Rattle.sdl_file_commands.specs.declared.files.FileRead.{FileRead}
+use Rattle.sdl_file_commands.specs.declared.files.FileRead.TheVariants as file
 
 -- the most bytes of a structure file
 abbrev pub longest_file : ℕ

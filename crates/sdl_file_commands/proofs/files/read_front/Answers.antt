@@ -1,6 +1,6 @@
 use Rattle.std.proofs.Common.{rules}
-use Rattle.sdl_program.proofs.Fronts.{front_read}
-use Rattle.sdl_program.proofs.files.read_front.Goals as goal
+use Rattle.sdl_file_commands.proofs.Fronts.{front_read}
+use Rattle.sdl_file_commands.proofs.files.read_front.Goals as goal
 
 pub returns-in-Ok : goal.returns-in-Ok
 returns-in-Ok g c =

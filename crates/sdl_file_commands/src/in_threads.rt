@@ -1,7 +1,7 @@
 //! A run of a bound system in threads.
 ghost use Rattle.std.specs.Prelude.{◌≡◌};
-ghost use Rattle.sdl_program.specs.Outcomes.{HasRunOrNot};
-ghost use Rattle.sdl_program.specs.Running.{HasBudget};
+ghost use Rattle.sdl_file_commands.specs.Outcomes.{HasRunOrNot};
+ghost use Rattle.sdl_file_commands.specs.Running.{HasBudget};
 ghost use Rattle.sdl_run.specs.sdl_transition.Bound.{IsBound, structure_of, routes_of};
 
 use crate::closing::report_closing;
