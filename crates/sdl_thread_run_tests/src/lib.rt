@@ -6,6 +6,8 @@ mod counted;
 #[cfg(test)]
 mod gates;
 #[cfg(test)]
+mod logs;
+#[cfg(test)]
 mod many;
 #[cfg(test)]
 mod plan;

@@ -6,6 +6,7 @@ use sdl_run::{Ledger, RunEnd};
 use sdl_signal::{InputEnd, Item, Origin, OutputEnd, Value};
 use sdl_test_systems::Stop;
 use std::alloc::Global;
+use std::ops::Range;
 use std::process::Abort;
 use std::sync::atomic::AtomicU64;
 use std::sync::{Arc, Wait};
@@ -87,20 +88,22 @@ fn looks_like(rt: &impl Abort, left: &Left, serial: &Left, count: u32) {
     balances(rt, &left.ledger);
     assert_eq!(rt; left.ledger, serial.ledger);
     assert_eq!(rt; left.written.len(), serial.written.len());
+    assert_eq!(rt; (left.runs, left.runs_of_others), (2, 0));
+    assert_eq!(rt; left.events, serial.events);
     are_in_order(rt, left.env_received.as_slice(), count);
 }
 
-/// So many runs on this even number of lines, half of them to the left.
+/// A run for each of these seeds, on this even number of lines, half of them to the left.
 fn run_often<R: Abort + Threads + Wait + Sync>(
     rt: &R,
     alloc: Global,
-    runs: u64,
+    seeds: Range<u64>,
     count: u32,
 ) -> Result<(), Stop> {
     let input = lines(alloc, ["left put", "right put"], 0..count)?;
     let serial = run(rt, alloc, input.as_slice(), None)?;
     looks_like(rt, &serial, &serial, count);
-    for seed in 0..runs {
+    for seed in seeds {
         let jitter = Jitter::new(seed.wrapping_add(1).wrapping_mul(0x9e37_79b9_7f4a_7c15));
         let left = run(rt, alloc, input.as_slice(), Some(&jitter))?;
         looks_like(rt, &left, &serial, count);
@@ -110,12 +113,30 @@ fn run_often<R: Abort + Threads + Wait + Sync>(
 
 #[test]
 fn relay_carries_a_hundred_lines_in_a_hundred_runs(rt: HostRuntime) -> Result<(), Fail> {
-    run_often(&rt, rt.alloc(), 100, 100)?;
+    run_often(&rt, rt.alloc(), 0..100, 100)?;
     Ok(())
 }
 
 #[test]
-fn relay_carries_a_thousand_lines_in_ten_runs(rt: HostRuntime) -> Result<(), Fail> {
-    run_often(&rt, rt.alloc(), 10, 1000)?;
+fn relay_carries_a_thousand_lines_in_250_runs(rt: HostRuntime) -> Result<(), Fail> {
+    run_often(&rt, rt.alloc(), 0..250, 1000)?;
+    Ok(())
+}
+
+#[test]
+fn relay_carries_a_thousand_lines_in_250_more(rt: HostRuntime) -> Result<(), Fail> {
+    run_often(&rt, rt.alloc(), 250..500, 1000)?;
+    Ok(())
+}
+
+#[test]
+fn relay_carries_a_thousand_lines_in_a_third_250(rt: HostRuntime) -> Result<(), Fail> {
+    run_often(&rt, rt.alloc(), 500..750, 1000)?;
+    Ok(())
+}
+
+#[test]
+fn relay_carries_a_thousand_lines_in_the_last_250(rt: HostRuntime) -> Result<(), Fail> {
+    run_often(&rt, rt.alloc(), 750..1000, 1000)?;
     Ok(())
 }

@@ -2,6 +2,7 @@
 ghost use Rattle.std.specs.List.{AllByRecursion};
 ghost use Rattle.sdl_transition.specs.Transitions.{IsAllowedBehaviour};
 
+use crate::logs::is_run;
 use sdl_run::{Closing, Gate, Ledger, RunEnd, StartFault, run_serial, run_threads};
 use sdl_signal::{InputEnd, Item, OutputEnd};
 use sdl_test_systems::{Stop, bind_to};
@@ -24,6 +25,10 @@ pub struct Left {
     pub input: InputEnd,
     pub output: OutputEnd,
     pub written: Vec<u8>,
+    /// How many events the logs have, how many logs are a run of their block, and how many one of the block behind it.
+    pub events: usize,
+    pub runs: usize,
+    pub runs_of_others: usize,
 }
 
 /// A line for each of these numbers: an even one behind the first head, an odd one behind the second.
@@ -57,16 +62,20 @@ pub fn run_behaviours<S: Agents + Send + Drop, T: Threads + Wait + Sync, G: Gate
         None => run_serial(alloc, bound, BUDGET, &[], &mut input, &mut written),
     };
     match ran {
-        Ok(closing) => Ok(left_by(closing, written)),
+        Ok(closing) => left_by(alloc, closing, written),
         Err(StartFault::Memory(_)) => Err(Stop::Memory),
     }
 }
 
 /// What is left, without the system.
-fn left_by<S: Agents + Drop>(closing: Closing<S>, written: Vec<u8>) -> Left {
+fn left_by<S: Agents + Drop>(
+    alloc: Global,
+    closing: Closing<S>,
+    written: Vec<u8>,
+) -> Result<Left, Stop> {
     let Closing {
         bound: _,
-        logs: _,
+        logs,
         env_put: _,
         env_received,
         hands: _,
@@ -76,12 +85,29 @@ fn left_by<S: Agents + Drop>(closing: Closing<S>, written: Vec<u8>) -> Left {
         input,
         output,
     } = closing;
-    Left {
+    let mut events: usize = 0;
+    let mut runs: usize = 0;
+    let mut runs_of_others: usize = 0;
+    let mut block: u32 = 0;
+    for log in &logs {
+        events = events.saturating_add(log.len());
+        if is_run(alloc, block, log.as_slice())? {
+            runs = runs.saturating_add(1);
+        }
+        if is_run(alloc, block.wrapping_add(1), log.as_slice())? {
+            runs_of_others = runs_of_others.saturating_add(1);
+        }
+        block = block.wrapping_add(1);
+    }
+    Ok(Left {
         env_received,
         ledger,
         end,
         input,
         output,
         written,
-    }
+        events,
+        runs,
+        runs_of_others,
+    })
 }
