@@ -4,7 +4,7 @@ use Rattle.std.proofs.lemmas.Bool.{cond-true, cond-false, cases_Bool, false≢tr
 use Rattle.std.proofs.lemmas.List.{length-map}
 use Rattle.std.proofs.lemmas.Option.{none-some, same_Some, slice_get_read, slice_get_within}
 use Rattle.sdl_routes.specs.declared.route.Station.{Station}
-use Rattle.sdl_queue.specs.Ends.{FeedEnd, IsSameFeed}
+use Rattle.sdl_queue.specs.Ends.{Opening, FeedEnd, IsSameFeed}
 use Rattle.sdl_ends.specs.declared.index.Index.{Index}
 use Rattle.sdl_ends.specs.Stations.{same_station, stations_of}
 use Rattle.sdl_ends.specs.Ends.{WorkerEnds, HasFeed, feed_at, feed_mark}
@@ -106,7 +106,7 @@ module _ (s : Station) where
   marks_set [] k f g at same = refl
   marks_set (p ∷ ps) zero f g at same =
       subst (λ (x : Place). feed_mark (s, g) ∷ map feed_mark (feeds_held ps) ≡ map feed_mark (with_feed x.0 x.1 (feeds_held ps))) (sym (same_Some p (s, Some f) at))
-      (ap (λ (o : ℕ × ℕ). (s, (o, g.number)) ∷ map feed_mark (feeds_held ps)) same.0 ∙ ap (λ (n : ℕ). (s, (f.opening, n)) ∷ map feed_mark (feeds_held ps)) same.1)
+      (ap (λ (o : Opening). (s, (o, g.number)) ∷ map feed_mark (feeds_held ps)) same.0 ∙ ap (λ (n : ℕ). (s, (f.opening, n)) ∷ map feed_mark (feeds_held ps)) same.1)
   marks_set (p ∷ ps) (suc k) f g at same = behind p.1 (marks_set ps k f g at same)
     where
       behind : (x : Option FeedEnd) → map feed_mark (feeds_held (slice_set ps k (s, Some g))) ≡ map feed_mark (feeds_held ps)

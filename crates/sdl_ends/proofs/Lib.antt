@@ -5,3 +5,4 @@ pub mod Held
 pub mod Feeds
 pub mod Shelves
 pub mod Rejoins
+pub mod Flushed

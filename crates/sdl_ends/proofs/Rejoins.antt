@@ -5,7 +5,8 @@ use Rattle.std.specs.List.{AllByRecursion, remove}
 use Rattle.sdl_routes.specs.declared.route.Station.{Station}
 use Rattle.sdl_routes.specs.Routes.{EachOnce}
 use Rattle.sdl_queue.specs.declared.rest.Rest.{Rest}
-use Rattle.sdl_queue.specs.Ends.{FeedEnd, put_of, AreAllEnds}
+use Rattle.sdl_queue.specs.Rest.{AreRejoinedAs}
+use Rattle.sdl_queue.specs.Ends.{FeedEnd, AreAllEnds}
 use Rattle.sdl_ends.specs.Stations.{stations_of}
 use Rattle.sdl_ends.specs.Ends.{WorkerEnds, column, taps, IsWholeAt, AreAllEndsOf, IsRejoinedAt, AreRejoined}
 use Rattle.sdl_ends.specs.declared.shelf.Slot.{Slot}
@@ -23,7 +24,7 @@ stations_more [] r = refl
 stations_more (x ∷ rests) r = ap (λ ss. x.0 ∷ ss) (stations_more rests r)
 
 pub rejoined_as : (all now : List WorkerEnds) (s : Station) (r : Rest) → column s now ≡ column s all → taps s now ≡ taps s all → IsRejoinedAt now s r → IsRejoinedAt all s r
-rejoined_as all now s r c t (a, u, is, one, feeders, puts, taken, line) = (a, u, is, sym t ∙ one, feeders, puts ∙ ap (map put_of) c, taken, line)
+rejoined_as all now s r c t (u, one, h) = (u, sym t ∙ one, subst (λ (fs : List FeedEnd). AreRejoinedAs fs u r) c h)
 
 pub whole_as : (all now : List WorkerEnds) (s : Station) → column s now ≡ column s all → taps s now ≡ taps s all → IsWholeAt s all → IsWholeAt s now
 whole_as all now s c t (u, one, h) = (u, t ∙ one, subst (λ (fs : List FeedEnd). AreAllEnds fs u) (sym c) h)

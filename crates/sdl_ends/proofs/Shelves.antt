@@ -6,9 +6,9 @@ use Rattle.std.proofs.lemmas.List.{append_assoc, append-nil, length-append}
 use Rattle.std.specs.Option.{option_to_list}
 use Rattle.std.specs.List.{flat_map}
 use Rattle.sdl_routes.specs.declared.route.Station.{Station}
-use Rattle.sdl_queue.specs.declared.rest.Rest.TheVariants.{Ruled}
-use Rattle.sdl_queue.specs.DelayLine.{IsDelayLine}
-use Rattle.sdl_queue.specs.Ends.{FeedEnd, TapEnd, Account, put_of, AreAllEnds}
+use Rattle.sdl_queue.specs.declared.rest.Rest.{Rest}
+use Rattle.sdl_queue.specs.Rest.{AreRejoinedAs}
+use Rattle.sdl_queue.specs.Ends.{FeedEnd, TapEnd, AreAllEnds}
 use Rattle.sdl_ends.specs.Stations.{same_station}
 use Rattle.sdl_ends.proofs.Same.{same_station_is, other_station}
 use Rattle.sdl_ends.specs.Ends.{WorkerEnds, feed_at, tap_at, column, taps, IsRejoinedAt}
@@ -167,8 +167,8 @@ module _ (s : Station) (old : List WorkerEnds) (k : ℕ) (past : length old ≤ 
       let same : t ≡ u = same_Some t u (sym (tap_all o t f one) ∙ h) in
       subst (λ (xs : List FeedEnd). AreAllEnds xs u) (sym (column_all fs e)) (subst (AreAllEnds (column s old)) same all)
 
-  pub rejoined : (fs : List FeedEnd) (t u : TapEnd) (o : Option TapEnd) (a : Account) → fs ≡ column s (take k old) → o ≡ latest (taps s (take k old)) → o ≡ Some u → taps s old ≡ t ∷ []
-      → (a.feeders ≡ u.feeders) × (a.puts ≡ map put_of fs) × (a.taken ≡ u.taken) → IsDelayLine a.feeders a.puts a.taken a.left → IsRejoinedAt old s (Ruled a)
-  rejoined fs t u o a e f h one is line =
+  pub rejoined : (fs : List FeedEnd) (t u : TapEnd) (o : Option TapEnd) (r : Rest) → fs ≡ column s (take k old) → o ≡ latest (taps s (take k old)) → o ≡ Some u → taps s old ≡ t ∷ []
+      → AreRejoinedAs fs u r → IsRejoinedAt old s r
+  rejoined fs t u o r e f h one is =
       let same : u ≡ t = sym (same_Some t u (sym (tap_all o t f one) ∙ h)) in
-      (a, t, refl, one, is.0 ∙ ap (λ (x : TapEnd). x.feeders) same, is.1 ∙ ap (map put_of) (column_all fs e), is.2 ∙ ap (λ (x : TapEnd). x.taken) same, line)
+      (t, one, subst (λ (xs : List FeedEnd). AreRejoinedAs xs t r) (column_all fs e) (subst (λ (x : TapEnd). AreRejoinedAs fs x r) same is))

@@ -6,9 +6,8 @@ use Rattle.std.specs.List.{flat_map, AllByRecursion}
 use Rattle.sdl_signal.specs.declared.values.Item.{Item}
 use Rattle.sdl_routes.specs.declared.route.Station.{Station}
 use Rattle.sdl_queue.specs.declared.rest.Rest.{Rest}
-use Rattle.sdl_queue.specs.declared.rest.Rest.TheVariants.{Ruled}
-use Rattle.sdl_queue.specs.DelayLine.{IsDelayLine}
-use Rattle.sdl_queue.specs.Ends.{Opening, FeedEnd, TapEnd, Account, items_of, put_of, AreAllEnds}
+use Rattle.sdl_queue.specs.Rest.{AreRejoinedAs}
+use Rattle.sdl_queue.specs.Ends.{Opening, FeedEnd, TapEnd, items_of, AreAllEnds}
 use Rattle.sdl_ends.specs.Stations.{same_station, stations_of}
 
 -- the ends of a worker, as contracts see them
@@ -36,6 +35,10 @@ number_at e s = option_map (λ (f : FeedEnd). f.number) (feed_at e.feeds s)
 -- what was taken, in order
 abbrev pub taken_by : WorkerEnds → List Item
 taken_by e = elim e.tap [ None ↦ [] | Some t ↦ items_of t.1.taken ]
+
+-- nothing of what was put still waits for room in a ring
+abbrev pub HasNoBacklog : WorkerEnds → Type 0
+HasNoBacklog e = AllByRecursion (λ (f : Station × FeedEnd). f.1.backlog ≡ []) e.feeds
 
 -- the stations that it puts at
 abbrev pub fed_by : WorkerEnds → List Station
@@ -75,11 +78,9 @@ IsWholeAt s all = (t : TapEnd) × (taps s all ≡ t ∷ []) × AreAllEnds (colum
 abbrev pub AreAllEndsOf : List Station → List WorkerEnds → Type 0
 AreAllEndsOf stations all = AllByRecursion (λ (s : Station). IsWholeAt s all) stations
 
--- the queue of a station whose ends have come back: what each feed put, what the tap took, and what is left
+-- the queue or the ring of a station whose ends have come back: what each feed put, what the tap took, and what is left
 abbrev pub IsRejoinedAt : List WorkerEnds → Station → Rest → Type 0
-IsRejoinedAt all s rest =
-    (a : Account) × (t : TapEnd) × (rest ≡ Ruled a) × (taps s all ≡ t ∷ []) × (a.feeders ≡ t.feeders) × (a.puts ≡ map put_of (column s all)) × (a.taken ≡ t.taken)
-    × IsDelayLine a.feeders a.puts a.taken a.left
+IsRejoinedAt all s rest = (t : TapEnd) × (taps s all ≡ t ∷ []) × AreRejoinedAs (column s all) t rest
 
 -- there is one for each of the stations, in order
 abbrev pub AreRejoined : List WorkerEnds → List Station → List (Station × Rest) → Type 0

@@ -4,3 +4,5 @@ pub mod Ways
 pub mod Index
 pub mod Held
 pub mod Shelves
+pub mod Flushed
+pub mod Marks

@@ -1,13 +1,17 @@
 //! The ends of one worker.
-ghost use Rattle.std.specs.Prelude.{◌≡◌, ◌≢◌, ◌↔◌, [], ◌∷◌, ◌++◌, None, Some, map, IfOk, IsTrue, MatchOption, MatchResult};
+ghost use Rattle.std.specs.Prelude.{◌≡◌, ◌≢◌, ◌↔◌, ◌<◌, [], ◌∷◌, ◌++◌, None, Some, map, IfOk, IsTrue, MatchOption, MatchResult};
 ghost use Rattle.sdl_routes.specs.declared.route.Station.{Station};
 ghost use Rattle.sdl_routes.specs.Routes.{EachOnce};
 ghost use Rattle.sdl_ends.specs.Stations.{stations_of};
-ghost use Rattle.sdl_ends.specs.Ends.{put_at, taken_by, HasFeed, IsSameEnds};
+ghost use Rattle.sdl_ends.specs.Ends.{put_at, taken_by, HasFeed, HasNoBacklog, IsSameEnds};
+ghost use Rattle.std.specs.List.{AllByRecursion};
 ghost use Rattle.sdl_ends.specs.Held.{filled};
+ghost use Rattle.sdl_ends.specs.Marks.{mark};
+ghost use Rattle.sdl_ends.specs.Flushed.{IsFlushed, IsClear, IsClearAt, AreFlushed};
 
 use crate::Index;
-use sdl_queue::{Feed, Tap};
+use crate::marks::{Marks, mark_of};
+use sdl_queue::{AnyFeed, AnyTap};
 use sdl_routes::Station;
 use sdl_signal::Item;
 use std::alloc::{AllocError, Global};
@@ -17,10 +21,14 @@ use std::sync::Wait;
 /// The ends of one worker: the tap of the station that it takes from, and a feed for each station that it puts at.
 #[derive(Drop)]
 pub struct Ends {
-    pub(crate) tap: Option<(Station, Tap)>,
+    pub(crate) tap: Option<(Station, AnyTap)>,
     /// `None` where the feed was given back.
-    pub(crate) feeds: Vec<(Station, Option<Feed>)>,
+    pub(crate) feeds: Vec<(Station, Option<AnyFeed>)>,
     pub(crate) index: Index,
+    /// The marks of the stations where it put something lately. No claim rests on it, nor on the next.
+    pub(crate) touched: Marks,
+    /// The last flush left no backlog.
+    pub(crate) flushed: bool,
 }
 
 impl Model for Ends {
@@ -40,15 +48,21 @@ impl Ends {
     /// The ends of one worker: its tap, and its feeds, at most one for each station.
     pub fn new(
         alloc: Global,
-        tap: Option<(Station, Tap)>,
-        feeds: Vec<(Station, Feed)>,
+        tap: Option<(Station, AnyTap)>,
+        feeds: Vec<(Station, AnyFeed)>,
     ) -> Result<Ends, AllocError>
         requires { EachOnce (stations_of feeds.items) }
         ensures { IfOk result (λ e. e ≡ record { tap = tap; feeds = feeds.items }) }
     {
         let index = Index::of(alloc, feeds.as_slice())?;
         let feeds = places_of(alloc, feeds)?;
-        Ok(Ends { tap, feeds, index })
+        Ok(Ends {
+            tap,
+            feeds,
+            index,
+            touched: Marks::none(),
+            flushed: true,
+        })
     }
 
     /// Takes the item at the front of the worker's station. `None` where it was empty at some moment of the call, and for a
@@ -89,18 +103,73 @@ impl Ends {
         let Some(place) = self.index.get(station) else {
             unreachable!()
         };
+        self.touched.add(mark_of(station));
         match &mut self.feeds[place].1 {
             Some(feed) => feed.put(rt, item),
             None => unreachable!(),
         }
+    }
+
+    /// Moves what fits from the backlogs of its rings into these, and says whether no backlog is left. Takes no memory. What was
+    /// touched is counted from here on, unless something waited for room before.
+    pub fn flush(&mut self) -> bool
+        ensures put { (s : Station) → put_at self.new s ≡ put_at self.old s }
+        ensures tap { self.new.tap ≡ self.old.tap }
+        ensures empty { IsTrue result ↔ HasNoBacklog self.new }
+        ensures same { IsSameEnds self.old self.new }
+    {
+        self.touched = self.touched.kept_if(!self.flushed);
+        let empty = flush_all(&mut self.feeds);
+        self.flushed = empty;
+        empty
+    }
+
+    /// The marks of the stations where something came to lie since the last flush, or by it: while a backlog is left, all those
+    /// since it began. It is a hint: no claim rests on it.
+    pub fn touched(&self) -> Marks {
+        self.touched
+    }
+
+    /// The mark of the station that the worker takes from.
+    pub fn tap_mark(&self) -> Option<u32>
+        ensures { MatchOption self.now.tap (result ≡ None) (λ t. result ≡ Some (mark t.0)) }
+    {
+        match &self.tap {
+            Some((station, _)) => Some(mark_of(*station)),
+            None => None,
+        }
+    }
+}
+
+/// Flushes each of these feeds, and says whether no backlog is left.
+#[tactic(auto, using(crate::proofs::Flushed::all_clear))]
+fn flush_all(feeds: &mut Vec<(Station, Option<AnyFeed>)>) -> bool
+    ensures flushed { AreFlushed feeds.old.items feeds.new.items }
+    ensures empty { IsTrue result ↔ AllByRecursion IsClearAt feeds.new.items }
+{
+    let mut empty = true;
+    for place in 0..feeds.len() {
+        empty &= flush_one(&mut feeds[place].1);
+    }
+    empty
+}
+
+/// Flushes the feed, where there is one, and says whether no backlog is left.
+fn flush_one(feed: &mut Option<AnyFeed>) -> bool
+    ensures flushed { IsFlushed feed.old feed.new }
+    ensures empty { IsTrue result ↔ IsClear feed.new }
+{
+    match feed {
+        Some(feed) => feed.flush(),
+        None => true,
     }
 }
 
 /// A place for each of the feeds, with the feed.
 fn places_of(
     alloc: Global,
-    feeds: Vec<(Station, Feed)>,
-) -> Result<Vec<(Station, Option<Feed>)>, AllocError>
+    feeds: Vec<(Station, AnyFeed)>,
+) -> Result<Vec<(Station, Option<AnyFeed>)>, AllocError>
     ensures { IfOk result (λ places. places.items ≡ map filled feeds.items) }
 {
     let mut places = Vec::with_capacity(alloc, feeds.len())?;

@@ -3,8 +3,10 @@
 
 pub mod ends;
 pub mod index;
+pub mod marks;
 pub mod shelf;
 
 pub use ends::Ends;
 pub use index::Index;
+pub use marks::{FREE_MARK, MARKS, Marks, mark_of};
 pub use shelf::{Shelf, ends_rejoin};

@@ -4,12 +4,11 @@ ghost use Rattle.std.specs.Prelude.{◌≡◌, ◌≢◌, ℕ, ◌+◌, ◌<◌,
 ghost use Rattle.std.specs.List.{AllByRecursion};
 ghost use Rattle.sdl_routes.specs.declared.route.Station.{Station};
 ghost use Rattle.sdl_routes.specs.Routes.{EachOnce};
-ghost use Rattle.sdl_queue.specs.declared.rest.Rest.TheVariants.{Ruled};
 ghost use Rattle.sdl_ends.specs.Ends.{WorkerEnds, feed_at, tap_at, column, taps, IsWholeAt, AreAllEndsOf, IsRejoinedAt, AreRejoined};
 ghost use Rattle.sdl_ends.specs.Shelves.{drop_feed, drop_tap, without, later_of};
 
 use crate::Ends;
-use sdl_queue::{Feed, Rejoined, Rest, Tap, rejoin};
+use sdl_queue::{AnyFeed, AnyTap, Rest, any_rejoin};
 use sdl_routes::Station;
 use std::alloc::{AllocError, Global};
 use std::marker::Model;
@@ -19,7 +18,7 @@ use std::sync::Wait;
 #[derive(Drop)]
 pub struct Slot {
     pub(crate) station: Station,
-    pub(crate) feeds: Vec<Feed>,
+    pub(crate) feeds: Vec<AnyFeed>,
 }
 
 /// Room for all queues once their ends come back. Contracts see the stations, each with the number of feeds that there is room
@@ -67,7 +66,7 @@ impl Shelf {
 
 impl Ends {
     /// Gives the feed of this station back.
-    fn give_feed(&mut self, station: Station) -> Option<Feed>
+    fn give_feed(&mut self, station: Station) -> Option<AnyFeed>
         ensures feed { result ≡ feed_at self.old.feeds station }
         ensures rest { self.new ≡ record { tap = self.old.tap; feeds = drop_feed station self.old.feeds } }
     {
@@ -76,7 +75,7 @@ impl Ends {
     }
 
     /// Gives the tap back, where it is of this station.
-    fn give_tap(&mut self, station: Station) -> Option<Tap>
+    fn give_tap(&mut self, station: Station) -> Option<AnyTap>
         ensures tap { result ≡ tap_at self.old.tap station }
         ensures rest { self.new ≡ record { tap = drop_tap station self.old.tap; feeds = self.old.feeds } }
     {
@@ -126,7 +125,7 @@ fn put_given<T: Drop>(list: &mut Vec<T>, given: Option<T>)
 }
 
 /// Takes the ends of this station from one worker.
-fn collect(one: &mut Ends, station: Station, feeds: &mut Vec<Feed>, tap: &mut Option<Tap>)
+fn collect(one: &mut Ends, station: Station, feeds: &mut Vec<AnyFeed>, tap: &mut Option<AnyTap>)
     requires { vec_len feeds.old + length (option_to_list (feed_at one.old.feeds station)) ≤ vec_capacity feeds.old }
     ensures feeds { feeds.new.items ≡ feeds.old.items ++ option_to_list (feed_at one.old.feeds station) }
     ensures tap { tap.new ≡ later_of tap.old (tap_at one.old.tap station) }
@@ -140,11 +139,11 @@ fn collect(one: &mut Ends, station: Station, feeds: &mut Vec<Feed>, tap: &mut Op
 }
 
 /// Takes the ends of this station from all workers, and puts its queue together again.
-fn rejoin_at<R: Wait>(rt: &R, ends: &mut Vec<Ends>, slot: Slot) -> Rejoined
+fn rejoin_at<R: Wait>(rt: &R, ends: &mut Vec<Ends>, slot: Slot) -> Rest
     requires empty { slot.feeds.items ≡ [] }
     requires whole { IsWholeAt slot.station ends.old.items }
     requires room { length (column slot.station ends.old.items) ≤ vec_capacity slot.feeds }
-    ensures rejoined { IsRejoinedAt ends.old.items slot.station (Ruled result) }
+    ensures rejoined { IsRejoinedAt ends.old.items slot.station result }
     ensures others { ends.new.items ≡ map (without slot.station) ends.old.items }
 {
     let Slot { station, feeds } = slot;
@@ -154,7 +153,7 @@ fn rejoin_at<R: Wait>(rt: &R, ends: &mut Vec<Ends>, slot: Slot) -> Rejoined
         collect(&mut ends[number], station, &mut feeds, &mut tap);
     }
     let Some(tap) = tap else { unreachable!() };
-    rejoin(rt, feeds, tap)
+    any_rejoin(rt, feeds, tap)
 }
 
 /// Puts the queues of all stations together again, in order. Takes no memory. May wait for other threads.
@@ -171,8 +170,8 @@ pub fn ends_rejoin<R: Wait>(rt: &R, ends: Vec<Ends>, shelf: Shelf) -> Vec<(Stati
     while slots.len() > 0 {
         let slot = take_first(&mut slots);
         let station = slot.station;
-        let rejoined = rejoin_at(rt, &mut ends, slot);
-        put_last(&mut rests, (station, Rest::Ruled(rejoined)));
+        let rest = rejoin_at(rt, &mut ends, slot);
+        put_last(&mut rests, (station, rest));
     }
     rests
 }

@@ -18,7 +18,7 @@ use sdl_parts::Structure;
 use sdl_queue::Rest;
 use sdl_routes::{Routes, Station};
 use sdl_test_systems::{Stop, routes_of};
-use sdl_threads::{ForwarderThread, Kind, OpenGate, Returned, run_all};
+use sdl_threads::{ForwarderThread, Kind, OpenGate, Returned, Team, run_all};
 use std::alloc::Global;
 use std::sync::Wait;
 use std::thread::Threads;
@@ -127,9 +127,15 @@ fn run_crew<R: Threads + Wait + Sync>(
         ends: Ends::new(alloc, None, Vec::new(alloc))?,
         task: Task::rest(alloc),
     };
-    let number = crew.len() as u32;
+    let number_of_environment = crew.len() as u32;
     let done = Vec::with_capacity(alloc, crew.len())?;
-    let (back, _) = run_all(rt, crew, nobody, number, done, structure, routes, &OpenGate);
+    let team = Team {
+        workers: crew,
+        environment: nobody,
+        number_of_environment,
+        done,
+    };
+    let (back, _) = run_all(rt, team, structure, routes, &OpenGate);
     Ok(back)
 }
 

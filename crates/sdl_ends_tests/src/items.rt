@@ -1,5 +1,5 @@
 //! Items that their routes and origins tell from others, and stations of Relay.
-use sdl_queue::{Rest, SerialQueue};
+use sdl_queue::{Rest, RingRejoined, SerialQueue};
 use sdl_routes::{Hop, Station};
 use sdl_signal::{ChannelId, Item, Origin, RouteId};
 use sdl_test_systems::Stop;
@@ -47,12 +47,25 @@ pub fn left_of<R: Wait>(rt: &R, rest: Rest) -> Result<SerialQueue, Stop> {
     let rejoined = match rest {
         Rest::Serial(queue) => return Ok(queue),
         Rest::Ruled(rejoined) => rejoined,
+        Rest::Ring(ring) => return left_of_ring(ring),
     };
     let again = match rejoined.into_serial(rt) {
         Ok(queue) => return Ok(queue),
         Err((rejoined, _)) => rejoined,
     };
     match again.into_serial(rt) {
+        Ok(queue) => Ok(queue),
+        Err((_, error)) => Err(error.into()),
+    }
+}
+
+/// What is left of a ring. Where memory was refused, it is asked for once more.
+fn left_of_ring(ring: RingRejoined) -> Result<SerialQueue, Stop> {
+    let again = match ring.into_serial() {
+        Ok(queue) => return Ok(queue),
+        Err((ring, _)) => ring,
+    };
+    match again.into_serial() {
         Ok(queue) => Ok(queue),
         Err((_, error)) => Err(error.into()),
     }

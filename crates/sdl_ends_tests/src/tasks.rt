@@ -2,7 +2,7 @@
 ghost use Rattle.sdl_ends.specs.Ends.{IsSameEnds};
 
 use super::items::{Mark, item_of, line, mark_of, onward};
-use sdl_ends::Ends;
+use sdl_ends::{Ends, Marks};
 use sdl_parts::Structure;
 use sdl_routes::{Routes, Station};
 use sdl_signal::{Item, RouteId};
@@ -130,6 +130,10 @@ impl Work for Agent {
 
     ghost and_then = { λ u v w p q. record { feeds = q.feeds ∙ p.feeds; tap = q.tap ∙ p.tap } };
 
+    fn flush(&mut self) -> bool {
+        self.ends.flush()
+    }
+
     fn step<R: Wait>(
         &mut self,
         rt: &R,
@@ -148,6 +152,14 @@ impl Work for Agent {
 
     fn asks_outside(&self) -> bool {
         false
+    }
+
+    fn mark(&self) -> Option<u32> {
+        self.ends.tap_mark()
+    }
+
+    fn touched(&self) -> Marks {
+        self.ends.touched()
     }
 
     fn is_spent(&self) -> bool {

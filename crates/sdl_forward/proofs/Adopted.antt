@@ -6,11 +6,10 @@ use Rattle.std.proofs.lemmas.Option.{same_Some, slice_get_within}
 use Rattle.sdl_signal.specs.declared.values.Item.{Item}
 use Rattle.sdl_routes.specs.declared.route.Station.{Station}
 use Rattle.sdl_queue.specs.declared.rest.Rest.{Rest}
-use Rattle.sdl_queue.specs.declared.rest.Rest.TheVariants.{Serial, Ruled}
-use Rattle.sdl_queue.specs.Ends.{Account}
+use Rattle.sdl_queue.specs.declared.rest.Rest.TheVariants.{Serial, Ruled, Ring}
 use Rattle.sdl_queue.specs.Rest.{left_in}
 use Rattle.sdl_forward.specs.Boards.{stations_of, lists_of}
-use Rattle.sdl_forward.specs.Serials.{AreSerial, IsFirstRuled}
+use Rattle.sdl_forward.specs.Serials.{AreSerial, IsFirstRuled, IsApart}
 use Rattle.sdl_forward.proofs.Entries.{get_here, get_other, set_same, stations-lists, stations_get, lists_get, lists_set, contained_at}
 
 -- an element put at the place at which one was removed
@@ -52,13 +51,18 @@ pub same_length : (old new : List (Station × Rest)) → lists_of new ≡ lists_
 same_length old new same = sym (length-map new (λ r. (r.0, left_in r.1))) ∙ (ap length same ∙ length-map old (λ r. (r.0, left_in r.1)))
 
 -- the queue that was refused memory
-pub refused_here : (old now : List (Station × Rest)) (n : ℕ) (s : Station) (account : Account) → lists_of now ≡ lists_of old → slice_get now n ≡ Some (s, Ruled account) → Contains (stations_of old) s
-refused_here old now n s account same at = subst (λ (ss : List Station). Contains ss s) (same_stations old now same) (contained_at (stations_of now) s n (stations_get now n (s, Ruled account) at))
+pub refused_here : (old now : List (Station × Rest)) (n : ℕ) (s : Station) (apart : Rest) → lists_of now ≡ lists_of old → slice_get now n ≡ Some (s, apart) → Contains (stations_of old) s
+refused_here old now n s apart same at = subst (λ (ss : List Station). Contains ss s) (same_stations old now same) (contained_at (stations_of now) s n (stations_get now n (s, apart) at))
 
-pub first_ruled : (rests : List (Station × Rest)) (n : ℕ) (s : Station) (account : Account) → AreSerialBefore n rests → slice_get rests n ≡ Some (s, Ruled account) → IsFirstRuled rests s
-first_ruled [] n s account before at = let e : ◌≡◌ {A = Option (Station × Rest)} None (Some (s, Ruled account)) = at in cc
-first_ruled (r ∷ rests) zero s account before at = subst (λ (x : Station × Rest). IsFirstRuled (x ∷ rests) s) (sym (same_Some r (s, Ruled account) at)) refl
-first_ruled (r ∷ rests) (suc n) s account before at =
+first_here : (rests : List (Station × Rest)) (s : Station) (apart : Rest) → IsApart apart → IsFirstRuled ((s, apart) ∷ rests) s
+first_here rests s (Serial queue) h = absurd h
+first_here rests s (Ruled account) h = refl
+first_here rests s (Ring account) h = refl
+
+pub first_ruled : (rests : List (Station × Rest)) (n : ℕ) (s : Station) (apart : Rest) → AreSerialBefore n rests → IsApart apart → slice_get rests n ≡ Some (s, apart) → IsFirstRuled rests s
+first_ruled [] n s apart before h at = let e : ◌≡◌ {A = Option (Station × Rest)} None (Some (s, apart)) = at in cc
+first_ruled (r ∷ rests) zero s apart before h at = subst (λ (x : Station × Rest). IsFirstRuled (x ∷ rests) s) (sym (same_Some r (s, apart) at)) (first_here rests s apart h)
+first_ruled (r ∷ rests) (suc n) s apart before h at =
     let serial = before zero r (omega arith) refl in
     subst (λ (x : Rest). IsFirstRuled ((r.0, x) ∷ rests) s) (sym serial.1)
-    (first_ruled rests n s account (λ k e less there. before (suc k) e (omega arith) there) at)
+    (first_ruled rests n s apart (λ k e less there. before (suc k) e (omega arith) there) h at)

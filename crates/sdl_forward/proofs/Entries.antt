@@ -9,7 +9,7 @@ use Rattle.sdl_routes.specs.declared.route.Station.{Station}
 use Rattle.sdl_routes.specs.Routes.{EachOnce}
 use Rattle.sdl_ends.proofs.Places.{one_at}
 use Rattle.sdl_queue.specs.declared.rest.Rest.{Rest}
-use Rattle.sdl_queue.specs.declared.rest.Rest.TheVariants.{Serial, Ruled}
+use Rattle.sdl_queue.specs.declared.rest.Rest.TheVariants.{Serial, Ruled, Ring}
 use Rattle.sdl_queue.specs.Ends.{Account}
 use Rattle.sdl_queue.specs.Rest.{left_in}
 use Rattle.sdl_forward.specs.Boards.{same_station, stations_of, waiting, lists_of, ChangesOnly}
@@ -119,6 +119,9 @@ serial_set (x ∷ rests) (suc k) s queue serial (suc j) e at = serial_set rests 
 
 pub not_ruled : (rests : List (Station × Rest)) (k : ℕ) (e : Station × Rest) (account : Account) → AreSerial rests → slice_get rests k ≡ Some e → e.1 ≡ Ruled account → ⊥
 not_ruled rests k e account serial at is = let f : Ruled account ≡ Serial (serial k e at).0 = sym is ∙ (serial k e at).1 in cc
+
+pub not_ring : (rests : List (Station × Rest)) (k : ℕ) (e : Station × Rest) (account : _) → AreSerial rests → slice_get rests k ≡ Some e → e.1 ≡ Ring account → ⊥
+not_ring rests k e account serial at is = let f : Ring account ≡ Serial (serial k e at).0 = sym is ∙ (serial k e at).1 in cc
 
 pub entry_here : (rests : List (Station × Rest)) (s : Station) (k : ℕ) (e : Station × Rest) → slice_get (stations_of rests) k ≡ Some s
     → e ≡ slice_index_or rests k e → slice_get rests k ≡ Some e

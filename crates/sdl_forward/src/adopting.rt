@@ -4,14 +4,13 @@ ghost use Rattle.std.specs.List.{insert};
 ghost use Rattle.sdl_routes.specs.declared.route.Station.{Station};
 ghost use Rattle.sdl_routes.specs.Routes.{EachOnce};
 ghost use Rattle.sdl_queue.specs.declared.rest.Rest.{Rest};
-ghost use Rattle.sdl_queue.specs.declared.rest.Rest.TheVariants.{Serial, Ruled};
-ghost use Rattle.sdl_queue.specs.Ends.{Account};
+ghost use Rattle.sdl_queue.specs.declared.rest.Rest.TheVariants.{Serial};
 ghost use Rattle.sdl_queue.specs.Rest.{left_in};
 ghost use Rattle.sdl_forward.specs.Boards.{stations_of, lists_of};
-ghost use Rattle.sdl_forward.specs.Serials.{IsFirstRuled};
+ghost use Rattle.sdl_forward.specs.Serials.{IsFirstRuled, IsApart};
 
 use crate::Board;
-use sdl_queue::{Rejoined, Rest, SerialQueue};
+use sdl_queue::{Rest, SerialQueue};
 use sdl_routes::Station;
 use std::sync::Wait;
 
@@ -48,7 +47,7 @@ fn make_serial<R: Wait>(
     requires { place < length rests.old.items }
     ensures { MatchResult result
         (λ _. (old : Station × Rest) × (slice_get rests.old.items place ≡ Some old) × (rests.new.items ≡ slice_set rests.old.items place (old.0, Serial (left_in old.1))))
-        (λ station. (account : Account) × (slice_get rests.old.items place ≡ Some (station, Ruled account)) × (rests.new.items ≡ rests.old.items)) }
+        (λ station. (apart : Rest) × IsApart apart × (slice_get rests.old.items place ≡ Some (station, apart)) × (rests.new.items ≡ rests.old.items)) }
 {
     let (station, rest) = rests.remove(place);
     match into_serial(rt, rest) {
@@ -56,22 +55,26 @@ fn make_serial<R: Wait>(
             put_back(rests, place, (station, Rest::Serial(queue)));
             Ok(())
         }
-        Err(rejoined) => {
-            put_back(rests, place, (station, Rest::Ruled(rejoined)));
+        Err(apart) => {
+            put_back(rests, place, (station, apart));
             Err(station)
         }
     }
 }
 
 /// The items that are left in a queue of one thread. `Err` hands the queue back where memory was refused.
-fn into_serial<R: Wait>(rt: &R, rest: Rest) -> Result<SerialQueue, Rejoined>
-    ensures { MatchResult result (λ queue. queue ≡ left_in rest) (λ back. rest ≡ Ruled back) }
+fn into_serial<R: Wait>(rt: &R, rest: Rest) -> Result<SerialQueue, Rest>
+    ensures { MatchResult result (λ queue. queue ≡ left_in rest) (λ back. (back ≡ rest) × IsApart rest) }
 {
     match rest {
         Rest::Serial(queue) => Ok(queue),
         Rest::Ruled(rejoined) => match rejoined.into_serial(rt) {
             Ok(queue) => Ok(queue),
-            Err((back, _)) => Err(back),
+            Err((back, _)) => Err(Rest::Ruled(back)),
+        },
+        Rest::Ring(rejoined) => match rejoined.into_serial() {
+            Ok(queue) => Ok(queue),
+            Err((back, _)) => Err(Rest::Ring(back)),
         },
     }
 }

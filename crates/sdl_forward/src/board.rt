@@ -80,6 +80,7 @@ impl Board {
         match &mut self.rests[place].1 {
             Rest::Serial(queue) => queue.put(item),
             Rest::Ruled(_) => unreachable!(),
+            Rest::Ring(_) => unreachable!(),
         }
     }
 
@@ -99,6 +100,7 @@ impl Board {
                 item
             }
             Rest::Ruled(_) => unreachable!(),
+            Rest::Ring(_) => unreachable!(),
         }
     }
 

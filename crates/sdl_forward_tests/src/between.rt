@@ -5,7 +5,7 @@ ghost use Rattle.sdl_forward_tests.specs.Ways.{LeadsFrom, LeadOnlyTo};
 use super::bench::{hop, item_of, line};
 use sdl_examples::RELAY;
 use sdl_forward::{Ends, Forwarded, Forwarder};
-use sdl_queue::{Feed, Tap, queue_open};
+use sdl_queue::{AnyFeed, AnyTap, any_queue};
 use sdl_routes::{Hop, Routes, Station};
 use sdl_signal::RouteId;
 use sdl_test_systems::{Stop, routes_of};
@@ -39,9 +39,9 @@ impl Between {
         alloc: Global,
         routes: Routes,
         path: Hop,
-        tap: Tap,
+        tap: AnyTap,
         station: Station,
-        feed: Feed,
+        feed: AnyFeed,
     ) -> Result<Between, Stop>
         requires fresh { (tap.taken ≡ []) × (feed.put ≡ []) }
     {
@@ -85,10 +85,10 @@ fn leads_to(routes: &Routes, number: u32, path: Hop, station: Station) -> bool
 }
 
 /// A queue with one feeder.
-fn open_one<R: Wait>(rt: &R, alloc: Global) -> Result<(Feed, Tap), Stop>
+fn open_one<R: Wait>(rt: &R, alloc: Global) -> Result<(AnyFeed, AnyTap), Stop>
     ensures { IfOk result (λ r. (r.0.put ≡ []) × (r.1.taken ≡ [])) }
 {
-    let (mut feeds, tap) = queue_open(rt, alloc, 1)?;
+    let (mut feeds, tap) = any_queue(rt, alloc, 1)?;
     let Some(feed) = feeds.pop() else {
         return Err(Stop::Wrong("no feed"));
     };

@@ -12,8 +12,8 @@ use Rattle.sdl_queue.specs.declared.rest.Rest.{Rest}
 use Rattle.sdl_queue.specs.declared.rule.Tagged.{Tagged}
 use Rattle.sdl_queue.specs.declared.rule.PutList.{PutList}
 use Rattle.sdl_queue.specs.DelayLine.{items_by, HasNumber}
-use Rattle.sdl_queue.specs.Ends.{FeedEnd, TapEnd, Account, items_of, put_of}
-use Rattle.sdl_queue.specs.Rest.{left_in}
+use Rattle.sdl_queue.specs.Ends.{Opening, OfQueue, OfRing, FeedEnd, TapEnd, Account, items_of, put_of}
+use Rattle.sdl_queue.specs.Rest.{left_in, tags, IsRestOf}
 use Rattle.sdl_ends.specs.Stations.{same_station, stations_of}
 use Rattle.sdl_forward.specs.Boards.{waiting, lists_of}
 use Rattle.sdl_opening.specs.declared.worker.Worker.{Worker}
@@ -28,6 +28,20 @@ use Rattle.sdl_ends.specs.Ends.{WorkerEnds, feed_at, put_at, number_at, taken_by
 use Rattle.sdl_join.proofs.Places.{ends_behind, ends_here}
 use Rattle.sdl_join.proofs.Kept.{all_unmap}
 use Rattle.sdl_join.specs.Lanes.{IsLane, no_account, account_in, account_at}
+
+-- the account of what was put together again, and what is left of it
+
+rest_account : (o : Opening) (a : Account) (r : Rest) → IsRestOf o a r → account_in r ≡ a
+rest_account (OfQueue o) a r is = ap account_in is
+rest_account (OfRing o) a r (g, same, is) = ap account_in is ∙ sym same
+
+items_tags : (xs : List Item) → items_of (tags xs) ≡ xs
+items_tags [] = refl
+items_tags (x ∷ xs) = ap (λ ys. x ∷ ys) (items_tags xs)
+
+rest_left : (o : Opening) (a : Account) (r : Rest) → IsRestOf o a r → left_in r ≡ items_of (account_in r).left
+rest_left (OfQueue o) a r is = subst (λ (x : Rest). left_in x ≡ items_of (account_in x).left) (sym is) refl
+rest_left (OfRing o) a r (g, same, is) = subst (λ (x : Rest). left_in x ≡ items_of (account_in x).left) (sym is) (sym (items_tags g.left))
 
 among_option : {X : Type 0} (o : Option X) (x : X) → o ≡ Some x → Among x (option_to_list o)
 among_option None x e = absurd (none-some x e)
@@ -118,12 +132,12 @@ module _ (s : Station) where
   -- the lane of a rejoined queue
   module _ (ws : List Worker) (all : List WorkerEnds) (stations : List Station) (once : EachOnce ws) (same : length all ≡ length ws) (own : (w : Worker) → AreOwnEnds stations w (ends_of ws all w)) where
     lane : (rest : Rest) → IsRejoinedAt all s rest → IsLane (ends_of ws all) s (account_in rest)
-    lane rest (a, t, is, tap, feeders, puts, taken, (numbered, covers, each)) =
+    lane rest (t, tap, (a, is, feeders, puts, taken, (numbered, covers, each))) =
         let found = tapper ws all once same t (subst (Among t) (sym tap) (inl refl)) in
         let x = tap_is (ends_of ws all found.0).tap t found.2 in
         let mine : place found.0 ≡ s = sym ((own found.0).tap x.0 x.1).0 ∙ x.2 in
         let w_is : found.0 ≡ taker s = sym (place_taker found.0) ∙ ap taker mine in
-        subst (λ (r : Rest). IsLane (ends_of ws all) s (account_in r)) (sym is)
+        subst (λ (x : Account). IsLane (ends_of ws all) s x) (sym (rest_account t.opening a rest is))
         (record {
           tapped = ap items_of taken ∙ (ap (λ (y : TapEnd). items_of y.taken) (sym x.3) ∙ (sym (taken_is (ends_of ws all found.0) x.0 x.1) ∙ ap (λ (v : Worker). taken_by (ends_of ws all v)) w_is));
           fed = λ w n e.
@@ -182,8 +196,7 @@ left_at all [] [] h s = refl
 left_at all [] (r ∷ rests) h s = absurd h
 left_at all (u ∷ ss) [] h s = absurd h
 left_at all (u ∷ ss) (r ∷ rests) h s =
-    let is = h.1.2 in
-    let here : left_in r.1 ≡ items_of (account_in r.1).left = subst (λ (x : Rest). left_in x ≡ items_of (account_in x).left) (sym is) refl in
+    let here : left_in r.1 ≡ items_of (account_in r.1).left = rest_left h.1.0.opening h.1.2.0 r.1 h.1.2.1 in
     elim (cases_Bool (same_station r.0 s)) [
       | inl t ↦ cond-true (same_station r.0 s) (left_in r.1) (waiting (lists_of rests) s) t ∙ (here ∙ ap (λ (x : Account). items_of x.left) (sym (cond-true (same_station r.0 s) (account_in r.1) (account_at rests s) t)))
       | inr t ↦ cond-false (same_station r.0 s) (left_in r.1) (waiting (lists_of rests) s) t ∙ (left_at all ss rests h.2 s ∙ ap (λ (x : Account). items_of x.left) (sym (cond-false (same_station r.0 s) (account_in r.1) (account_at rests s) t)))

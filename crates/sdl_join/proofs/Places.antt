@@ -12,7 +12,7 @@ use Rattle.sdl_opening.specs.declared.worker.Worker.{Worker}
 use Rattle.sdl_opening.specs.declared.worker.Worker.TheVariants.{Block, Environment, Forwarder}
 use Rattle.sdl_opening.specs.Workers.{Among, same_worker, blocks_from}
 use Rattle.sdl_opening.specs.Opens.{ends_of}
-use Rattle.sdl_opening.proofs.Dealing.{place_get}
+use Rattle.sdl_opening.proofs.Distributing.{place_get}
 use Rattle.sdl_forward.specs.Forwards.{Forwarding}
 use Rattle.sdl_outcome.specs.Plan.{Plan, blocks_in, lines_of, workers_of}
 use Rattle.sdl_outcome.proofs.Comparisons.{same_hop_is, same_hop_itself, same_worker_is, same_worker_itself}

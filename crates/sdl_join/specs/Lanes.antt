@@ -5,8 +5,9 @@ use Rattle.sdl_routes.specs.declared.route.Station.{Station}
 use Rattle.sdl_queue.specs.declared.rule.Tagged.{Tagged}
 use Rattle.sdl_queue.specs.DelayLine.{items_by}
 use Rattle.sdl_queue.specs.declared.rest.Rest.{Rest}
-use Rattle.sdl_queue.specs.declared.rest.Rest.TheVariants.{Serial, Ruled}
+use Rattle.sdl_queue.specs.declared.rest.Rest.TheVariants.{Serial, Ruled, Ring}
 use Rattle.sdl_queue.specs.Ends.{Account, items_of}
+use Rattle.sdl_queue.specs.Rest.{ring_account}
 use Rattle.sdl_ends.specs.Stations.{same_station}
 use Rattle.sdl_ends.specs.Ends.{WorkerEnds, put_at, number_at, taken_by}
 use Rattle.sdl_opening.specs.declared.worker.Worker.{Worker}
@@ -25,6 +26,7 @@ no_account = record { feeders = 0; puts = []; taken = []; left = [] }
 
 abbrev pub account_in : Rest → Account
 account_in (Ruled a) = a
+account_in (Ring r) = ring_account r
 account_in (Serial items) = no_account
 
 -- the account of a station; that of no queue where there is none

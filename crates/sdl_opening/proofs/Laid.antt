@@ -16,7 +16,7 @@ use Rattle.sdl_opening.specs.declared.worker.Worker.TheVariants.{Block, Environm
 use Rattle.sdl_opening.specs.Workers.{Among, place, taker}
 use Rattle.sdl_opening.specs.Puts.{puts_at, count_true}
 use Rattle.sdl_opening.specs.Opens.{IsFreshAt, fresh_tap}
-use Rattle.sdl_opening.specs.Hands.{with_feed, with_tap, dealt, changed_at, all_empty}
+use Rattle.sdl_opening.specs.Hands.{with_feed, with_tap, distributed, changed_at, all_empty}
 
 -- two lists of one length, of which each two elements at one place are so
 abbrev pub AreEach : {X Y : Type 0} → (X → Y → Type 0) → List X → List Y → Type 0
@@ -96,38 +96,38 @@ feed_more_other : (fs : List (Station × FeedEnd)) (s t : Station) (f : FeedEnd)
 feed_more_other [] s t f n = cond-false (same_station s t) (Some f) None (other_station s t n)
 feed_more_other (x ∷ fs) s t f n = ap (λ (o : Option FeedEnd). cond (same_station x.0 t) (Some x.1) o) (feed_more_other fs s t f n)
 
--- the feeds of a station are dealt out
+-- the feeds of a station are distributed
 module _ (s : Station) where
-  pub column_other : (t : Station) → s ≢ t → (marks : List Bool) (fs : List FeedEnd) (all : List WorkerEnds) → column t (dealt s marks fs all) ≡ column t all
+  pub column_other : (t : Station) → s ≢ t → (marks : List Bool) (fs : List FeedEnd) (all : List WorkerEnds) → column t (distributed s marks fs all) ≡ column t all
   column_other t n [] fs all = refl
   column_other t n (m ∷ marks) fs [] = refl
   column_other t n (true ∷ marks) [] (e ∷ all) = ap (λ xs. option_to_list (feed_at e.feeds t) ++ xs) (column_other t n marks [] all)
   column_other t n (true ∷ marks) (f ∷ fs) (e ∷ all) =
-      ap (λ (o : Option FeedEnd). option_to_list o ++ column t (dealt s marks fs all)) (feed_more_other e.feeds s t f n)
+      ap (λ (o : Option FeedEnd). option_to_list o ++ column t (distributed s marks fs all)) (feed_more_other e.feeds s t f n)
       ∙ ap (λ xs. option_to_list (feed_at e.feeds t) ++ xs) (column_other t n marks fs all)
   column_other t n (false ∷ marks) fs (e ∷ all) = ap (λ xs. option_to_list (feed_at e.feeds t) ++ xs) (column_other t n marks fs all)
 
   pub column_here : (marks : List Bool) (fs : List FeedEnd) (all : List WorkerEnds) → AllByRecursion (λ (e : WorkerEnds). feed_at e.feeds s ≡ None) all → count_true marks ≡ length fs → length marks ≡ length all
-      → column s (dealt s marks fs all) ≡ fs
+      → column s (distributed s marks fs all) ≡ fs
   column_here [] [] [] none count same = refl
   column_here [] (f ∷ fs) all none count same = absurd (omega (arith, count))
   column_here [] [] (e ∷ all) none count same = absurd (omega (arith, same))
   column_here (m ∷ marks) fs [] none count same = absurd (omega (arith, same))
   column_here (true ∷ marks) [] (e ∷ all) none count same = absurd (omega (arith, count))
   column_here (true ∷ marks) (f ∷ fs) (e ∷ all) none count same =
-      ap (λ (o : Option FeedEnd). option_to_list o ++ column s (dealt s marks fs all)) (feed_more_here e.feeds s f none.0)
+      ap (λ (o : Option FeedEnd). option_to_list o ++ column s (distributed s marks fs all)) (feed_more_here e.feeds s f none.0)
       ∙ ap (λ xs. f ∷ xs) (column_here marks fs all none.1 (omega (arith, count)) (omega (arith, same)))
   column_here (false ∷ marks) fs (e ∷ all) none count same =
-      ap (λ (o : Option FeedEnd). option_to_list o ++ column s (dealt s marks fs all)) none.0 ∙ column_here marks fs all none.1 count (omega (arith, same))
+      ap (λ (o : Option FeedEnd). option_to_list o ++ column s (distributed s marks fs all)) none.0 ∙ column_here marks fs all none.1 count (omega (arith, same))
 
-  pub taps_dealt : (t : Station) (marks : List Bool) (fs : List FeedEnd) (all : List WorkerEnds) → taps t (dealt s marks fs all) ≡ taps t all
-  taps_dealt t [] fs all = refl
-  taps_dealt t (m ∷ marks) fs [] = refl
-  taps_dealt t (true ∷ marks) [] (e ∷ all) = ap (λ xs. option_to_list (tap_at e.tap t) ++ xs) (taps_dealt t marks [] all)
-  taps_dealt t (true ∷ marks) (f ∷ fs) (e ∷ all) = ap (λ xs. option_to_list (tap_at e.tap t) ++ xs) (taps_dealt t marks fs all)
-  taps_dealt t (false ∷ marks) fs (e ∷ all) = ap (λ xs. option_to_list (tap_at e.tap t) ++ xs) (taps_dealt t marks fs all)
+  pub taps_distributed : (t : Station) (marks : List Bool) (fs : List FeedEnd) (all : List WorkerEnds) → taps t (distributed s marks fs all) ≡ taps t all
+  taps_distributed t [] fs all = refl
+  taps_distributed t (m ∷ marks) fs [] = refl
+  taps_distributed t (true ∷ marks) [] (e ∷ all) = ap (λ xs. option_to_list (tap_at e.tap t) ++ xs) (taps_distributed t marks [] all)
+  taps_distributed t (true ∷ marks) (f ∷ fs) (e ∷ all) = ap (λ xs. option_to_list (tap_at e.tap t) ++ xs) (taps_distributed t marks fs all)
+  taps_distributed t (false ∷ marks) fs (e ∷ all) = ap (λ xs. option_to_list (tap_at e.tap t) ++ xs) (taps_distributed t marks fs all)
 
-  pub each_tap : (done : List Station) (ws : List Worker) (marks : List Bool) (fs : List FeedEnd) (all : List WorkerEnds) → AreEach (HasTap done) ws all → AreEach (HasTap done) ws (dealt s marks fs all)
+  pub each_tap : (done : List Station) (ws : List Worker) (marks : List Bool) (fs : List FeedEnd) (all : List WorkerEnds) → AreEach (HasTap done) ws all → AreEach (HasTap done) ws (distributed s marks fs all)
   each_tap done ws [] fs all h = h
   each_tap done ws (m ∷ marks) fs [] h = h
   each_tap done [] (m ∷ marks) fs (e ∷ all) h = absurd h
@@ -151,7 +151,7 @@ module _ (s : Station) where
     )
 
     pub each_feeds : (ws : List Worker) (fs : List FeedEnd) (all : List WorkerEnds) → count_true (map (p s) ws) ≡ length fs → AllByRecursion (λ (f : FeedEnd). f.put ≡ []) fs
-        → AreEach (HasFeeds p done) ws all → AreEach (HasFeeds p (done ++ s ∷ [])) ws (dealt s (map (p s) ws) fs all)
+        → AreEach (HasFeeds p done) ws all → AreEach (HasFeeds p (done ++ s ∷ [])) ws (distributed s (map (p s) ws) fs all)
     each_feeds [] fs [] count none h = tt
     each_feeds [] fs (e ∷ all) count none h = absurd h
     each_feeds (w ∷ ws) fs [] count none h = absurd h
@@ -159,14 +159,14 @@ module _ (s : Station) where
         elim (cases_Bool (p s w)) [
           | inl y ↦ (let c = subst (λ (b : Bool). count_true (b ∷ map (p s) ws) ≡ 0) y count in absurd (omega (arith, c)))
           | inr y ↦ (let c = subst (λ (b : Bool). count_true (b ∷ map (p s) ws) ≡ 0) y count in
-              subst (λ (b : Bool). AreEach (HasFeeds p (done ++ s ∷ [])) (w ∷ ws) (dealt s (b ∷ map (p s) ws) [] (e ∷ all))) (sym y) (one_no w e y h.0, each_feeds ws [] all c none h.1))
+              subst (λ (b : Bool). AreEach (HasFeeds p (done ++ s ∷ [])) (w ∷ ws) (distributed s (b ∷ map (p s) ws) [] (e ∷ all))) (sym y) (one_no w e y h.0, each_feeds ws [] all c none h.1))
         ]
     each_feeds (w ∷ ws) (f ∷ fs) (e ∷ all) count none h =
         elim (cases_Bool (p s w)) [
           | inl y ↦ (let c = subst (λ (b : Bool). count_true (b ∷ map (p s) ws) ≡ suc (length fs)) y count in
-              subst (λ (b : Bool). AreEach (HasFeeds p (done ++ s ∷ [])) (w ∷ ws) (dealt s (b ∷ map (p s) ws) (f ∷ fs) (e ∷ all))) (sym y) (one_yes w e f y none.0 h.0, each_feeds ws fs all (omega (arith, c)) none.1 h.1))
+              subst (λ (b : Bool). AreEach (HasFeeds p (done ++ s ∷ [])) (w ∷ ws) (distributed s (b ∷ map (p s) ws) (f ∷ fs) (e ∷ all))) (sym y) (one_yes w e f y none.0 h.0, each_feeds ws fs all (omega (arith, c)) none.1 h.1))
           | inr y ↦ (let c = subst (λ (b : Bool). count_true (b ∷ map (p s) ws) ≡ suc (length fs)) y count in
-              subst (λ (b : Bool). AreEach (HasFeeds p (done ++ s ∷ [])) (w ∷ ws) (dealt s (b ∷ map (p s) ws) (f ∷ fs) (e ∷ all))) (sym y) (one_no w e y h.0, each_feeds ws (f ∷ fs) all c none h.1))
+              subst (λ (b : Bool). AreEach (HasFeeds p (done ++ s ∷ [])) (w ∷ ws) (distributed s (b ∷ map (p s) ws) (f ∷ fs) (e ∷ all))) (sym y) (one_no w e y h.0, each_feeds ws (f ∷ fs) all c none h.1))
         ]
 
 -- no worker has an end of a station that is not yet opened

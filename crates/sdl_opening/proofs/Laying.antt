@@ -11,9 +11,9 @@ use Rattle.sdl_opening.specs.declared.worker.Worker.{Worker}
 use Rattle.sdl_opening.specs.Workers.{Among}
 use Rattle.sdl_opening.specs.Puts.{count_true}
 use Rattle.sdl_opening.specs.Opens.{IsFreshAt, fresh_tap}
-use Rattle.sdl_opening.specs.Hands.{with_tap, dealt, changed_at, all_empty, AddsQueue}
-use Rattle.sdl_opening.proofs.Dealing.{dealt_length}
-use Rattle.sdl_opening.proofs.Laid.{AreEach, HasFeeds, HasTap, each_length, column_other, column_here, taps_dealt, each_tap, each_feeds, none_fed, none_tapped, column_tapped, feeds_tapped, taps_given, taps_other, taps_here}
+use Rattle.sdl_opening.specs.Hands.{with_tap, distributed, changed_at, all_empty, AddsQueue}
+use Rattle.sdl_opening.proofs.Distributing.{distributed_length}
+use Rattle.sdl_opening.proofs.Laid.{AreEach, HasFeeds, HasTap, each_length, column_other, column_here, taps_distributed, each_tap, each_feeds, none_fed, none_tapped, column_tapped, feeds_tapped, taps_given, taps_other, taps_here}
 
 -- the queues of these stations are opened, where p says who puts where
 pub record IsLaid (p : Station → Worker → Bool) (ws : List Worker) (done : List Station) (all : List WorkerEnds) (shelf : List (Station × ℕ)) : Type 0 where
@@ -59,7 +59,7 @@ module _ (p : Station → Worker → Bool) (ws : List Worker) (done : List Stati
   fs = fresh_feeds adds.opening count
 
   abbrev mid : List WorkerEnds
-  mid = dealt s (map (p s) ws) fs old
+  mid = distributed s (map (p s) ws) fs old
 
   abbrev u : TapEnd
   u = fresh_tap adds.opening count
@@ -80,7 +80,7 @@ module _ (p : Station → Worker → Bool) (ws : List Worker) (done : List Stati
   column_kept t n = column_tapped s u t adds.place mid ∙ column_other s t n (map (p s) ws) fs old
 
   taps_kept : (t : Station) → s ≢ t → taps t then ≡ taps t old
-  taps_kept t n = taps_other s u t n done adds.place ws mid adds.there mid_taps ∙ taps_dealt s t (map (p s) ws) fs old
+  taps_kept t n = taps_other s u t n done adds.place ws mid adds.there mid_taps ∙ taps_distributed s t (map (p s) ws) fs old
 
   column_is : column s then ≡ fs
   column_is =
@@ -97,7 +97,7 @@ module _ (p : Station → Worker → Bool) (ws : List Worker) (done : List Stati
   still_fresh [] m h = tt
   still_fresh (t ∷ ts) m h =
       let n : s ≢ t = λ e. apart (subst (λ (x : Station). Among x done) (sym e) (m t (inl refl))) in
-      ((h.0.0, h.0.1, column_kept t n ∙ h.0.2, taps_kept t n ∙ h.0.3), still_fresh ts (λ x a. m x (inr a)) h.1)
+      ((h.0.0, h.0.1, column_kept t n ∙ h.0.2, taps_kept t n ∙ h.0.3, h.0.4), still_fresh ts (λ x a. m x (inr a)) h.1)
 
   still_room : (xs : List (Station × ℕ)) → ((t : Station) → Among t (map (λ (x : Station × ℕ). x.0) xs) → Among t done) → AllByRecursion (λ (x : Station × ℕ). length (column x.0 old) ≤ x.1) xs
       → AllByRecursion (λ (x : Station × ℕ). length (column x.0 then) ≤ x.1) xs
@@ -117,7 +117,7 @@ module _ (p : Station → Worker → Bool) (ws : List Worker) (done : List Stati
       (record {
         feeds = feeds_tapped s u p (done ++ s ∷ []) adds.place ws mid mid_feeds;
         tap = taps_given s u done refl adds.place ws mid adds.there mid_taps;
-        fresh = all_more (IsFreshAt then) done s (still_fresh done (λ t a. a) laid.fresh) (adds.opening, count, column_is, taps_are);
+        fresh = all_more (IsFreshAt then) done s (still_fresh done (λ t a. a) laid.fresh) (adds.opening, count, column_is, taps_are, adds.kind);
         are = firsts_more shelf (s, adds.room) ∙ ap (λ ss. ss ++ s ∷ []) laid.are;
         room = all_more (λ (x : Station × ℕ). length (column x.0 then) ≤ x.1) shelf (s, adds.room)
             (still_room shelf (λ t a. subst (Among t) laid.are a) laid.room) has_room;

@@ -1,7 +1,7 @@
 pub mod Collected
 pub mod Counted
 pub mod Giving
-pub mod Dealing
+pub mod Distributing
 pub mod Laid
 pub mod Laying
 pub mod Bringing

@@ -154,7 +154,7 @@ feed_among (f ∷ fs) t g e =
     ]
 
 fresh_whole : (all : List WorkerEnds) (s : Station) → IsFreshAt all s → IsWholeAt s all
-fresh_whole all s (o, n, col, tap) =
+fresh_whole all s (o, n, col, tap, kind) =
     (fresh_tap o n, tap, subst (λ (fs : List FeedEnd). AreAllEnds fs (fresh_tap o n)) (sym col) (all_fresh (fresh_feeds o n) (fresh_tap o n) refl))
 
 no_way : (t : Ways) (w : Worker) (r : ℕ) (s : Station) → t.stations r ≡ [] → next t w r ≡ Some s → ⊥

@@ -6,7 +6,7 @@ use Rattle.sdl_ends.specs.Ends.{WorkerEnds, no_ends}
 use Rattle.sdl_opening.specs.declared.worker.Worker.{Worker}
 use Rattle.sdl_opening.specs.Workers.{taker}
 use Rattle.sdl_opening.specs.Puts.{count_true}
-use Rattle.sdl_opening.specs.Opens.{fresh_tap}
+use Rattle.sdl_opening.specs.Opens.{fresh_tap, IsOpenedAs}
 
 -- the ends with one feed more, behind the others
 abbrev pub with_feed : Station → FeedEnd → WorkerEnds → WorkerEnds
@@ -16,13 +16,13 @@ with_feed s f e = record { tap = e.tap; feeds = e.feeds ++ (s, f) ∷ [] }
 abbrev pub with_tap : Station → TapEnd → WorkerEnds → WorkerEnds
 with_tap s t e = record { tap = Some (s, t); feeds = e.feeds }
 
--- the feeds of a station are dealt out in order to those that are marked
-abbrev pub dealt : Station → List Bool → List FeedEnd → List WorkerEnds → List WorkerEnds
-dealt s [] feeds all = all
-dealt s (m ∷ marks) feeds [] = []
-dealt s (true ∷ marks) [] (e ∷ all) = e ∷ dealt s marks [] all
-dealt s (true ∷ marks) (f ∷ feeds) (e ∷ all) = with_feed s f e ∷ dealt s marks feeds all
-dealt s (false ∷ marks) feeds (e ∷ all) = e ∷ dealt s marks feeds all
+-- the feeds of a station are distributed in order to those that are marked
+abbrev pub distributed : Station → List Bool → List FeedEnd → List WorkerEnds → List WorkerEnds
+distributed s [] feeds all = all
+distributed s (m ∷ marks) feeds [] = []
+distributed s (true ∷ marks) [] (e ∷ all) = e ∷ distributed s marks [] all
+distributed s (true ∷ marks) (f ∷ feeds) (e ∷ all) = with_feed s f e ∷ distributed s marks feeds all
+distributed s (false ∷ marks) feeds (e ∷ all) = e ∷ distributed s marks feeds all
 
 -- the list with the element at a place changed
 abbrev pub changed_at : {X : Type 0} → (X → X) → ℕ → List X → List X
@@ -40,7 +40,8 @@ pub record AddsQueue (workers : List Worker) (marks : List Bool) (s : Station) (
   pub opening : Opening
   pub place : ℕ
   pub there : slice_get workers place ≡ Some (taker s)
-  pub ends : new ≡ changed_at (with_tap s (fresh_tap opening (count_true marks))) place (dealt s marks (fresh_feeds opening (count_true marks)) old)
+  pub kind : IsOpenedAs opening s (count_true marks)
+  pub ends : new ≡ changed_at (with_tap s (fresh_tap opening (count_true marks))) place (distributed s marks (fresh_feeds opening (count_true marks)) old)
   pub room : ℕ
   pub enough : count_true marks ≤ room
   pub behind : later ≡ shelf ++ (s, room) ∷ []

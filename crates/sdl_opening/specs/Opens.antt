@@ -1,10 +1,11 @@
 -- The ends of all workers when the queues of all stations are opened.
-use Rattle.std.specs.Prelude.{◌≡◌, ℕ, ◌≤◌, List, [], ◌∷◌, Option, Some, None, length, map, if◌then◌else◌}
+use Rattle.std.specs.Prelude.{◌≡◌, ◌↔◌, ℕ, ◌≤◌, List, [], ◌∷◌, Option, Some, None, length, map, if◌then◌else◌}
 use Rattle.std.specs.List.{AllByRecursion}
 use Rattle.sdl_parts.specs.Structure.{Structure}
 use Rattle.sdl_routes.specs.declared.route.TableRow.{TableRow}
 use Rattle.sdl_routes.specs.declared.route.Station.{Station}
-use Rattle.sdl_queue.specs.Ends.{Opening, FeedEnd, TapEnd, fresh_feeds}
+use Rattle.sdl_routes.specs.declared.route.Station.TheVariants.{Line, Inlet, Outlet}
+use Rattle.sdl_queue.specs.Ends.{Opening, IsOfRing, FeedEnd, TapEnd, fresh_feeds}
 use Rattle.sdl_ends.specs.Ends.{WorkerEnds, no_ends, put_at, taken_by, column, taps, AreAllEndsOf, HasFeed}
 use Rattle.sdl_opening.specs.declared.worker.Worker.{Worker}
 use Rattle.sdl_opening.specs.Stations.{AreAllStations}
@@ -29,9 +30,20 @@ pub record AreOwnEnds (stations : List Station) (w : Worker) (e : WorkerEnds) : 
 abbrev pub fresh_tap : Opening → ℕ → TapEnd
 fresh_tap o feeders = record { opening = o; feeders = feeders; taken = [] }
 
--- the feeds of the station, in the order of the workers, are those of one opening by number, and it has one tap
+-- a delaying path that only one worker feeds
+abbrev pub IsLineOfOne : Station → ℕ → Type 0
+IsLineOfOne (Line h) n = n ≡ 1
+IsLineOfOne (Inlet b) n = ⊥
+IsLineOfOne Outlet n = ⊥
+
+-- a station with so many feeders is opened as a ring where it is a path that only one worker feeds, and else as a queue
+abbrev pub IsOpenedAs : Opening → Station → ℕ → Type 0
+IsOpenedAs o s n = IsOfRing o ↔ IsLineOfOne s n
+
+-- the feeds of the station, in the order of the workers, are those of one opening by number, it has one tap, and it is a ring or
+-- a queue as the number of its feeders says
 abbrev pub IsFreshAt : List WorkerEnds → Station → Type 0
-IsFreshAt all s = (o : Opening) × (n : ℕ) × (column s all ≡ fresh_feeds o n) × (taps s all ≡ fresh_tap o n ∷ [])
+IsFreshAt all s = (o : Opening) × (n : ℕ) × (column s all ≡ fresh_feeds o n) × (taps s all ≡ fresh_tap o n ∷ []) × IsOpenedAs o s n
 
 -- Each worker has its own ends, at which nothing was put or taken, and a feed exactly where it brings items. There is a queue for
 -- each station of some route, all of whose ends are among them, the feeds numbered in the order of the workers, and room for

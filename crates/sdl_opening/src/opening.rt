@@ -1,20 +1,21 @@
 //! The queues of all stations are opened, and each worker is given its ends.
-ghost use Rattle.std.specs.Prelude.{◌≡◌, ◌≤◌, Some, length, slice_get, IfOk, OnOk};
+ghost use Rattle.std.specs.Prelude.{◌≡◌, ◌≤◌, [], Some, length, slice_get, IfOk, OnOk};
 ghost use Rattle.std.specs.List.{AllByRecursion};
 ghost use Rattle.sdl_routes.specs.Routes.{AreRoutesOf, EachOnce};
 ghost use Rattle.sdl_ends.specs.Stations.{stations_of as stations_in};
 ghost use Rattle.sdl_opening.specs.Workers.{Among, taker as taker_of};
 ghost use Rattle.sdl_opening.specs.Hands.{AddsQueue};
-ghost use Rattle.sdl_opening.specs.Opens.{AreOpen};
+ghost use Rattle.sdl_queue.specs.Ends.{fresh_feeds};
+ghost use Rattle.sdl_opening.specs.Opens.{IsOpenedAs, AreOpen};
 
 use crate::Worker;
 use crate::givers::{count_of, marks_at, taker};
-use crate::shares::{Share, deal, no_shares};
+use crate::shares::{Share, distribute, no_shares};
 use crate::stations::stations_of;
 use crate::workers::workers_of;
 use sdl_ends::{Ends, Shelf};
 use sdl_parts::Checked;
-use sdl_queue::queue_open;
+use sdl_queue::{AnyFeed, AnyTap, any_queue, any_ring};
 use sdl_routes::laws::routes_are_short;
 use sdl_routes::{Routes, Station};
 use std::alloc::{AllocError, Global};
@@ -31,6 +32,24 @@ fn place_of(workers: &[Worker], worker: Worker) -> usize
         }
     }
     unreachable!()
+}
+
+/// Opens the ends of a station with so many feeders: of a ring where it is a delaying path that only one worker feeds, and of a
+/// queue else.
+fn open_line<R: Wait>(
+    rt: &R,
+    alloc: Global,
+    station: Station,
+    feeders: u32,
+) -> Result<(Vec<AnyFeed>, AnyTap), AllocError>
+    ensures feeds { IfOk result (λ ends. ends.0.items ≡ fresh_feeds ends.1.opening feeders) }
+    ensures tap { IfOk result (λ ends. (ends.1.feeders ≡ feeders) × (ends.1.taken ≡ [])) }
+    ensures kind { IfOk result (λ ends. IsOpenedAs ends.1.opening station feeders) }
+{
+    match (station, feeders) {
+        (Station::Line(_), 1) => any_ring(alloc),
+        _ => any_queue(rt, alloc, feeders),
+    }
 }
 
 /// Opens the queue of a station: a feed for each worker that is marked, in order, and the tap for its taker. What a refusal leaves
@@ -51,9 +70,9 @@ fn open_station<R: Wait>(
     ensures { OnOk result (AddsQueue workers.now marks.now station shares.old.items shares.new.items shelf.old shelf.new) }
 {
     let feeders = count_of(marks) as u32;
-    let (feeds, tap) = queue_open(rt, alloc, feeders)?;
+    let (feeds, tap) = open_line(rt, alloc, station, feeders)?;
     shelf.add(alloc, station, feeders)?;
-    deal(shares, marks, station, feeds)?;
+    distribute(shares, marks, station, feeds)?;
     let place = place_of(workers, taker(station));
     shares[place].set_tap(station, tap);
     Ok(())

@@ -1,13 +1,13 @@
-//! The ends of the workers, while they are dealt out.
+//! The ends of the workers, while they are distributed.
 ghost use Rattle.std.specs.Prelude.{◌≡◌, length, IfOk, OnOk};
 ghost use Rattle.sdl_routes.specs.Routes.{EachOnce};
 ghost use Rattle.sdl_ends.specs.Stations.{stations_of};
 ghost use Rattle.sdl_ends.specs.Ends.{no_ends};
 ghost use Rattle.sdl_opening.specs.Puts.{count_true};
-ghost use Rattle.sdl_opening.specs.Hands.{with_feed, with_tap, dealt, all_empty};
+ghost use Rattle.sdl_opening.specs.Hands.{with_feed, with_tap, distributed, all_empty};
 
 use sdl_ends::Ends;
-use sdl_queue::{Feed, Tap};
+use sdl_queue::{AnyFeed, AnyTap};
 use sdl_routes::Station;
 use std::alloc::{AllocError, Global};
 use std::marker::Model;
@@ -15,8 +15,8 @@ use std::marker::Model;
 /// The ends that a worker was given so far.
 #[derive(Drop)]
 pub(crate) struct Share {
-    tap: Option<(Station, Tap)>,
-    feeds: Vec<(Station, Feed)>,
+    tap: Option<(Station, AnyTap)>,
+    feeds: Vec<(Station, AnyFeed)>,
 }
 
 impl Model for Share {
@@ -38,14 +38,14 @@ impl Share {
     }
 
     // What a refusal leaves is not said.
-    fn add_feed(&mut self, station: Station, feed: Feed) -> Result<(), AllocError>
+    fn add_feed(&mut self, station: Station, feed: AnyFeed) -> Result<(), AllocError>
         ensures { OnOk result (self.new ≡ with_feed station feed self.old) }
     {
         self.feeds.push((station, feed))?;
         Ok(())
     }
 
-    pub(crate) fn set_tap(&mut self, station: Station, tap: Tap)
+    pub(crate) fn set_tap(&mut self, station: Station, tap: AnyTap)
         ensures { self.new ≡ with_tap station tap self.old }
     {
         self.tap = Some((station, tap));
@@ -71,15 +71,15 @@ pub(crate) fn no_shares(alloc: Global, count: usize) -> Result<Vec<Share>, Alloc
 }
 
 /// Gives the feeds of a station, in order, to the workers that are marked. What a refusal leaves is not said.
-pub(crate) fn deal(
+pub(crate) fn distribute(
     shares: &mut Vec<Share>,
     marks: &[bool],
     station: Station,
-    feeds: Vec<Feed>,
+    feeds: Vec<AnyFeed>,
 ) -> Result<(), AllocError>
     requires places { length marks.now ≡ length shares.old.items }
     requires feeds { count_true marks.now ≡ length feeds.items }
-    ensures { OnOk result (shares.new.items ≡ dealt station marks.now feeds.items shares.old.items) }
+    ensures { OnOk result (shares.new.items ≡ distributed station marks.now feeds.items shares.old.items) }
 {
     let mut feeds = feeds.into_iter();
     for place in 0..marks.len() {

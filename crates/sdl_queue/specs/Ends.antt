@@ -1,20 +1,34 @@
 -- What a contract sees of the ends of a queue.
-use Rattle.std.specs.Prelude.{◌≡◌, ℕ, List, [], length, map}
+use Rattle.std.specs.Prelude.{◌≡◌, ℕ, List, [], length, map, ⊤}
 use Rattle.std.specs.List.{AllByRecursion, range_with_len}
 use Rattle.sdl_signal.specs.declared.values.Item.{Item}
+use Rattle.sdl_ring.specs.RingEnds.{RingOpening}
 use Rattle.sdl_queue.specs.declared.rule.Tagged.{Tagged}
 use Rattle.sdl_queue.specs.declared.rule.PutList.{PutList}
 use Rattle.sdl_queue.specs.DelayLine.{Covers}
 
--- which opening an end is of: no two queues that live at one time have the same
-abbrev pub Opening : Type 0
-Opening = ℕ × ℕ
+-- which opening an end is of, of a queue or of a ring: no two that live at one time have the same
+pub data Opening : Type 0 where
+  OfQueue : ℕ × ℕ → Opening
+  OfRing : RingOpening → Opening
 
--- a feed: which opening it is of, its number there, and what it has put
+-- it is a queue's
+abbrev pub IsOfQueue : Opening → Type 0
+IsOfQueue (OfQueue o) = ⊤
+IsOfQueue (OfRing o) = ⊥
+
+-- it is a ring's
+abbrev pub IsOfRing : Opening → Type 0
+IsOfRing (OfQueue o) = ⊥
+IsOfRing (OfRing o) = ⊤
+
+-- a feed: which opening it is of, its number there, what it has put, and which of that still waits for room (in a ring alone:
+-- a queue has room for all)
 pub record FeedEnd : Type 0 where
   pub opening : Opening
   pub number : ℕ
   pub put : List Item
+  pub backlog : List Item
 
 -- a tap: which opening it is of, how many feeders that has, and what was taken
 pub record TapEnd : Type 0 where
@@ -40,7 +54,7 @@ abbrev pub put_of : FeedEnd → PutList
 put_of f = put_list f.number f.put
 
 abbrev pub fresh_feed : Opening → ℕ → FeedEnd
-fresh_feed o f = record { opening = o; number = f; put = [] }
+fresh_feed o f = record { opening = o; number = f; put = []; backlog = [] }
 
 -- the feeds of an opening before anything was put, by number
 abbrev pub fresh_feeds : Opening → ℕ → List FeedEnd

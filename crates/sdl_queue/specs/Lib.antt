@@ -1,3 +1,4 @@
+pub mod Any
 pub mod DelayLine
 pub mod Ends
 pub mod Rest

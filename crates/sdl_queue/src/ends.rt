@@ -4,7 +4,7 @@ ghost use Rattle.crossbeam_queue.specs.SegTies.{IsSegPassOf};
 ghost use Rattle.sdl_queue.specs.DelayLine.{IsDelayLine};
 ghost use Rattle.sdl_queue.specs.Rule.{IsTap, IsWhole, tap_of, left_of};
 ghost use Rattle.sdl_queue.specs.declared.rule.Tagged.{Tagged};
-ghost use Rattle.sdl_queue.specs.Ends.{fresh_feed, fresh_feeds, put_of, items_of, IsSameFeed, IsSameTap, AreAllEnds};
+ghost use Rattle.sdl_queue.specs.Ends.{fresh_feed, fresh_feeds, put_of, items_of, IsSameFeed, IsSameTap, AreAllEnds, OfQueue, IsOfQueue};
 
 use crate::SerialQueue;
 use crate::rule::{Enrol, Feeding, Gather, Line, Pass, Queue, Settling, Tagged, Tapping};
@@ -18,13 +18,14 @@ use std::sync::{Arc, Wait};
 /// has put.
 #[derive(Drop)]
 pub struct Feed {
-    line: Arc<Line, Global>,
-    pass: Pass,
-    number: u32,
+    pub(crate) line: Arc<Line, Global>,
+    pub(crate) pass: Pass,
+    pub(crate) number: u32,
 }
 
 impl Model for Feed {
-    ghost use Rattle.sdl_queue.specs.Ends.{FeedEnd};
+    ghost use Rattle.std.specs.Prelude.{[]};
+    ghost use Rattle.sdl_queue.specs.Ends.{FeedEnd, OfQueue};
 
     ghost Value = { FeedEnd };
 
@@ -33,7 +34,7 @@ impl Model for Feed {
     ghost use Rattle.sdl_queue.specs.Rule.{seen_by, IsFeeder};
     ghost use Rattle.crossbeam_queue.specs.SegTies.{IsSegPassOf};
 
-    ghost view = { λ f. record { opening = (arc_value f.line).queue.web; number = f.number; put = items_by f.number (seen_by f.pass.me.view.client) } };
+    ghost view = { λ f. record { opening = OfQueue (arc_value f.line).queue.web; number = f.number; put = items_by f.number (seen_by f.pass.me.view.client); backlog = [] } };
 
     ghost invariant = { λ f. IsSegPassOf (arc_value f.line).queue f.pass × IsFeeder f.number f.pass.me.view.client };
 }
@@ -54,19 +55,26 @@ impl Feed {
             Err(back) => Err(back.item),
         }
     }
+
+    // Its opening is a queue's.
+    pub(crate) fn is_of_queue(&self)
+        ensures { IsOfQueue self.now.opening }
+    {
+        let _number = self.number;
+    }
 }
 
 /// The end of a queue at which its thread takes items. Contracts see which opening it is of, how many feeders that has, and
 /// what was taken.
 #[derive(Drop)]
 pub struct Tap {
-    line: Arc<Line, Global>,
-    pass: Pass,
-    alloc: Global,
+    pub(crate) line: Arc<Line, Global>,
+    pub(crate) pass: Pass,
+    pub(crate) alloc: Global,
 }
 
 impl Model for Tap {
-    ghost use Rattle.sdl_queue.specs.Ends.{TapEnd};
+    ghost use Rattle.sdl_queue.specs.Ends.{TapEnd, OfQueue};
 
     ghost Value = { TapEnd };
 
@@ -74,7 +82,7 @@ impl Model for Tap {
     ghost use Rattle.sdl_queue.specs.Rule.{tap_of, IsOpen};
     ghost use Rattle.crossbeam_queue.specs.SegTies.{IsSegPassOf};
 
-    ghost view = { λ t. record { opening = (arc_value t.line).queue.web; feeders = (tap_of t.pass.me.view.client).feeders; taken = (tap_of t.pass.me.view.client).taken } };
+    ghost view = { λ t. record { opening = OfQueue (arc_value t.line).queue.web; feeders = (tap_of t.pass.me.view.client).feeders; taken = (tap_of t.pass.me.view.client).taken } };
 
     ghost invariant = { λ t. IsSegPassOf (arc_value t.line).queue t.pass × IsOpen t.pass.me.view.client };
 }
@@ -88,6 +96,13 @@ impl Tap {
     {
         let tagged = self.line.queue.pop_as::<Tapping, R>(rt, &mut self.pass)?;
         Some(tagged.item)
+    }
+
+    // Its opening is a queue's.
+    pub(crate) fn is_of_queue(&self)
+        ensures { IsOfQueue self.now.opening }
+    {
+        let _alloc = self.alloc;
     }
 
     // The feed of one more feeder.
@@ -126,10 +141,10 @@ pub fn queue_open<R: Wait>(
 /// and what is left.
 #[derive(Drop)]
 pub struct Rejoined {
-    line: Arc<Line, Global>,
-    pass: Pass,
-    alloc: Global,
-    len: usize,
+    pub(crate) line: Arc<Line, Global>,
+    pub(crate) pass: Pass,
+    pub(crate) alloc: Global,
+    pub(crate) len: usize,
 }
 
 impl Model for Rejoined {
@@ -148,9 +163,9 @@ impl Model for Rejoined {
 }
 
 // A feed that has come back.
-fn gather(queue: &Queue, pass: &mut Pass, feed: Feed)
+pub(crate) fn gather(queue: &Queue, pass: &mut Pass, feed: Feed)
     requires pass { IsSegPassOf queue.now pass.old × IsTap pass.old.me.view.client }
-    requires feed { feed.opening ≡ queue.now.web }
+    requires feed { feed.opening ≡ OfQueue queue.now.web }
     ensures pass { IsSegPassOf queue.now pass.new × IsTap pass.new.me.view.client }
     ensures joined { let t = tap_of pass.old.me.view.client in let u = tap_of pass.new.me.view.client in (u.feeders ≡ t.feeders) × (u.taken ≡ t.taken) × (u.joined ≡ t.joined ++ put_of feed ∷ []) }
 {

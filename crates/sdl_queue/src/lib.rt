@@ -1,12 +1,14 @@
-//! Queues of items: one of a single thread, and one whose ends live in threads of their own.
+//! Queues of items: one of a single thread, one whose ends live in threads of their own, and
+//! a ring; and the ends of either of these two.
 #![tactic(auto)]
 
+pub mod any;
 pub mod ends;
 pub mod rest;
 pub mod rule;
-pub mod serial;
 
+pub use any::{AnyFeed, AnyTap, any_queue, any_rejoin, any_ring};
 pub use ends::{Feed, Rejoined, Tap, queue_open, rejoin};
 pub use rest::Rest;
 pub use rule::Tagged;
-pub use serial::SerialQueue;
+pub use sdl_ring::{RingFeed, RingRejoined, RingTap, SerialQueue, ring_open, ring_rejoin};

@@ -1,8 +1,8 @@
-//! What is left of a queue, of either kind.
+//! What is left of a queue, of any kind.
 ghost use Rattle.std.specs.Prelude.{◌≡◌, length};
 ghost use Rattle.sdl_queue.specs.Rest.{left_in};
 
-use crate::{Rejoined, SerialQueue};
+use crate::{Rejoined, RingRejoined, SerialQueue};
 
 /// A queue at rest.
 #[derive(Drop)]
@@ -11,6 +11,8 @@ pub enum Rest {
     Serial(SerialQueue),
     /// A queue whose ends have all come back.
     Ruled(Rejoined),
+    /// A ring both of whose ends have come back.
+    Ring(RingRejoined),
 }
 
 impl Rest {
@@ -21,6 +23,7 @@ impl Rest {
         match self {
             Rest::Serial(queue) => queue.len(),
             Rest::Ruled(rejoined) => rejoined.len(),
+            Rest::Ring(rejoined) => rejoined.len(),
         }
     }
 }

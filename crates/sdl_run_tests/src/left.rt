@@ -110,7 +110,7 @@ fn one_is_left(rt: &impl Abort, rests: &[(Station, Rest)], number: u32) -> Resul
 fn front(rest: &Rest) -> Option<&Item> {
     match rest {
         Rest::Serial(queue) => queue.left().next(),
-        Rest::Ruled(_) => None,
+        Rest::Ruled(_) | Rest::Ring(_) => None,
     }
 }
 

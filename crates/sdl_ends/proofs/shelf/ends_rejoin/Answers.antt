@@ -1,5 +1,4 @@
 use Rattle.std.proofs.Common.{length, ap, arith}
-use Rattle.sdl_queue.specs.declared.rest.Rest.TheVariants.{Ruled}
 use Rattle.sdl_ends.proofs.Rejoins.{begins, goes_on, ends, at_first}
 use Rattle.sdl_ends.proofs.shelf.ends_rejoin.Goals as goal
 
@@ -11,14 +10,14 @@ loop-slots-init g c =
       room = let none = ap length inv.1 in let few = inv.2 in omega (arith, none, few, c.shelf.inside.rests.ok.0);
     }
 
-pub rejoin_at-rejoined-requires-clause-empty : goal.rejoin_at-rejoined-requires-clause-empty
-rejoin_at-rejoined-requires-clause-empty g c = (at_first c.args.ends.items _ c.loop-slots.slots.items c.take_first-slot.new.list.items c.take_first-slot.result c.loop-slots.rests.items c.loop-slots.ends.items c.take_first-slot.ensures c.loop-slots.invariant.underway).0
+pub rejoin_at-rest-requires-clause-empty : goal.rejoin_at-rest-requires-clause-empty
+rejoin_at-rest-requires-clause-empty g c = (at_first c.args.ends.items _ c.loop-slots.slots.items c.take_first-slot.new.list.items c.take_first-slot.result c.loop-slots.rests.items c.loop-slots.ends.items c.take_first-slot.ensures c.loop-slots.invariant.underway).0
 
-pub rejoin_at-rejoined-requires-clause-whole : goal.rejoin_at-rejoined-requires-clause-whole
-rejoin_at-rejoined-requires-clause-whole g c = (at_first c.args.ends.items _ c.loop-slots.slots.items c.take_first-slot.new.list.items c.take_first-slot.result c.loop-slots.rests.items c.loop-slots.ends.items c.take_first-slot.ensures c.loop-slots.invariant.underway).1
+pub rejoin_at-rest-requires-clause-whole : goal.rejoin_at-rest-requires-clause-whole
+rejoin_at-rest-requires-clause-whole g c = (at_first c.args.ends.items _ c.loop-slots.slots.items c.take_first-slot.new.list.items c.take_first-slot.result c.loop-slots.rests.items c.loop-slots.ends.items c.take_first-slot.ensures c.loop-slots.invariant.underway).1
 
-pub rejoin_at-rejoined-requires-clause-room : goal.rejoin_at-rejoined-requires-clause-room
-rejoin_at-rejoined-requires-clause-room g c = (at_first c.args.ends.items _ c.loop-slots.slots.items c.take_first-slot.new.list.items c.take_first-slot.result c.loop-slots.rests.items c.loop-slots.ends.items c.take_first-slot.ensures c.loop-slots.invariant.underway).2
+pub rejoin_at-rest-requires-clause-room : goal.rejoin_at-rest-requires-clause-room
+rejoin_at-rest-requires-clause-room g c = (at_first c.args.ends.items _ c.loop-slots.slots.items c.take_first-slot.new.list.items c.take_first-slot.result c.loop-slots.rests.items c.loop-slots.ends.items c.take_first-slot.ensures c.loop-slots.invariant.underway).2
 
 pub put_last-requires : goal.put_last-requires
 put_last-requires g c =
@@ -34,8 +33,8 @@ loop-slots-preserved g c =
     let cut = ap length c.take_first-slot.ensures in
     let room = c.loop-slots.invariant.room in
     record {
-      underway = goes_on c.args.ends.items _ c.take_first-slot.result c.take_first-slot.new.list.items c.loop-slots.rests.items c.put_last.new.list.items c.loop-slots.ends.items c.rejoin_at-rejoined.new.ends.items
-          (Ruled c.rejoin_at-rejoined.result) (at_first c.args.ends.items _ c.loop-slots.slots.items c.take_first-slot.new.list.items c.take_first-slot.result c.loop-slots.rests.items c.loop-slots.ends.items c.take_first-slot.ensures c.loop-slots.invariant.underway).3 c.rejoin_at-rejoined.ensures.rejoined c.rejoin_at-rejoined.ensures.others c.put_last.ensures.items;
+      underway = goes_on c.args.ends.items _ c.take_first-slot.result c.take_first-slot.new.list.items c.loop-slots.rests.items c.put_last.new.list.items c.loop-slots.ends.items c.rejoin_at-rest.new.ends.items
+          c.rejoin_at-rest.result (at_first c.args.ends.items _ c.loop-slots.slots.items c.take_first-slot.new.list.items c.take_first-slot.result c.loop-slots.rests.items c.loop-slots.ends.items c.take_first-slot.ensures c.loop-slots.invariant.underway).3 c.rejoin_at-rest.ensures.rejoined c.rejoin_at-rest.ensures.others c.put_last.ensures.items;
       room = c.put_last.ensures.room (length c.take_first-slot.new.list.items) (omega (arith, cut, room));
     }
 

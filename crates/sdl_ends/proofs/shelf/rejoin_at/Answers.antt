@@ -28,8 +28,8 @@ loop-number-preserved g c =
       room = c.collect.ensures.room (length (column s (drop (k + 1) old))) (let room = inv.room in omega (arith, both, room));
     }
 
-pub rejoin-requires : goal.rejoin-requires
-rejoin-requires g c =
+pub any_rejoin-requires : goal.any_rejoin-requires
+any_rejoin-requires g c =
     let past : length c.args.ends.now.items ≤ c.loop-number.number = (let t = c.loop-number-test.false in let l = c.len-number-end.ensures in omega (arith, t, l, c.args.ends.now.ok.0)) in
     let inv = c.loop-number.invariant in
     let w = c.requires.whole in
@@ -40,7 +40,7 @@ returns-clause-rejoined g c =
     let past : length c.args.ends.now.items ≤ c.loop-number.number = (let t = c.loop-number-test.false in let l = c.len-number-end.ensures in omega (arith, t, l, c.args.ends.now.ok.0)) in
     let inv = c.loop-number.invariant in
     let w = c.requires.whole in
-    rejoined c.args.slot.station c.args.ends.now.items c.loop-number.number past c.loop-number.feeds.items w.0 c.in-Some.tap c.loop-number.tap c.rejoin.result inv.feeds inv.tap c.in-Some.is w.1 c.rejoin.ensures.ends c.rejoin.ensures.delay_line
+    rejoined c.args.slot.station c.args.ends.now.items c.loop-number.number past c.loop-number.feeds.items w.0 c.in-Some.tap c.loop-number.tap c.any_rejoin.result inv.feeds inv.tap c.in-Some.is w.1 c.any_rejoin.ensures
 
 pub returns-clause-others : goal.returns-clause-others
 returns-clause-others g c =

@@ -1,7 +1,7 @@
 use Rattle.std.proofs.Common.{◌++◌, ◌∷◌, [], List, ap, sym, ◌∙◌, add-one}
 use Rattle.sdl_ends.specs.Ends.{WorkerEnds, no_ends}
 use Rattle.sdl_opening.specs.Hands.{all_empty}
-use Rattle.sdl_opening.proofs.Dealing.{empty_more}
+use Rattle.sdl_opening.proofs.Distributing.{empty_more}
 use Rattle.sdl_opening.proofs.shares.no_shares.Goals as goal
 
 pub loop-preserved : goal.loop-preserved

@@ -12,13 +12,13 @@ pub returns-in-Err-clause-lists : goal.returns-in-Err-clause-lists
 returns-in-Err-clause-lists g c =
     let refused = c.in-Err.ensures in
     let inv = c.loop-place.invariant in
-    (ap lists_of refused.2 ∙ inv.lists, refused_here c.args.rests.items c.loop-place.rests.items c.loop-place.place c.in-Err.station refused.0 inv.lists refused.1)
+    (ap lists_of refused.3 ∙ inv.lists, refused_here c.args.rests.items c.loop-place.rests.items c.loop-place.place c.in-Err.station refused.0 inv.lists refused.2)
 
 pub returns-in-Err-clause-refused : goal.returns-in-Err-clause-refused
 returns-in-Err-clause-refused g c =
     let refused = c.in-Err.ensures in
-    subst (λ (rests : List (Station × Rest)). IsFirstRuled rests c.in-Err.station) (sym refused.2)
-    (first_ruled c.loop-place.rests.items c.loop-place.place c.in-Err.station refused.0 c.loop-place.invariant.serial refused.1)
+    subst (λ (rests : List (Station × Rest)). IsFirstRuled rests c.in-Err.station) (sym refused.3)
+    (first_ruled c.loop-place.rests.items c.loop-place.place c.in-Err.station refused.0 c.loop-place.invariant.serial refused.1 refused.2)
 
 pub loop-place-preserved : goal.loop-place-preserved
 loop-place-preserved g c =

@@ -6,7 +6,7 @@ use Rattle.sdl_queue.specs.declared.rest.Rest.TheVariants.{Serial}
 use Rattle.sdl_forward.specs.Boards.{stations_of, waiting, ChangesOnly, lists_of}
 use Rattle.sdl_forward.proofs.Marks.{keeps_marks}
 use Rattle.std.proofs.lemmas.Bool.{false≢true}
-use Rattle.sdl_forward.proofs.Entries.{place_within, contained_here, found_in, not_in, not_ruled, entry_here, puts, changes, once_same, serial_set}
+use Rattle.sdl_forward.proofs.Entries.{place_within, contained_here, found_in, not_in, not_ruled, not_ring, entry_here, puts, changes, once_same, serial_set}
 use Rattle.sdl_forward.proofs.board.Board.put.Goals as goal
 
 pub unreachable-requires : goal.unreachable-requires
@@ -24,6 +24,12 @@ unreachable-requires-in-Ruled c =
     not_ruled c.self.inside.rests.items c.in-Some.place c.index_mut.result.now c.in-Ruled.field-0 c.self.invariant.1
     (entry_here c.self.inside.rests.items c.args.station c.in-Some.place c.index_mut.result.now (found_in c.self.inside.rests.items c.as_slice.result.now c.args.station c.in-Some.place c.as_slice.ensures.value c.in-Some.ensures) c.index_mut.ensures.value)
     c.in-Ruled.is
+
+pub unreachable-requires-in-Ring : goal.unreachable-requires-in-Ring
+unreachable-requires-in-Ring c =
+    not_ring c.self.inside.rests.items c.in-Some.place c.index_mut.result.now c.in-Ring.field-0 c.self.invariant.1
+    (entry_here c.self.inside.rests.items c.args.station c.in-Some.place c.index_mut.result.now (found_in c.self.inside.rests.items c.as_slice.result.now c.args.station c.in-Some.place c.as_slice.ensures.value c.in-Some.ensures) c.index_mut.ensures.value)
+    c.in-Ring.is
 
 pub invariant_of-self : goal.invariant_of-self
 invariant_of-self c =

@@ -4,7 +4,7 @@ use Rattle.sdl_routes.specs.declared.route.Station.{Station}
 use Rattle.sdl_queue.specs.declared.rest.Rest.TheVariants.{Serial}
 use Rattle.sdl_forward.specs.Boards.{waiting, ChangesOnly, lists_of}
 use Rattle.sdl_forward.proofs.Marks.{keeps_marks, none_left}
-use Rattle.sdl_forward.proofs.Entries.{place_within, not_contained, found_in, not_in, not_ruled, entry_here, takes, changes, waits_now, once_same, serial_set}
+use Rattle.sdl_forward.proofs.Entries.{place_within, not_contained, found_in, not_in, not_ruled, not_ring, entry_here, takes, changes, waits_now, once_same, serial_set}
 use Rattle.sdl_forward.proofs.board.Board.take.Goals as goal
 
 pub returns-in_err-place-clause-take : goal.returns-in_err-place-clause-take
@@ -26,6 +26,12 @@ unreachable-requires c =
     not_ruled c.self.inside.rests.items c.in_ok-place.place c.index_mut.result.now c.in-Ruled.field-0 c.self.invariant.1
     (entry_here c.self.inside.rests.items c.args.station c.in_ok-place.place c.index_mut.result.now (found_in c.self.inside.rests.items c.as_slice.result.now c.args.station c.in_ok-place.place c.as_slice.ensures.value c.in_ok-place.ensures) c.index_mut.ensures.value)
     c.in-Ruled.is
+
+pub unreachable-requires-in-Ring : goal.unreachable-requires-in-Ring
+unreachable-requires-in-Ring c =
+    not_ring c.self.inside.rests.items c.in_ok-place.place c.index_mut.result.now c.in-Ring.field-0 c.self.invariant.1
+    (entry_here c.self.inside.rests.items c.args.station c.in_ok-place.place c.index_mut.result.now (found_in c.self.inside.rests.items c.as_slice.result.now c.args.station c.in_ok-place.place c.as_slice.ensures.value c.in_ok-place.ensures) c.index_mut.ensures.value)
+    c.in-Ring.is
 
 pub invariant_of-self : goal.invariant_of-self
 invariant_of-self c =

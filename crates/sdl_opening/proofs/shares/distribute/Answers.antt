@@ -4,9 +4,9 @@ use Rattle.std.specs.Vec.Iter.{into_iter_items}
 use Rattle.std.specs.Option.{option_to_list}
 use Rattle.sdl_queue.specs.Ends.{FeedEnd}
 use Rattle.sdl_ends.specs.Ends.{WorkerEnds}
-use Rattle.sdl_opening.proofs.Dealing.{yes_more, no_more, deal_end, none_here}
-use Rattle.sdl_opening.proofs.shares.deal.Goals as goal
-use Rattle.sdl_opening.proofs.shares.deal.Goals.{then-marks-place+in-Some+in_ok-add_feed, else-marks-place}
+use Rattle.sdl_opening.proofs.Distributing.{yes_more, no_more, distribute_end, none_here}
+use Rattle.sdl_opening.proofs.shares.distribute.Goals as goal
+use Rattle.sdl_opening.proofs.shares.distribute.Goals.{then-marks-place+in-Some+in_ok-add_feed, else-marks-place}
 
 pub unreachable-requires : goal.unreachable-requires
 unreachable-requires c =
@@ -35,4 +35,4 @@ loop-place-preserved c =
 
 pub returns : goal.returns
 returns c =
-    sym (deal_end c.args.station c.loop-place.place c.args.marks.now (into_iter_items c.loop-place.feeds) c.loop-place.shares.items c.loop-place-test.false c.loop-place.invariant.each) ∙ c.loop-place.invariant.so
+    sym (distribute_end c.args.station c.loop-place.place c.args.marks.now (into_iter_items c.loop-place.feeds) c.loop-place.shares.items c.loop-place-test.false c.loop-place.invariant.each) ∙ c.loop-place.invariant.so

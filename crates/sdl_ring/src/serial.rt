@@ -32,8 +32,8 @@ impl SerialQueue {
         }
     }
 
-    // A queue of these items, of which the first is at the front.
-    pub(crate) fn of(items: VecDeque<Item>) -> SerialQueue
+    /// A queue of these items, of which the first is at the front.
+    pub fn of(items: VecDeque<Item>) -> SerialQueue
         ensures { result ≡ items.items }
     {
         SerialQueue { items }
