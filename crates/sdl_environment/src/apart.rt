@@ -1,6 +1,7 @@
 //! The environment's step where each queue has ends of its own.
-ghost use Rattle.std.specs.Prelude.{◌≡◌, ◌≢◌, ℕ, List, [], true, false, Option, Some, None, IfOk};
+ghost use Rattle.std.specs.Prelude.{◌≡◌, ◌≢◌, ◌≤◌, ℕ, List, length, [], true, false, Option, Some, None, IfOk};
 ghost use Rattle.sdl_signal.specs.declared.values.Item.{Item};
+ghost use Rattle.sdl_signal.specs.Bytes.{HasNoNewline};
 ghost use Rattle.sdl_signal.specs.Source.{HoldsLine};
 ghost use Rattle.sdl_parts.specs.Structure.{IsStructure};
 ghost use Rattle.sdl_routes.specs.Routes.{AreRoutesOf};
@@ -15,6 +16,7 @@ ghost use Rattle.sdl_environment.specs.EnvPhasesApart.{SendsTo, SentOn, Receives
 
 use crate::environment::EnvWorker;
 use crate::leaving::may_leave;
+use crate::routed::RoutedStructure;
 use crate::writing::write;
 use sdl_ends::Ends;
 use sdl_hand::{Refused, Stepped, answer_of};
@@ -59,40 +61,39 @@ impl EnvApart {
     pub fn step<T: Wait, R: Read, W: Write>(
         &mut self,
         rt: &T,
-        structure: &Structure,
-        routes: &Routes,
+        routed: RoutedStructure<'_>,
         ends: &mut Ends,
         pick: u32,
         input: &mut R,
         output: &mut W,
     ) -> Stepped
-        requires structure { IsStructure structure.now }
-        requires routes { AreRoutesOf structure.now routes.now }
-        requires keeps { IsEnvPuttingOut structure.now routes.now self.old.worker.number self.old.worker self.old.astray ends.old }
-        ensures step { EnvStepsApart structure.now routes.now self.old.worker.number self.old.worker self.old.astray ends.old result self.new.worker self.new.astray ends.new }
+        requires structure { IsStructure routed.structure.now }
+        requires routes { AreRoutesOf routed.structure.now routed.routes.now }
+        requires keeps { IsEnvPuttingOut routed.structure.now routed.routes.now self.old.worker.number self.old.worker self.old.astray ends.old }
+        ensures step { EnvStepsApart routed.entry.structure.now routed.entry.routes.now self.old.worker.number self.old.worker self.old.astray ends.old result self.new.worker self.new.astray ends.new }
         // What it does where nothing is astray and no refusal ends it, and where an item is astray.
         ensures hand { result ≢ Memory → self.new.worker.outgoing ≡ [] }
         ensures read { result ≢ Memory → ReadsNext self.old.worker self.new.worker }
         ensures none { result ≢ Memory → self.new.astray ≡ None }
         ensures astray { (i : Item) → self.old.astray ≡ Some i → (result ≡ Memory) × (self.new ≡ self.old) × (ends.new ≡ ends.old) }
-        ensures reading { (start : Option (List ℕ)) → HasReadSoFar structure.now routes.now self.old.worker.number start (R.remaining input.old) self.old.worker
-            → HasReadSoFar structure.now routes.now self.old.worker.number start (R.remaining input.new) self.new.worker }
-        ensures writing { (start : Option (List ℕ)) → HasWrittenSoFar structure.now routes.now self.old.worker.number start (W.contents output.old) self.old.worker
-            → HasWrittenSoFar structure.now routes.now self.old.worker.number start (W.contents output.new) self.new.worker }
-        ensures keeps { IsEnvPuttingOut structure.now routes.now self.new.worker.number self.new.worker self.new.astray ends.new }
+        ensures reading { (start : Option (List ℕ)) → HasReadSoFar routed.entry.structure.now routed.entry.routes.now self.old.worker.number start (R.remaining input.old) self.old.worker
+            → HasReadSoFar routed.entry.structure.now routed.entry.routes.now self.old.worker.number start (R.remaining input.new) self.new.worker }
+        ensures writing { (start : Option (List ℕ)) → HasWrittenSoFar routed.entry.structure.now routed.entry.routes.now self.old.worker.number start (W.contents output.old) self.old.worker
+            → HasWrittenSoFar routed.entry.structure.now routed.entry.routes.now self.old.worker.number start (W.contents output.new) self.new.worker }
+        ensures keeps { IsEnvPuttingOut routed.entry.structure.now routed.entry.routes.now self.new.worker.number self.new.worker self.new.astray ends.new }
         ensures number { self.new.worker.number ≡ self.old.worker.number }
         ensures ends { IsSameEnds ends.old ends.new }
     {
         if self.astray.is_some() {
             return Stepped::Memory;
         }
-        answer_of(self.try_step(rt, structure, routes, ends, pick, input, output))
+        answer_of(self.try_step(rt, routed, ends, pick, input, output))
     }
 
     /// Whether a step waits for no reader: the reading has ended, or a whole line or 321 bytes of one were read ahead.
     pub fn is_ready(&self) -> bool
         ensures ready { result ≡ true → self.now.worker.ended ≡ None → self.now.worker.reading.source.ended ≡ None → HoldsLine self.now.worker.reading.source.ahead }
-        ensures asks { result ≡ false → (self.now.worker.ended ≡ None) × (self.now.worker.reading.source.ended ≡ None) }
+        ensures asks { result ≡ false → (self.now.worker.ended ≡ None) × (self.now.worker.reading.source.ended ≡ None) × HasNoNewline self.now.worker.reading.source.ahead × (length self.now.worker.reading.source.ahead ≤ 320) }
     {
         self.worker.is_ready()
     }
@@ -133,26 +134,26 @@ impl EnvApart {
     fn try_step<T: Wait, R: Read, W: Write>(
         &mut self,
         rt: &T,
-        structure: &Structure,
-        routes: &Routes,
+        routed: RoutedStructure<'_>,
         ends: &mut Ends,
         pick: u32,
         input: &mut R,
         output: &mut W,
     ) -> Result<bool, Refused>
-        requires structure { IsStructure structure.now }
-        requires routes { AreRoutesOf structure.now routes.now }
+        requires structure { IsStructure routed.structure.now }
+        requires routes { AreRoutesOf routed.structure.now routed.routes.now }
         requires none { self.old.astray ≡ None }
-        requires sound { IsEnvSound structure.now routes.now self.old.worker.number self.old.worker }
-        requires ways { HasGateWays routes.now ends.old }
-        ensures step { EnvStepsToApart structure.now routes.now self.old.worker.number self.old.worker None ends.old result self.new.worker self.new.astray ends.new }
+        requires sound { IsEnvSound routed.structure.now routed.routes.now self.old.worker.number self.old.worker }
+        requires ways { HasGateWays routed.routes.now ends.old }
+        ensures step { EnvStepsToApart routed.entry.structure.now routed.entry.routes.now self.old.worker.number self.old.worker None ends.old result self.new.worker self.new.astray ends.new }
         ensures on { IfOk result (λ did. SentOn self.old.worker self.new.worker × (self.new.astray ≡ None)) }
-        ensures reading { (start : Option (List ℕ)) → HasReadSoFar structure.now routes.now self.old.worker.number start (R.remaining input.old) self.old.worker
-            → HasReadSoFar structure.now routes.now self.old.worker.number start (R.remaining input.new) self.new.worker }
-        ensures writing { (start : Option (List ℕ)) → HasWrittenSoFar structure.now routes.now self.old.worker.number start (W.contents output.old) self.old.worker
-            → HasWrittenSoFar structure.now routes.now self.old.worker.number start (W.contents output.new) self.new.worker }
+        ensures reading { (start : Option (List ℕ)) → HasReadSoFar routed.entry.structure.now routed.entry.routes.now self.old.worker.number start (R.remaining input.old) self.old.worker
+            → HasReadSoFar routed.entry.structure.now routed.entry.routes.now self.old.worker.number start (R.remaining input.new) self.new.worker }
+        ensures writing { (start : Option (List ℕ)) → HasWrittenSoFar routed.entry.structure.now routed.entry.routes.now self.old.worker.number start (W.contents output.old) self.old.worker
+            → HasWrittenSoFar routed.entry.structure.now routed.entry.routes.now self.old.worker.number start (W.contents output.new) self.new.worker }
         ensures ends { IsSameEnds ends.old ends.new }
     {
+        let RoutedStructure { structure, routes } = routed;
         let sent = self
             .worker
             .send_apart(rt, structure, routes, ends, pick, input)?;

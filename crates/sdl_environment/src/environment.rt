@@ -1,5 +1,6 @@
 //! The environment at work: it reads lines and outputs their signals, and writes what it receives as lines.
-ghost use Rattle.std.specs.Prelude.{◌≡◌, ◌≢◌, ℕ, List, [], true, false, Option, None, All, IfOk};
+ghost use Rattle.std.specs.Prelude.{◌≡◌, ◌≢◌, ◌≤◌, ℕ, List, length, [], true, false, Option, None, All, IfOk};
+ghost use Rattle.sdl_signal.specs.Bytes.{HasNoNewline};
 ghost use Rattle.sdl_signal.specs.Source.{HoldsLine};
 ghost use Rattle.sdl_signal.specs.declared.values.Item.{Item};
 ghost use Rattle.sdl_parts.specs.Structure.{IsStructure};
@@ -89,7 +90,7 @@ impl EnvWorker {
     /// Whether a step waits for no reader.
     pub(crate) fn is_ready(&self) -> bool
         ensures ready { result ≡ true → self.now.ended ≡ None → self.now.reading.source.ended ≡ None → HoldsLine self.now.reading.source.ahead }
-        ensures asks { result ≡ false → (self.now.ended ≡ None) × (self.now.reading.source.ended ≡ None) }
+        ensures asks { result ≡ false → (self.now.ended ≡ None) × (self.now.reading.source.ended ≡ None) × HasNoNewline self.now.reading.source.ahead × (length self.now.reading.source.ahead ≤ 320) }
     {
         self.ended.is_some() || self.reader.is_ready()
     }

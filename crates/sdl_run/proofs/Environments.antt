@@ -3,7 +3,10 @@ use Rattle.std.proofs.Common.{ℕ, List, Option, ◌≡◌, sym, ◌∙◌, subs
 use Rattle.sdl_signal.specs.declared.values.Item.{Item}
 use Rattle.sdl_parts.specs.Structure.{Structure}
 use Rattle.sdl_routes.specs.declared.route.TableRow.{TableRow}
-use Rattle.sdl_ends.specs.Ends.{WorkerEnds}
+use Rattle.sdl_routes.specs.declared.route.Station.{Station}
+use Rattle.sdl_ends.specs.Ends.{WorkerEnds, IsSameEnds, put_at}
+use Rattle.sdl_hand.proofs.FrontsApart.{has_feed_still}
+use Rattle.sdl_threads.proofs.Flushes.{taken_same}
 use Rattle.sdl_serial_run.specs.sdl_outcome.EnvironmentWork.{EnvWorking, HasReadSoFar, HasWrittenSoFar}
 use Rattle.sdl_serial_run.specs.sdl_environment.EnvApart.{IsEnvPuttingOut}
 use Rattle.sdl_run.specs.Environment.{KeepsEnvironment}
@@ -26,3 +29,27 @@ module _ (s : Structure) (rows : List TableRow) (old : EnvWorking) (was : Option
         reading = subst (λ (n : ℕ). HasReadSoFar s rows n read_from read_then new) own (reads read_from (subst (λ (n : ℕ). HasReadSoFar s rows n read_from read_to old) (sym own) kept.reading));
         writing = subst (λ (n : ℕ). HasWrittenSoFar s rows n written_from written_then new) own (writes written_from (subst (λ (n : ℕ). HasWrittenSoFar s rows n written_from written_to old) (sym own) kept.writing));
       }
+
+-- where its ends are flushed
+pub flushed : (s : Structure) (rows : List TableRow) (w : EnvWorking) (astray : Option Item) (old new : WorkerEnds) (read_from read_to written_from written_to : Option (List ℕ)) → ((t : Station) → put_at new t ≡ put_at old t)
+    → new.tap ≡ old.tap → IsSameEnds old new → KeepsEnvironment s rows w astray old read_from read_to written_from written_to → KeepsEnvironment s rows w astray new read_from read_to written_from written_to
+flushed s rows w astray old new read_from read_to written_from written_to puts tap same kept =
+    let h = kept.putting in
+    record {
+      structure = kept.structure;
+      routes = kept.routes;
+      putting = record {
+        sound = h.sound;
+        put = h.put;
+        whole = h.whole;
+        each = λ t. puts t ∙ h.each t;
+        came = h.came ∙ sym (taken_same old new tap);
+        counted = h.counted;
+        coming = h.coming;
+        legal = h.legal;
+        lost = h.lost;
+        ways = λ r row t gate at source first. has_feed_still old new t same (h.ways r row t gate at source first);
+      };
+      reading = kept.reading;
+      writing = kept.writing;
+    }

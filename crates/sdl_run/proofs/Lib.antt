@@ -1,5 +1,6 @@
 pub mod Pairs
 pub mod Comes
+pub mod Names
 pub mod Places
 pub mod Site
 pub mod Begin

@@ -1,5 +1,6 @@
 -- What comes back of the workers of threads. (This project's own.)
-use Rattle.std.specs.Prelude.{List, [], ◌∷◌, ◌++◌, map}
+use Rattle.std.specs.Prelude.{◌≡◌, ℕ, zero, suc, ◌+◌, ◌<◌, ◌≤◌, List, [], ◌∷◌, ◌++◌, map, Option, Some, MatchOption}
+use Rattle.std.specs.List.{AllByRecursion}
 use Rattle.sdl_ends.specs.Ends.{WorkerEnds}
 use Rattle.sdl_threads.specs.declared.workers.BlockThread.{BlockThread}
 use Rattle.sdl_threads.specs.declared.workers.ForwarderThread.{ForwarderThread}
@@ -36,3 +37,38 @@ abbrev pub HasRun : {W : Type 0} → Returned W → Type 0
 HasRun (returned.Ran w) = Unit {0}
 HasRun (returned.Refused w) = ⊥
 HasRun (returned.NotStarted w) = ⊥
+
+-- it came back the way that this did
+abbrev pub CameAs : {W V : Type 0} → Returned W → Returned V → Type 0
+CameAs (returned.Ran w) (returned.Ran v) = Unit {0}
+CameAs (returned.Ran w) (returned.Refused v) = ⊥
+CameAs (returned.Ran w) (returned.NotStarted v) = ⊥
+CameAs (returned.Refused w) (returned.Ran v) = ⊥
+CameAs (returned.Refused w) (returned.Refused v) = Unit {0}
+CameAs (returned.Refused w) (returned.NotStarted v) = ⊥
+CameAs (returned.NotStarted w) (returned.Ran v) = ⊥
+CameAs (returned.NotStarted w) (returned.Refused v) = ⊥
+CameAs (returned.NotStarted w) (returned.NotStarted v) = Unit {0}
+
+-- the worker at this place did not make steps until it was told to stop, and all before it did
+abbrev pub FirstNotRun : {W : Type 0} → List (Returned W) → ℕ → Type 0
+FirstNotRun [] k = ⊥
+FirstNotRun (r ∷ rs) zero = HasRun r → ⊥
+FirstNotRun (r ∷ rs) (suc k) = HasRun r × FirstNotRun rs k
+
+-- it is the first that did not run, whose number is the place that it has behind so many
+abbrev pub IsFirstFrom : {W : Type 0} → List (Returned W) → ℕ → ℕ → Type 0
+IsFirstFrom done number w = (place : ℕ) × ((w ≡ number + place) × FirstNotRun done place)
+
+-- The worker is the first of these that did not run. The number of a forwarder comes behind the environment's.
+pub record IsFirstRefused {W : Type 0} (done : List (Returned W)) (blocks w : ℕ) : Type 0 where
+  pub place : ℕ
+  pub first : FirstNotRun done place
+  pub of_block : place < blocks → w ≡ place
+  pub of_forwarder : blocks ≤ place → w ≡ place + 1
+
+-- none is named where all have run; else the environment, or else the first of the others that did not run
+abbrev pub NamesFirst : {W V : Type 0} → List (Returned W) → Returned V → ℕ → Option ℕ → Type 0
+NamesFirst done (returned.Ran v) blocks named = MatchOption named (AllByRecursion HasRun done) (λ w. IsFirstRefused done blocks w)
+NamesFirst done (returned.Refused v) blocks named = named ≡ Some blocks
+NamesFirst done (returned.NotStarted v) blocks named = named ≡ Some blocks

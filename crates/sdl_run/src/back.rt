@@ -1,8 +1,8 @@
 //! The workers come back from their threads, and are taken apart.
-ghost use Rattle.std.specs.Prelude.{◌≡◌, ℕ, ◌+◌, ◌<◌, ◌≤◌, ◌^◌, ◌++◌, ◌∷◌, [], length, map, vec_len, vec_capacity, MatchOption, MatchBool};
+ghost use Rattle.std.specs.Prelude.{◌≡◌, ℕ, ◌+◌, ◌<◌, ◌≤◌, ◌^◌, ◌++◌, ◌∷◌, [], length, map, vec_len, vec_capacity, MatchOption, MatchBool, ⊤};
 ghost use Rattle.std.specs.List.{AllByRecursion};
 ghost use Rattle.sdl_threads.specs.Back.{worker_in};
-ghost use Rattle.sdl_run.specs.Coming.{block_if, forwarder_if, blocks_back, forwarders_back, HasRun};
+ghost use Rattle.sdl_run.specs.Coming.{block_if, forwarder_if, blocks_back, forwarders_back, HasRun, CameAs, IsFirstFrom, IsFirstRefused, NamesFirst};
 
 use sdl_ends::Ends;
 use sdl_forward::Forwarder;
@@ -13,15 +13,15 @@ use sdl_serial_run::sdl_driver::closing::take_first;
 use sdl_threads::{AtWork, BlockThread, ForwarderThread, Kind, Returned};
 use sdl_transition::Agents;
 
-/// The worker, and whether it was refused memory or its thread could not start.
-pub fn put_apart<W>(returned: Returned<W>) -> (W, bool)
+/// The worker, and how it came back.
+pub fn put_apart<W>(returned: Returned<W>) -> (W, Returned<()>)
     ensures worker { result.0 ≡ worker_in returned }
-    ensures refused { MatchBool result.1 (HasRun returned → ⊥) (HasRun returned) }
+    ensures way { CameAs returned result.1 }
 {
     match returned {
-        Returned::Ran(worker) => (worker, false),
-        Returned::Refused(worker) => (worker, true),
-        Returned::NotStarted(worker) => (worker, true),
+        Returned::Ran(worker) => (worker, Returned::Ran(())),
+        Returned::Refused(worker) => (worker, Returned::Refused(())),
+        Returned::NotStarted(worker) => (worker, Returned::NotStarted(())),
     }
 }
 
@@ -39,7 +39,8 @@ fn has_run<W>(returned: &Returned<W>) -> bool
 /// The number of the first of these that did not run, of whom the first has this number.
 fn refused_from<W>(done: &[Returned<W>], number: u32) -> Option<u32>
     requires { number + length done.now < 2 ^ 31 }
-    ensures { MatchOption result (AllByRecursion HasRun done.now) (λ w. (number ≤ w) × (w < number + length done.now)) }
+    ensures bound { MatchOption result (AllByRecursion HasRun done.now) (λ w. (number ≤ w) × (w < number + length done.now)) }
+    ensures first { MatchOption result ⊤ (λ w. IsFirstFrom done.now number w) }
 {
     let Some((first, rest)) = done.split_first() else {
         return None;
@@ -52,12 +53,32 @@ fn refused_from<W>(done: &[Returned<W>], number: u32) -> Option<u32>
 
 /// The number of the first worker, after the environment's where it is a forwarder, that was refused memory or whose thread could
 /// not start. `None` exactly where all have run.
-pub fn first_refused<W>(done: &[Returned<W>], blocks: u32) -> Option<u32>
+fn first_refused<W>(done: &[Returned<W>], blocks: u32) -> Option<u32>
     requires { length done.now < 2 ^ 31 }
-    ensures { MatchOption result (AllByRecursion HasRun done.now) (λ w. w ≤ length done.now) }
+    ensures bound { MatchOption result ⊤ (λ w. w ≤ length done.now) }
+    ensures named { MatchOption result (AllByRecursion HasRun done.now) (λ w. IsFirstRefused done.now blocks w) }
 {
     let place = refused_from(done, 0)?;
     Some(if place < blocks { place } else { place + 1 })
+}
+
+/// The number of the environment where it was refused memory, and else of the first other worker that was, or whose thread could
+/// not start. `None` exactly where all have run.
+pub fn name_refused<W, V>(
+    done: &[Returned<W>],
+    environment: &Returned<V>,
+    blocks: u32,
+) -> Option<u32>
+    requires few { length done.now < 2 ^ 31 }
+    requires number { blocks ≤ length done.now }
+    ensures bound { MatchOption result ⊤ (λ w. w ≤ length done.now) }
+    ensures named { NamesFirst done.now environment.now blocks result }
+{
+    match environment {
+        Returned::Ran(_) => first_refused(done, blocks),
+        Returned::Refused(_) => Some(blocks),
+        Returned::NotStarted(_) => Some(blocks),
+    }
 }
 
 /// Puts the worker behind the others of its kind, where there is room for it.

@@ -1,11 +1,11 @@
 //! The environment at work on the thread that starts the others.
 ghost use Rattle.std.specs.Prelude.{◌≡◌};
 
-use sdl_ends::Ends;
+use sdl_ends::{Ends, Marks};
 use sdl_hand::Stepped;
 use sdl_parts::Structure;
 use sdl_routes::Routes;
-use sdl_serial_run::sdl_environment::EnvApart;
+use sdl_serial_run::sdl_environment::{EnvApart, RoutedStructure};
 use sdl_threads::Work;
 use std::io::{Read, Write};
 use std::snapshot::Snapshot;
@@ -39,6 +39,10 @@ impl<'i, 'o, I: Read, O: Write> Work for EnvironmentThread<'i, 'o, I, O> {
 
     ghost and_then = { λ u v w p q. (q.0 ∙ p.0, q.1 ∙ p.1, q.2 ∙ p.2, q.3 ∙ p.3, record { feeds = q.4.feeds ∙ p.4.feeds; tap = q.4.tap ∙ p.4.tap }) };
 
+    fn flush(&mut self) -> bool {
+        self.ends.flush()
+    }
+
     fn step<R: Wait>(
         &mut self,
         rt: &R,
@@ -47,16 +51,11 @@ impl<'i, 'o, I: Read, O: Write> Work for EnvironmentThread<'i, 'o, I, O> {
         pick: u32,
         may_ask: bool,
     ) -> Stepped {
+        let routed = RoutedStructure { structure, routes };
         if self.environment.is_ready() {
-            return self.environment.step(
-                rt,
-                structure,
-                routes,
-                &mut self.ends,
-                pick,
-                self.input,
-                self.output,
-            );
+            return self
+                .environment
+                .step(rt, routed, &mut self.ends, pick, self.input, self.output);
         }
         let received = self
             .environment
@@ -64,19 +63,20 @@ impl<'i, 'o, I: Read, O: Write> Work for EnvironmentThread<'i, 'o, I, O> {
         if !may_ask || received != Stepped::Idle {
             return received;
         }
-        self.environment.step(
-            rt,
-            structure,
-            routes,
-            &mut self.ends,
-            pick,
-            self.input,
-            self.output,
-        )
+        self.environment
+            .step(rt, routed, &mut self.ends, pick, self.input, self.output)
     }
 
     fn asks_outside(&self) -> bool {
         !self.environment.is_ready()
+    }
+
+    fn mark(&self) -> Option<u32> {
+        self.ends.tap_mark()
+    }
+
+    fn touched(&self) -> Marks {
+        self.ends.touched()
     }
 
     fn is_spent(&self) -> bool {

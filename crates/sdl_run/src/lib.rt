@@ -3,6 +3,7 @@
 #![tactic(auto)]
 
 mod back;
+mod beside;
 mod environment_thread;
 mod joining;
 mod rejoining;

@@ -1,14 +1,15 @@
 //! What joined workers leave is settled on one thread, and the run is closed.
-ghost use Rattle.std.specs.Prelude.{◌≡◌, ℕ, List, Option, ◌+◌, ◌<◌, [], length, map, MatchOption, ⊤};
+ghost use Rattle.std.specs.Prelude.{◌≡◌, ℕ, List, Option, Some, ◌+◌, ◌<◌, [], length, map, MatchOption, ⊤};
 ghost use Rattle.sdl_transition.specs.Bound.{AreOneSystem};
 ghost use Rattle.sdl_serial_run.specs.sdl_block.Workers.{behaviours_of};
 ghost use Rattle.sdl_serial_run.specs.sdl_outcome.Plan.{blocks_in, workers_of};
 ghost use Rattle.sdl_serial_run.specs.sdl_outcome.EnvironmentWork.{HasReadSoFar, HasWrittenSoFar};
-ghost use Rattle.sdl_serial_run.specs.sdl_driver.Closings.{HasRoom, HasReadIn, HasWrittenIn, StopsByMemory, IsSystemOf, outcome_in};
+ghost use Rattle.sdl_serial_run.specs.sdl_driver.Closings.{HasRoom, HasReadIn, HasWrittenIn, StopsByMemory, NamesRefused, IsSystemOf, outcome_in};
 ghost use Rattle.sdl_serial_run.specs.sdl_driver.Drivers.{plan_of, IsDriving};
 ghost use Rattle.sdl_serial_run.specs.sdl_driver.Ended.{HasEnded};
 ghost use Rattle.sdl_serial_run.specs.sdl_driver.Stopped.{plan_of_parked, IsParked, IsSystemOfParked};
 
+use crate::joining::Stopped;
 use sdl_forward::{Board, Forwarder};
 use sdl_log::Keeps;
 use sdl_routes::Station;
@@ -62,28 +63,36 @@ fn drive_on<S: Agents, K: Keeps, R: Read, W: Write>(
     driver.close(room, refused)
 }
 
-/// Settles what the workers leave where none was refused memory, and closes the run. The worker named is the one that was refused.
+/// Settles what the workers leave where none was refused memory, and closes the run. Where one was refused, the end names it.
 pub fn settle<S: Agents, K: Keeps, T: Wait, R: Read, W: Write>(
     rt: &T,
-    parked: Parked<S, K>,
+    stopped: Stopped<S, K>,
     room: Room<S, K>,
-    refused: Option<u32>,
     input: &mut R,
     output: &mut W,
 ) -> Closing<S, K>
-    requires parked { IsParked S.may parked }
-    requires system { AreOneSystem S.may parked.checked parked.routes (map behaviours_of parked.blocks.items) }
-    requires room { HasRoom (length parked.blocks.items) (length parked.blocks.items + (length parked.forwarders.items + 1)) room }
+    requires parked { IsParked S.may stopped.parked }
+    requires system { AreOneSystem S.may stopped.parked.checked stopped.parked.routes (map behaviours_of stopped.parked.blocks.items) }
+    requires room { HasRoom (length stopped.parked.blocks.items) (length stopped.parked.blocks.items + (length stopped.parked.forwarders.items + 1)) room }
     requires empty { (room.parts.items ≡ []) × (room.logs.items ≡ []) × (room.hands.items ≡ []) }
-    requires refused { MatchOption refused ⊤ (λ w. w < length (workers_of (plan_of_parked parked))) }
-    ensures ended { HasEnded S.may (plan_of_parked parked) (outcome_in K.events result) result.end result.ledger }
-    ensures reading { (start : Option (List ℕ)) → HasReadSoFar parked.checked parked.routes (blocks_in (plan_of_parked parked)) start (R.remaining input.old) parked.environment
-        → HasReadIn (plan_of_parked parked) start (R.remaining input.new) result }
-    ensures writing { (start : Option (List ℕ)) → HasWrittenSoFar parked.checked parked.routes (blocks_in (plan_of_parked parked)) start (W.contents output.old) parked.environment
-        → HasWrittenIn (plan_of_parked parked) start (W.contents output.new) result }
+    requires refused { MatchOption stopped.refused ⊤ (λ w. w < length (workers_of (plan_of_parked stopped.parked))) }
+    ensures ended { HasEnded S.may (plan_of_parked stopped.parked) (outcome_in K.events result) result.end result.ledger }
+    ensures reading { (start : Option (List ℕ)) → HasReadSoFar stopped.parked.checked stopped.parked.routes (blocks_in (plan_of_parked stopped.parked)) start (R.remaining input.old) stopped.parked.environment
+        → HasReadIn (plan_of_parked stopped.parked) start (R.remaining input.new) result }
+    ensures writing { (start : Option (List ℕ)) → HasWrittenSoFar stopped.parked.checked stopped.parked.routes (blocks_in (plan_of_parked stopped.parked)) start (W.contents output.old) stopped.parked.environment
+        → HasWrittenIn (plan_of_parked stopped.parked) start (W.contents output.new) result }
     ensures stopped { StopsByMemory result.input result.end }
-    ensures bound { IsSystemOfParked parked result.bound }
+    ensures refusal { MatchOption stopped.refused ⊤ (λ w. NamesRefused result.end (Some w)) }
+    ensures bound { IsSystemOfParked stopped.parked result.bound }
 {
+    let Stopped {
+        parked,
+        refused,
+        came,
+        way,
+    } = stopped;
+    drop(came);
+    drop(way);
     if let Some(worker) = refused {
         return parked.close(room, Some(worker));
     }

@@ -78,8 +78,8 @@ fn run_in<S: Agents + Send, K: Keeps + Send, G: Gate, T: Threads + Wait + Sync, 
                 environment,
                 budget,
             };
-            let (parked, refused) = run_apart(rt, starting, opened, gate, input, output);
-            Ok(settle(rt, parked, room, refused, input, output))
+            let stopped = run_apart(rt, starting, opened, gate, input, output);
+            Ok(settle(rt, stopped, room, input, output))
         }
         Err((workers, refused, rest)) => {
             let parts = gather(room.parts, workers, refused, rest);

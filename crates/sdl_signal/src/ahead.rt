@@ -10,7 +10,7 @@ use std::marker::Model;
 pub const RETRIES: u32 = 1_000;
 
 /// How many bytes are asked of a reader at once, at most.
-const BLOCK: usize = 4_096;
+const BLOCK: usize = 16_384;
 
 /// What a read of a block came to.
 #[derive(Clone, Copy, Debug, PartialEq, Eq)]
@@ -59,7 +59,7 @@ impl Model for Ahead {
 
     ghost view = { λ a. slice_range a.block a.start a.end };
 
-    ghost invariant = { λ a. (a.start ≤ a.end) × (a.end ≤ 4096) };
+    ghost invariant = { λ a. (a.start ≤ a.end) × (a.end ≤ 16384) };
 }
 
 impl Ahead {
@@ -90,7 +90,7 @@ impl Ahead {
 
     /// Reads a block behind the bytes that wait, which move to the front first.
     pub fn fill<R: Read>(&mut self, input: &mut R) -> BlockRead
-        requires { length self.old < 4096 }
+        requires { length self.old < 16384 }
         ensures { IsFilled (R.remaining input.old) (R.remaining input.new) self.old self.new result }
     {
         let waiting = self.end - self.start;

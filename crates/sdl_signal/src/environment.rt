@@ -1,5 +1,6 @@
 //! The environment's reading of an input: its lines, read as signals, up to the end, a fault or the limit.
-ghost use Rattle.std.specs.Prelude.{◌≡◌, ℕ, true, false, List, [], Option, None};
+ghost use Rattle.std.specs.Prelude.{◌≡◌, ◌≤◌, ℕ, true, false, List, length, [], Option, None};
+ghost use Rattle.sdl_signal.specs.Bytes.{HasNoNewline};
 ghost use Rattle.sdl_signal.specs.declared.values.EnvLine.{EnvLine};
 ghost use Rattle.sdl_signal.specs.Source.{HoldsLine};
 ghost use Rattle.sdl_signal.specs.Environment.{Counts, EndsItself, GoesOn, HasCarried, IsEnvLine};
@@ -56,7 +57,7 @@ impl EnvReader {
     /// Whether the next answer is told without asking the reader.
     pub fn is_ready(&self) -> bool
         ensures ready { result ≡ true → self.now.source.ended ≡ None → HoldsLine self.now.source.ahead }
-        ensures asks { result ≡ false → self.now.source.ended ≡ None }
+        ensures asks { result ≡ false → (self.now.source.ended ≡ None) × HasNoNewline self.now.source.ahead × (length self.now.source.ahead ≤ 320) }
     {
         self.source.is_ready()
     }

@@ -73,6 +73,32 @@ impl Gate for Holding {
     }
 }
 
+/// In Relay, the first step of the forwarder behind L waits until the environment was about to make 201 steps.
+#[derive(Drop)]
+pub struct HeldPath {
+    pub came: AtomicU64,
+    pub met: AtomicU64,
+}
+
+impl HeldPath {
+    pub fn new() -> HeldPath {
+        HeldPath {
+            came: AtomicU64::new(0),
+            met: AtomicU64::new(0),
+        }
+    }
+}
+
+impl Gate for HeldPath {
+    fn before(&self, worker: u32, step: u64) {
+        if worker == 2 {
+            self.came.fetch_add(1, SeqCst);
+        } else if worker == 3 && step == 0 && waits_for(&self.came, 201) {
+            self.met.fetch_add(1, SeqCst);
+        }
+    }
+}
+
 /// Some steps, at random, first yield or spin.
 #[derive(Drop)]
 pub struct Jitter {

@@ -1,6 +1,6 @@
 //! Runs of Relay in threads where steps wait for one another.
 use crate::counted;
-use crate::gates::{Holding, Meeting};
+use crate::gates::{HeldPath, Holding, Meeting};
 use crate::plan::lines;
 use sdl_run::{Ledger, RunEnd};
 use std::sync::Arc;
@@ -42,5 +42,21 @@ fn threads_carry_signals_and_make_turns(rt: HostRuntime) -> Result<(), Fail> {
         ..Ledger::default()
     };
     assert_eq!(rt; left.ledger, ledger);
+    Ok(())
+}
+
+/// What is put while the forwarder of the first path is held waits in its ring and behind it.
+#[test]
+fn two_hundred_lines_come_in_their_order_behind_a_held_forwarder(
+    rt: HostRuntime,
+) -> Result<(), Fail> {
+    let held = HeldPath::new();
+    let calls = Arc::new(rt.alloc(), AtomicU64::new(0))?;
+    let input = lines(rt.alloc(), ["left put", "left put"], 1..201)?;
+    let left = counted::run(&rt, rt.alloc(), &calls, input.as_slice(), Some(&held))?;
+    assert_eq!(rt; held.met.load(SeqCst), 1);
+    let wanted = lines(rt.alloc(), ["sink out", "sink out"], 1..201)?;
+    assert_eq!(rt; left.written.as_slice(), wanted.as_slice());
+    assert_eq!(rt; left.end, RunEnd::Quiet);
     Ok(())
 }

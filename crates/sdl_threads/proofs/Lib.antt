@@ -1,1 +1,2 @@
 pub mod Crossings
+pub mod Flushes

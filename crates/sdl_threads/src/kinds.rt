@@ -1,5 +1,6 @@
 //! Workers of two kinds in one list.
 use crate::work::{Stepped, Work};
+use sdl_ends::Marks;
 use sdl_parts::Structure;
 use sdl_routes::Routes;
 use std::sync::Wait;
@@ -24,6 +25,13 @@ impl<B: Work, F: Work> Work for Kind<B, F> {
 
     ghost and_then = { SameOneOf-trans B.same F.same B.and_then F.and_then };
 
+    fn flush(&mut self) -> bool {
+        match self {
+            Kind::Block(block) => block.flush(),
+            Kind::Forwarder(forwarder) => forwarder.flush(),
+        }
+    }
+
     fn step<R: Wait>(
         &mut self,
         rt: &R,
@@ -42,6 +50,20 @@ impl<B: Work, F: Work> Work for Kind<B, F> {
         match self {
             Kind::Block(block) => block.asks_outside(),
             Kind::Forwarder(forwarder) => forwarder.asks_outside(),
+        }
+    }
+
+    fn mark(&self) -> Option<u32> {
+        match self {
+            Kind::Block(block) => block.mark(),
+            Kind::Forwarder(forwarder) => forwarder.mark(),
+        }
+    }
+
+    fn touched(&self) -> Marks {
+        match self {
+            Kind::Block(block) => block.touched(),
+            Kind::Forwarder(forwarder) => forwarder.touched(),
         }
     }
 

@@ -4,11 +4,13 @@
 mod kinds;
 mod pace;
 mod scope;
+mod told;
 mod work;
 mod workers;
 
 pub use kinds::Kind;
 pub use pace::{Gate, OpenGate};
-pub use scope::run_all;
+pub use scope::{Team, run_all};
+pub use sdl_ends::Marks;
 pub use work::{Returned, Stepped, Work};
 pub use workers::{AtWork, BlockThread, ForwarderThread, run_workers};

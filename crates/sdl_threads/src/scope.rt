@@ -3,7 +3,8 @@ ghost use Rattle.std.specs.Prelude.{◌≡◌, ◌≤◌, ◌<◌, ◌^◌, [], 
 ghost use Rattle.std.specs.List.{All, AllZip};
 ghost use Rattle.sdl_threads.specs.Back.{ComesFrom};
 
-use crate::pace::{Gate, Told, drive};
+use crate::pace::{Gate, drive};
+use crate::told::Told;
 use crate::work::{Returned, Work};
 use sdl_parts::Structure;
 use sdl_routes::Routes;
@@ -11,6 +12,17 @@ use std::snapshot::Snapshot;
 use std::sync::Wait;
 use std::thread;
 use std::thread::{Promise, Scope, Threads};
+
+/// The workers of a system before they start, and room for those that come back. The worker at a place of the list has that number,
+/// and one more from the environment's number on.
+#[derive(Drop)]
+pub struct Team<W, E> {
+    pub workers: Vec<W>,
+    pub environment: E,
+    pub number_of_environment: u32,
+    /// Empty, with room for as many as there are workers.
+    pub done: Vec<Returned<W>>,
+}
 
 /// A thread's promise: the worker that comes back is this one, and keeps what its steps keep in this system.
 #[derive(Drop)]
@@ -55,25 +67,28 @@ fn run_rest<
 >(
     scope: &'s Scope<'s, &'e ()>,
     rt: &'e R,
-    mut workers: Vec<W>,
-    environment: E,
-    number_of_environment: u32,
-    done: Vec<Returned<W>>,
+    team: Team<W, E>,
     structure: &'e Structure,
     routes: &'e Routes,
     gate: &'e G,
     told: &'e Told,
 ) -> (Vec<Returned<W>>, Returned<E>)
-    requires few { vec_len workers < 2 ^ 31 }
-    requires sound { All (W.keeps structure.now routes.now) workers.items }
-    requires sound_environment { E.keeps structure.now routes.now environment }
-    requires empty { done.items ≡ [] }
-    requires room { vec_len workers ≤ vec_capacity done }
-    ensures workers { AllZip (ComesFrom (W.keeps structure.now routes.now) W.same) workers.items result.0.items }
-    ensures environment { ComesFrom (E.keeps structure.now routes.now) E.same environment result.1 }
-    ensures len { vec_len result.0 ≡ vec_len workers }
-    ensures room { vec_capacity result.0 ≡ vec_capacity done }
+    requires few { vec_len team.workers < 2 ^ 31 }
+    requires sound { All (W.keeps structure.now routes.now) team.workers.items }
+    requires sound_environment { E.keeps structure.now routes.now team.environment }
+    requires empty { team.done.items ≡ [] }
+    requires room { vec_len team.workers ≤ vec_capacity team.done }
+    ensures workers { AllZip (ComesFrom (W.keeps structure.now routes.now) W.same) team.workers.items result.0.items }
+    ensures environment { ComesFrom (E.keeps structure.now routes.now) E.same team.environment result.1 }
+    ensures len { vec_len result.0 ≡ vec_len team.workers }
+    ensures room { vec_capacity result.0 ≡ vec_capacity team.done }
 {
+    let Team {
+        mut workers,
+        environment,
+        number_of_environment,
+        done,
+    } = team;
     let Some(worker) = workers.pop() else {
         let last = drive(
             rt,
@@ -112,18 +127,13 @@ fn run_rest<
             Err((refused.value)())
         }
     };
-    let (mut done, last) = run_rest(
-        scope,
-        rt,
+    let team = Team {
         workers,
         environment,
         number_of_environment,
         done,
-        structure,
-        routes,
-        gate,
-        told,
-    );
+    };
+    let (mut done, last) = run_rest(scope, rt, team, structure, routes, gate, told);
     let back = match started {
         Ok(thread) => thread.join(rt),
         Err(back) => back,
@@ -133,81 +143,51 @@ fn run_rest<
 }
 
 /// Lets each of the workers make its steps in a thread of its own, and the environment's in this one, until all are told to
-/// stop. Each makes at least one step, but where its thread can't start; then all are told to stop. The worker at a place of the
-/// list has that number, and one more from the environment's number on. `done` has room for those that come back; they come back
-/// in the order of the list.
+/// stop. Each makes at least one step, but where its thread can't start; then all are told to stop. They come back in the order of
+/// the list.
 pub fn run_all<W: Work + Send + Drop, E: Work + Drop, G: Gate, R: Threads + Wait + Sync>(
     rt: &R,
-    workers: Vec<W>,
-    environment: E,
-    number_of_environment: u32,
-    done: Vec<Returned<W>>,
+    team: Team<W, E>,
     structure: &Structure,
     routes: &Routes,
     gate: &G,
 ) -> (Vec<Returned<W>>, Returned<E>)
-    requires few { vec_len workers < 2 ^ 31 }
-    requires sound { All (W.keeps structure.now routes.now) workers.items }
-    requires sound_environment { E.keeps structure.now routes.now environment }
-    requires empty { done.items ≡ [] }
-    requires room { vec_len workers ≤ vec_capacity done }
-    ensures workers { AllZip (ComesFrom (W.keeps structure.now routes.now) W.same) workers.items result.0.items }
-    ensures environment { ComesFrom (E.keeps structure.now routes.now) E.same environment result.1 }
+    requires few { vec_len team.workers < 2 ^ 31 }
+    requires sound { All (W.keeps structure.now routes.now) team.workers.items }
+    requires sound_environment { E.keeps structure.now routes.now team.environment }
+    requires empty { team.done.items ≡ [] }
+    requires room { vec_len team.workers ≤ vec_capacity team.done }
+    ensures workers { AllZip (ComesFrom (W.keeps structure.now routes.now) W.same) team.workers.items result.0.items }
+    ensures environment { ComesFrom (E.keeps structure.now routes.now) E.same team.environment result.1 }
 {
-    let told = Told::new(workers.len() as u32 + 1);
-    run_told(
-        rt,
-        workers,
-        environment,
-        number_of_environment,
-        done,
-        structure,
-        routes,
-        gate,
-        &told,
-    )
+    let told = Told::new(team.workers.len() as u32 + 1);
+    run_told(rt, team, structure, routes, gate, &told)
 }
 
 /// Lets all make their steps, with these hints between them.
 fn run_told<W: Work + Send + Drop, E: Work + Drop, G: Gate, R: Threads + Wait + Sync>(
     rt: &R,
-    workers: Vec<W>,
-    environment: E,
-    number_of_environment: u32,
-    done: Vec<Returned<W>>,
+    team: Team<W, E>,
     structure: &Structure,
     routes: &Routes,
     gate: &G,
     told: &Told,
 ) -> (Vec<Returned<W>>, Returned<E>)
-    requires few { vec_len workers < 2 ^ 31 }
-    requires sound { All (W.keeps structure.now routes.now) workers.items }
-    requires sound_environment { E.keeps structure.now routes.now environment }
-    requires empty { done.items ≡ [] }
-    requires room { vec_len workers ≤ vec_capacity done }
-    ensures workers { AllZip (ComesFrom (W.keeps structure.now routes.now) W.same) workers.items result.0.items }
-    ensures environment { ComesFrom (E.keeps structure.now routes.now) E.same environment result.1 }
+    requires few { vec_len team.workers < 2 ^ 31 }
+    requires sound { All (W.keeps structure.now routes.now) team.workers.items }
+    requires sound_environment { E.keeps structure.now routes.now team.environment }
+    requires empty { team.done.items ≡ [] }
+    requires room { vec_len team.workers ≤ vec_capacity team.done }
+    ensures workers { AllZip (ComesFrom (W.keeps structure.now routes.now) W.same) team.workers.items result.0.items }
+    ensures environment { ComesFrom (E.keeps structure.now routes.now) E.same team.environment result.1 }
 {
     thread::scope(
         thread::scope_env(),
         rt,
         |scope| -> (Vec<Returned<W>>, Returned<E>)
-            requires { All (W.keeps structure.now routes.now) workers.items × E.keeps structure.now routes.now environment × (vec_len workers < 2 ^ 31) × (done.items ≡ []) × (vec_len workers ≤ vec_capacity done) }
-            ensures workers { AllZip (ComesFrom (W.keeps structure.entry.now routes.entry.now) W.same) workers.items result.0.items }
-            ensures environment { ComesFrom (E.keeps structure.entry.now routes.entry.now) E.same environment result.1 }
-        {
-            run_rest(
-                scope,
-                rt,
-                workers,
-                environment,
-                number_of_environment,
-                done,
-                structure,
-                routes,
-                gate,
-                told,
-            )
-        },
+            requires { All (W.keeps structure.now routes.now) team.workers.items × E.keeps structure.now routes.now team.environment × (vec_len team.workers < 2 ^ 31) × (team.done.items ≡ []) × (vec_len team.workers ≤ vec_capacity team.done) }
+            ensures workers { AllZip (ComesFrom (W.keeps structure.entry.now routes.entry.now) W.same) team.workers.items result.0.items }
+            ensures environment { ComesFrom (E.keeps structure.entry.now routes.entry.now) E.same team.environment result.1 }
+        { run_rest(scope, rt, team, structure, routes, gate, told) },
     )
 }

@@ -1,4 +1,5 @@
 //! What a thread knows of its worker, and how the worker comes back.
+use sdl_ends::Marks;
 pub use sdl_hand::Stepped;
 use sdl_parts::Structure;
 use sdl_routes::Routes;
@@ -14,6 +15,12 @@ pub trait Work {
     ghost keeps: { Structure → List TableRow → Self → Type 0 };
 
     ghost same: { Self → Self → Type 0 };
+
+    /// Moves on what still waits for room at the rings where it puts, and says whether nothing of it is left. It is called before
+    /// each step, and whoever has something left is not at rest. Takes no memory, and waits for nobody.
+    fn flush(&mut self) -> bool
+        ensures keeps { (structure : Structure) (routes : List TableRow) → keeps structure routes self.old → keeps structure routes self.new }
+        ensures same { same self.old self.new };
 
     /// A step. `pick` chooses wherever the worker may choose. Where it may not ask, it waits for nobody outside the system,
     /// and does what it can without: this is a hint, and no claim rests on it. May wait for other threads.
@@ -31,6 +38,13 @@ pub trait Work {
 
     /// Whether its next step would ask somebody outside the system, and could wait for him long. It is a hint.
     fn asks_outside(&self) -> bool;
+
+    /// The mark of the station where it takes. It is a hint, by which it is woken.
+    fn mark(&self) -> Option<u32>;
+
+    /// The marks of the stations where something came to lie by its last flush or its last step. It is a hint, by which those
+    /// that take there are woken.
+    fn touched(&self) -> Marks;
 
     /// Whether it has made as many turns as it may. It is a hint, after which all workers are told to stop: no claim rests on
     /// it.

@@ -5,10 +5,10 @@ ghost use Rattle.sdl_threads.specs.Back.{ComesFrom};
 
 use crate::kinds::Kind;
 use crate::pace::Gate;
-use crate::scope::run_all;
+use crate::scope::{Team, run_all};
 use crate::work::{Returned, Stepped, Work};
 use sdl_block::BlockWorker;
-use sdl_ends::Ends;
+use sdl_ends::{Ends, Marks};
 use sdl_forward::{Forwarded, Forwarder};
 use sdl_log::{Event, Keeps};
 use sdl_parts::Structure;
@@ -36,6 +36,10 @@ impl Work for ForwarderThread {
 
     ghost and_then = { IsSameForwarder-trans };
 
+    fn flush(&mut self) -> bool {
+        self.ends.flush()
+    }
+
     fn step<R: Wait>(
         &mut self,
         rt: &R,
@@ -53,6 +57,14 @@ impl Work for ForwarderThread {
 
     fn asks_outside(&self) -> bool {
         false
+    }
+
+    fn mark(&self) -> Option<u32> {
+        self.ends.tap_mark()
+    }
+
+    fn touched(&self) -> Marks {
+        self.ends.touched()
     }
 
     fn is_spent(&self) -> bool {
@@ -83,6 +95,10 @@ impl<S: Agents, K: Keeps> Work for BlockThread<S, K> {
 
     ghost and_then = { λ u v w p q. IsSameBlock-trans u v w p q };
 
+    fn flush(&mut self) -> bool {
+        self.ends.flush()
+    }
+
     fn step<R: Wait>(
         &mut self,
         rt: &R,
@@ -96,6 +112,14 @@ impl<S: Agents, K: Keeps> Work for BlockThread<S, K> {
 
     fn asks_outside(&self) -> bool {
         false
+    }
+
+    fn mark(&self) -> Option<u32> {
+        self.ends.tap_mark()
+    }
+
+    fn touched(&self) -> Marks {
+        self.ends.touched()
     }
 
     fn is_spent(&self) -> bool {
@@ -116,30 +140,18 @@ pub fn run_workers<
     R: Threads + Wait + Sync,
 >(
     rt: &R,
-    workers: Vec<AtWork<S, K>>,
-    environment: E,
-    number_of_environment: u32,
-    done: Vec<Returned<AtWork<S, K>>>,
+    team: Team<AtWork<S, K>, E>,
     structure: &Structure,
     routes: &Routes,
     gate: &G,
 ) -> (Vec<Returned<AtWork<S, K>>>, Returned<E>)
-    requires few { vec_len workers < 2 ^ 31 }
-    requires sound { All (⟦<AtWork<S, K> as Work>⟧.keeps structure.now routes.now) workers.items }
-    requires sound_environment { E.keeps structure.now routes.now environment }
-    requires empty { done.items ≡ [] }
-    requires room { vec_len workers ≤ vec_capacity done }
-    ensures workers { AllZip (ComesFrom (⟦<AtWork<S, K> as Work>⟧.keeps structure.now routes.now) ⟦<AtWork<S, K> as Work>⟧.same) workers.items result.0.items }
-    ensures environment { ComesFrom (E.keeps structure.now routes.now) E.same environment result.1 }
+    requires few { vec_len team.workers < 2 ^ 31 }
+    requires sound { All (⟦<AtWork<S, K> as Work>⟧.keeps structure.now routes.now) team.workers.items }
+    requires sound_environment { E.keeps structure.now routes.now team.environment }
+    requires empty { team.done.items ≡ [] }
+    requires room { vec_len team.workers ≤ vec_capacity team.done }
+    ensures workers { AllZip (ComesFrom (⟦<AtWork<S, K> as Work>⟧.keeps structure.now routes.now) ⟦<AtWork<S, K> as Work>⟧.same) team.workers.items result.0.items }
+    ensures environment { ComesFrom (E.keeps structure.now routes.now) E.same team.environment result.1 }
 {
-    run_all(
-        rt,
-        workers,
-        environment,
-        number_of_environment,
-        done,
-        structure,
-        routes,
-        gate,
-    )
+    run_all(rt, team, structure, routes, gate)
 }

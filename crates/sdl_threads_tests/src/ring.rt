@@ -5,7 +5,7 @@ use sdl_examples::ECHO;
 use sdl_parts::Structure;
 use sdl_routes::Routes;
 use sdl_test_systems::{Stop, routes_of};
-use sdl_threads::{Gate, OpenGate, Returned, Stepped, Work, run_all};
+use sdl_threads::{Gate, Marks, OpenGate, Returned, Stepped, Team, Work, run_all};
 use std::alloc::Global;
 use std::sync::atomic::AtomicU64;
 use std::sync::atomic::Ordering::SeqCst;
@@ -45,6 +45,15 @@ struct Passer {
     ring: Arc<Ring, Global>,
     place: usize,
     passed: u64,
+    /// Where it put the token since it was last flushed.
+    touched: Marks,
+}
+
+impl Passer {
+    /// The place of the worker that it passes the token to.
+    fn next(&self) -> usize {
+        if self.place >= 3 { 0 } else { self.place + 1 }
+    }
 }
 
 impl Work for Passer {
@@ -59,6 +68,11 @@ impl Work for Passer {
 
     ghost and_then = { λ u v w p q. q ∙ p };
 
+    fn flush(&mut self) -> bool {
+        self.touched = Marks::none();
+        true
+    }
+
     fn step<R: Wait>(
         &mut self,
         _rt: &R,
@@ -71,14 +85,22 @@ impl Work for Passer {
         if hops == 0 {
             return Stepped::Idle;
         }
-        let next = if self.place >= 3 { 0 } else { self.place + 1 };
-        self.ring.put(next, hops - 1);
+        self.ring.put(self.next(), hops - 1);
+        self.touched.add((self.next() % 64) as u32);
         self.passed = self.passed.saturating_add(1);
         Stepped::Did
     }
 
     fn asks_outside(&self) -> bool {
         false
+    }
+
+    fn mark(&self) -> Option<u32> {
+        Some((self.place % 64) as u32)
+    }
+
+    fn touched(&self) -> Marks {
+        self.touched
     }
 
     fn is_spent(&self) -> bool {
@@ -109,17 +131,13 @@ fn go_round<G: Gate, R: Threads + Wait + Sync>(
     let third = passer_at(&ring, 2)?;
     let fourth = passer_at(&ring, 3)?;
     let workers = vec![in alloc; first, second, third]?;
-    let done = Vec::with_capacity(alloc, 3)?;
-    Ok(run_all(
-        rt,
+    let team = Team {
         workers,
-        fourth,
-        3,
-        done,
-        checked.structure(),
-        &routes,
-        gate,
-    ))
+        environment: fourth,
+        number_of_environment: 3,
+        done: Vec::with_capacity(alloc, 3)?,
+    };
+    Ok(run_all(rt, team, checked.structure(), &routes, gate))
 }
 
 fn passer_at(ring: &Arc<Ring, Global>, place: usize) -> Result<Passer, Stop> {
@@ -127,6 +145,7 @@ fn passer_at(ring: &Arc<Ring, Global>, place: usize) -> Result<Passer, Stop> {
         ring: Arc::try_clone(ring)?,
         place,
         passed: 0,
+        touched: Marks::none(),
     })
 }
 

@@ -1,10 +1,9 @@
-use Rattle.std.proofs.Common.{[], None, length, refl, ap, sym, ◌∙◌, subst, arith}
+use Rattle.std.proofs.Common.{◌≡◌, ℕ, [], None, length, vec_len, refl, ap, sym, ◌∙◌, subst, arith}
 use Rattle.sdl_serial_run.specs.sdl_environment.EnvApart.{IsEnvPuttingOut}
-use Rattle.sdl_run.specs.Coming.{ends_back, blocks_back, forwarders_back}
+use Rattle.sdl_run.specs.Coming.{ends_back, blocks_back, forwarders_back, NamesFirst}
 use Rattle.sdl_run.proofs.Rooms.{room_of}
-use Rattle.sdl_run.proofs.Together.{read_on, written_on, named_first, named_next, some_none, environment_as, blocks_known, ends_enough, few_workers, workers_keep, environment_keeps, workers_number, done_number, blocks_number, lines_number, used_now, none, behaviours_same, workers_are, parked}
+use Rattle.sdl_run.proofs.Together.{read_on, written_on, named_next, some_none, environment_as, blocks_known, ends_enough, few_workers, workers_keep, environment_keeps, workers_number, done_number, blocks_number, lines_number, used_now, none, behaviours_same, workers_are, parked}
 use Rattle.sdl_run.proofs.joining.run_apart.Goals as goal
-use Rattle.sdl_run.proofs.joining.run_apart.Goals.{then-turned, else-turned}
 
 pub give_out-workers-requires-clause-count : goal.give_out-workers-requires-clause-count
 give_out-workers-requires-clause-count g c =
@@ -31,9 +30,9 @@ run_beside-done-requires-clause-sound g c κs outlives =
 
 pub run_beside-done-requires-clause-sound_environment : goal.run_beside-done-requires-clause-sound_environment
 run_beside-done-requires-clause-sound_environment g c κs outlives =
-    environment_as c.structure.result.now c.args.system.checked c.args.system.routes c.args.system.routes c.new.result.worker c.args.system.environment c.new.result.astray None c.give_out-workers.result.1
+    environment_as c.structure-structure.result.now c.args.system.checked c.args.system.routes c.args.system.routes c.new.result.worker c.args.system.environment c.new.result.astray None c.give_out-workers.result.1
     (g.R.Read.remaining c.args.input.now) (g.R.Read.remaining c.args.input.now) (g.W.Write.contents c.args.output.now) (g.W.Write.contents c.args.output.now)
-    c.structure.ensures.structure refl c.new.ensures.worker c.new.ensures.astray refl refl
+    c.structure-structure.ensures.structure refl c.new.ensures.worker c.new.ensures.astray refl refl
     (environment_keeps g.S.Agents.may (record { checked = c.args.system.checked; routes = c.args.system.routes; blocks = c.args.system.blocks; environment = c.args.system.environment; forwarders = c.args.opened.forwarders; board = []; budget = c.args.system.budget }) c.requires.structure c.requires.table c.requires.system c.requires.new c.requires.fire c.requires.environment c.requires.opened.forwarders c.args.opened.ends.items c.args.opened.shelf c.requires.opened.opening c.new_workers_keep.ensures.keep
     c.give_out-workers.result.0.items c.give_out-workers.result.1 c.give_out-workers.ensures (g.R.Read.remaining c.args.input.now) (g.W.Write.contents c.args.output.now))
 
@@ -46,9 +45,9 @@ run_beside-done-requires-clause-room g c =
     let e = c.requires.opened.done in
     omega (arith, a, b, d, e)
 
-pub first_refused-refused-requires : goal.first_refused-refused-requires
-first_refused-refused-requires g c =
-    let putting = subst (λ s. IsEnvPuttingOut s c.args.system.routes (length s.blocks) c.run_beside-done.result.1.worker c.run_beside-done.result.1.astray c.run_beside-done.result.2) c.structure.ensures.structure c.run_beside-done.ensures.keeps.putting in
+pub name_refused-refused-requires-clause-few : goal.name_refused-refused-requires-clause-few
+name_refused-refused-requires-clause-few g c =
+    let putting = subst (λ s. IsEnvPuttingOut s c.args.system.routes (length s.blocks) c.run_beside-done.result.1.worker c.run_beside-done.result.1.astray c.run_beside-done.result.2) c.structure-structure.ensures.structure c.run_beside-done.ensures.keeps.putting in
     let a = few_workers g.S.Agents.may (record { checked = c.args.system.checked; routes = c.args.system.routes; blocks = c.args.system.blocks; environment = c.args.system.environment; forwarders = c.args.opened.forwarders; board = []; budget = c.args.system.budget }) c.requires.structure c.requires.table c.requires.system c.requires.new c.requires.fire c.requires.environment c.requires.opened.forwarders c.args.opened.ends.items c.args.opened.shelf c.requires.opened.opening c.new_workers_keep.ensures.keep in
     let b = done_number g.S.Agents.may (record { checked = c.args.system.checked; routes = c.args.system.routes; blocks = c.args.system.blocks; environment = c.args.system.environment; forwarders = c.args.opened.forwarders; board = []; budget = c.args.system.budget }) c.requires.structure c.requires.table c.requires.system c.requires.new c.requires.fire c.requires.environment c.requires.opened.forwarders c.args.opened.ends.items c.args.opened.shelf c.requires.opened.opening c.new_workers_keep.ensures.keep
     c.give_out-workers.result.0.items c.give_out-workers.result.1 c.give_out-workers.ensures
@@ -56,9 +55,20 @@ first_refused-refused-requires g c =
     let d = ap length c.as_slice.ensures.value in
     omega (arith, a, b, d)
 
+pub name_refused-refused-requires-clause-number : goal.name_refused-refused-requires-clause-number
+name_refused-refused-requires-clause-number g c =
+    let putting = subst (λ s. IsEnvPuttingOut s c.args.system.routes (length s.blocks) c.run_beside-done.result.1.worker c.run_beside-done.result.1.astray c.run_beside-done.result.2) c.structure-structure.ensures.structure c.run_beside-done.ensures.keeps.putting in
+    let a = few_workers g.S.Agents.may (record { checked = c.args.system.checked; routes = c.args.system.routes; blocks = c.args.system.blocks; environment = c.args.system.environment; forwarders = c.args.opened.forwarders; board = []; budget = c.args.system.budget }) c.requires.structure c.requires.table c.requires.system c.requires.new c.requires.fire c.requires.environment c.requires.opened.forwarders c.args.opened.ends.items c.args.opened.shelf c.requires.opened.opening c.new_workers_keep.ensures.keep in
+    let b = done_number g.S.Agents.may (record { checked = c.args.system.checked; routes = c.args.system.routes; blocks = c.args.system.blocks; environment = c.args.system.environment; forwarders = c.args.opened.forwarders; board = []; budget = c.args.system.budget }) c.requires.structure c.requires.table c.requires.system c.requires.new c.requires.fire c.requires.environment c.requires.opened.forwarders c.args.opened.ends.items c.args.opened.shelf c.requires.opened.opening c.new_workers_keep.ensures.keep
+    c.give_out-workers.result.0.items c.give_out-workers.result.1 c.give_out-workers.ensures
+    c.run_beside-done.result.0.items c.run_beside-done.ensures.workers c.run_beside-done.result.1.worker c.run_beside-done.result.1.astray c.run_beside-done.result.2 putting c.run_beside-done.ensures.ends in
+    let d = ap length c.as_slice.ensures.value in
+    let e = c.len-number.ensures in
+    omega (arith, b, d, e)
+
 pub join_ends-joined-requires-clause-room : goal.join_ends-joined-requires-clause-room
 join_ends-joined-requires-clause-room g c =
-    let putting = subst (λ s. IsEnvPuttingOut s c.args.system.routes (length s.blocks) c.run_beside-done.result.1.worker c.run_beside-done.result.1.astray c.run_beside-done.result.2) c.structure.ensures.structure c.run_beside-done.ensures.keeps.putting in
+    let putting = subst (λ s. IsEnvPuttingOut s c.args.system.routes (length s.blocks) c.run_beside-done.result.1.worker c.run_beside-done.result.1.astray c.run_beside-done.result.2) c.structure-structure.ensures.structure c.run_beside-done.ensures.keeps.putting in
     let a = blocks_known g.S.Agents.may (record { checked = c.args.system.checked; routes = c.args.system.routes; blocks = c.args.system.blocks; environment = c.args.system.environment; forwarders = c.args.opened.forwarders; board = []; budget = c.args.system.budget }) c.requires.structure c.requires.table c.requires.system c.requires.new c.requires.fire c.requires.environment c.requires.opened.forwarders c.args.opened.ends.items c.args.opened.shelf c.requires.opened.opening c.new_workers_keep.ensures.keep in
     let b = blocks_number g.S.Agents.may (record { checked = c.args.system.checked; routes = c.args.system.routes; blocks = c.args.system.blocks; environment = c.args.system.environment; forwarders = c.args.opened.forwarders; board = []; budget = c.args.system.budget }) c.requires.structure c.requires.table c.requires.system c.requires.new c.requires.fire c.requires.environment c.requires.opened.forwarders c.args.opened.ends.items c.args.opened.shelf c.requires.opened.opening c.new_workers_keep.ensures.keep
     c.give_out-workers.result.0.items c.give_out-workers.result.1 c.give_out-workers.ensures
@@ -74,7 +84,7 @@ join_ends-joined-requires-clause-once g c =
 
 pub join_ends-joined-requires-clause-all : goal.join_ends-joined-requires-clause-all
 join_ends-joined-requires-clause-all g c =
-    let putting = subst (λ s. IsEnvPuttingOut s c.args.system.routes (length s.blocks) c.run_beside-done.result.1.worker c.run_beside-done.result.1.astray c.run_beside-done.result.2) c.structure.ensures.structure c.run_beside-done.ensures.keeps.putting in
+    let putting = subst (λ s. IsEnvPuttingOut s c.args.system.routes (length s.blocks) c.run_beside-done.result.1.worker c.run_beside-done.result.1.astray c.run_beside-done.result.2) c.structure-structure.ensures.structure c.run_beside-done.ensures.keeps.putting in
     c.used_ends_come_back.ensures.whole c.args.system.checked c.args.system.routes c.args.opened.ends.items (ends_back c.run_beside-done.result.2 c.run_beside-done.result.0.items) c.args.opened.shelf c.requires.opened.opening
     (used_now g.S.Agents.may (record { checked = c.args.system.checked; routes = c.args.system.routes; blocks = c.args.system.blocks; environment = c.args.system.environment; forwarders = c.args.opened.forwarders; board = []; budget = c.args.system.budget }) c.requires.structure c.requires.table c.requires.system c.requires.new c.requires.fire c.requires.environment c.requires.opened.forwarders c.args.opened.ends.items c.args.opened.shelf c.requires.opened.opening c.new_workers_keep.ensures.keep
     c.give_out-workers.result.0.items c.give_out-workers.result.1 c.give_out-workers.ensures
@@ -82,7 +92,7 @@ join_ends-joined-requires-clause-all g c =
 
 pub join_ends-joined-requires-clause-enough : goal.join_ends-joined-requires-clause-enough
 join_ends-joined-requires-clause-enough g c =
-    let putting = subst (λ s. IsEnvPuttingOut s c.args.system.routes (length s.blocks) c.run_beside-done.result.1.worker c.run_beside-done.result.1.astray c.run_beside-done.result.2) c.structure.ensures.structure c.run_beside-done.ensures.keeps.putting in
+    let putting = subst (λ s. IsEnvPuttingOut s c.args.system.routes (length s.blocks) c.run_beside-done.result.1.worker c.run_beside-done.result.1.astray c.run_beside-done.result.2) c.structure-structure.ensures.structure c.run_beside-done.ensures.keeps.putting in
     c.used_ends_come_back.ensures.room c.args.system.checked c.args.system.routes c.args.opened.ends.items (ends_back c.run_beside-done.result.2 c.run_beside-done.result.0.items) c.args.opened.shelf c.requires.opened.opening
     (used_now g.S.Agents.may (record { checked = c.args.system.checked; routes = c.args.system.routes; blocks = c.args.system.blocks; environment = c.args.system.environment; forwarders = c.args.opened.forwarders; board = []; budget = c.args.system.budget }) c.requires.structure c.requires.table c.requires.system c.requires.new c.requires.fire c.requires.environment c.requires.opened.forwarders c.args.opened.ends.items c.args.opened.shelf c.requires.opened.opening c.new_workers_keep.ensures.keep
     c.give_out-workers.result.0.items c.give_out-workers.result.1 c.give_out-workers.ensures
@@ -90,7 +100,7 @@ join_ends-joined-requires-clause-enough g c =
 
 pub unreachable-requires : goal.unreachable-requires
 unreachable-requires g c =
-    let putting = subst (λ s. IsEnvPuttingOut s c.args.system.routes (length s.blocks) c.run_beside-done.result.1.worker c.run_beside-done.result.1.astray c.run_beside-done.result.2) c.structure.ensures.structure c.run_beside-done.ensures.keeps.putting in
+    let putting = subst (λ s. IsEnvPuttingOut s c.args.system.routes (length s.blocks) c.run_beside-done.result.1.worker c.run_beside-done.result.1.astray c.run_beside-done.result.2) c.structure-structure.ensures.structure c.run_beside-done.ensures.keeps.putting in
     let gone = none g.S.Agents.may (record { checked = c.args.system.checked; routes = c.args.system.routes; blocks = c.args.system.blocks; environment = c.args.system.environment; forwarders = c.args.opened.forwarders; board = []; budget = c.args.system.budget }) c.requires.structure c.requires.table c.requires.system c.requires.new c.requires.fire c.requires.environment c.requires.opened.forwarders c.args.opened.ends.items c.args.opened.shelf c.requires.opened.opening c.new_workers_keep.ensures.keep
     c.give_out-workers.result.0.items c.give_out-workers.result.1 c.give_out-workers.ensures
     c.run_beside-done.result.0.items c.run_beside-done.ensures.workers c.run_beside-done.result.1.worker c.run_beside-done.result.1.astray c.run_beside-done.result.2 putting c.run_beside-done.ensures.ends
@@ -99,7 +109,7 @@ unreachable-requires g c =
 
 pub returns-clause-parked : goal.returns-clause-parked
 returns-clause-parked g c =
-    let putting = subst (λ s. IsEnvPuttingOut s c.args.system.routes (length s.blocks) c.run_beside-done.result.1.worker c.run_beside-done.result.1.astray c.run_beside-done.result.2) c.structure.ensures.structure c.run_beside-done.ensures.keeps.putting in
+    let putting = subst (λ s. IsEnvPuttingOut s c.args.system.routes (length s.blocks) c.run_beside-done.result.1.worker c.run_beside-done.result.1.astray c.run_beside-done.result.2) c.structure-structure.ensures.structure c.run_beside-done.ensures.keeps.putting in
     parked g.S.Agents.may (record { checked = c.args.system.checked; routes = c.args.system.routes; blocks = c.args.system.blocks; environment = c.args.system.environment; forwarders = c.args.opened.forwarders; board = []; budget = c.args.system.budget }) c.requires.structure c.requires.table c.requires.system c.requires.new c.requires.fire c.requires.environment c.requires.opened.forwarders c.args.opened.ends.items c.args.opened.shelf c.requires.opened.opening c.new_workers_keep.ensures.keep
     c.give_out-workers.result.0.items c.give_out-workers.result.1 c.give_out-workers.ensures
     c.run_beside-done.result.0.items c.run_beside-done.ensures.workers c.run_beside-done.result.1.worker c.run_beside-done.result.1.astray c.run_beside-done.result.2 putting c.run_beside-done.ensures.ends
@@ -108,7 +118,7 @@ returns-clause-parked g c =
 
 pub returns-clause-same : goal.returns-clause-same
 returns-clause-same g c =
-    let putting = subst (λ s. IsEnvPuttingOut s c.args.system.routes (length s.blocks) c.run_beside-done.result.1.worker c.run_beside-done.result.1.astray c.run_beside-done.result.2) c.structure.ensures.structure c.run_beside-done.ensures.keeps.putting in
+    let putting = subst (λ s. IsEnvPuttingOut s c.args.system.routes (length s.blocks) c.run_beside-done.result.1.worker c.run_beside-done.result.1.astray c.run_beside-done.result.2) c.structure-structure.ensures.structure c.run_beside-done.ensures.keeps.putting in
     record {
       checked = refl;
       routes = refl;
@@ -122,7 +132,7 @@ returns-clause-same g c =
 
 pub returns-clause-refused : goal.returns-clause-refused
 returns-clause-refused g c =
-    let putting = subst (λ s. IsEnvPuttingOut s c.args.system.routes (length s.blocks) c.run_beside-done.result.1.worker c.run_beside-done.result.1.astray c.run_beside-done.result.2) c.structure.ensures.structure c.run_beside-done.ensures.keeps.putting in
+    let putting = subst (λ s. IsEnvPuttingOut s c.args.system.routes (length s.blocks) c.run_beside-done.result.1.worker c.run_beside-done.result.1.astray c.run_beside-done.result.2) c.structure-structure.ensures.structure c.run_beside-done.ensures.keeps.putting in
     let number = workers_are g.S.Agents.may (record { checked = c.args.system.checked; routes = c.args.system.routes; blocks = c.args.system.blocks; environment = c.args.system.environment; forwarders = c.args.opened.forwarders; board = []; budget = c.args.system.budget }) c.requires.structure c.requires.table c.requires.system c.requires.new c.requires.fire c.requires.environment c.requires.opened.forwarders c.args.opened.ends.items c.args.opened.shelf c.requires.opened.opening c.new_workers_keep.ensures.keep
     c.give_out-workers.result.0.items c.give_out-workers.result.1 c.give_out-workers.ensures
     c.run_beside-done.result.0.items c.run_beside-done.ensures.workers c.run_beside-done.result.1.worker c.run_beside-done.result.1.astray c.run_beside-done.result.2 putting c.run_beside-done.ensures.ends
@@ -132,18 +142,20 @@ returns-clause-refused g c =
     let count = done_number g.S.Agents.may (record { checked = c.args.system.checked; routes = c.args.system.routes; blocks = c.args.system.blocks; environment = c.args.system.environment; forwarders = c.args.opened.forwarders; board = []; budget = c.args.system.budget }) c.requires.structure c.requires.table c.requires.system c.requires.new c.requires.fire c.requires.environment c.requires.opened.forwarders c.args.opened.ends.items c.args.opened.shelf c.requires.opened.opening c.new_workers_keep.ensures.keep
     c.give_out-workers.result.0.items c.give_out-workers.result.1 c.give_out-workers.ensures
     c.run_beside-done.result.0.items c.run_beside-done.ensures.workers c.run_beside-done.result.1.worker c.run_beside-done.result.1.astray c.run_beside-done.result.2 putting c.run_beside-done.ensures.ends in
-    let own = c.len-number.ensures in
-    elim c.if-turned.branch [
-      | then-turned w ↦ named_first _ c.if-turned.refused _ w.refused-is (omega (arith, number, few, own))
-      | else-turned w ↦ named_next _ _ c.if-turned.refused w.first_refused-refused.result _ w.refused-is w.first_refused-refused.ensures (omega (arith, number, count, ap length w.as_slice.ensures.value))
-    ]
+    named_next _ _ _ c.name_refused-refused.result _ refl c.name_refused-refused.ensures.bound (omega (arith, number, count, ap length c.as_slice.ensures.value))
 
 pub returns-clause-reading : goal.returns-clause-reading
 returns-clause-reading g c =
-    read_on c.structure.result.now c.args.system.checked c.args.system.routes c.run_beside-done.result.1.worker c.into_parts-environment.result.0 (g.R.Read.remaining c.args.input.now) (g.R.Read.remaining c.args.input.now) (g.R.Read.remaining c.run_beside-done.new.input) (g.R.Read.remaining c.run_beside-done.new.input)
-    c.structure.ensures.structure (sym c.into_parts-environment.ensures.worker) refl refl c.run_beside-done.ensures.keeps.reading
+    read_on c.structure-structure.result.now c.args.system.checked c.args.system.routes c.run_beside-done.result.1.worker c.into_parts-environment.result.0 (g.R.Read.remaining c.args.input.now) (g.R.Read.remaining c.args.input.now) (g.R.Read.remaining c.run_beside-done.new.input) (g.R.Read.remaining c.run_beside-done.new.input)
+    c.structure-structure.ensures.structure (sym c.into_parts-environment.ensures.worker) refl refl c.run_beside-done.ensures.keeps.reading
 
 pub returns-clause-writing : goal.returns-clause-writing
 returns-clause-writing g c =
-    written_on c.structure.result.now c.args.system.checked c.args.system.routes c.run_beside-done.result.1.worker c.into_parts-environment.result.0 (g.W.Write.contents c.args.output.now) (g.W.Write.contents c.args.output.now) (g.W.Write.contents c.run_beside-done.new.output) (g.W.Write.contents c.run_beside-done.new.output)
-    c.structure.ensures.structure (sym c.into_parts-environment.ensures.worker) refl refl c.run_beside-done.ensures.keeps.writing
+    written_on c.structure-structure.result.now c.args.system.checked c.args.system.routes c.run_beside-done.result.1.worker c.into_parts-environment.result.0 (g.W.Write.contents c.args.output.now) (g.W.Write.contents c.args.output.now) (g.W.Write.contents c.run_beside-done.new.output) (g.W.Write.contents c.run_beside-done.new.output)
+    c.structure-structure.ensures.structure (sym c.into_parts-environment.ensures.worker) refl refl c.run_beside-done.ensures.keeps.writing
+
+pub returns-clause-named : goal.returns-clause-named
+returns-clause-named g c =
+    let own : vec_len c.args.system.blocks ≡ length c.args.system.blocks.items = let o = c.args.system.blocks.ok.0 in omega (arith, o) in
+    subst (λ rs. NamesFirst rs c.run_beside-done.result.3 (length c.args.system.blocks.items) c.name_refused-refused.result) (c.as_slice.ensures.value ∙ ap (λ v. v.items) (sym c.of-came.ensures))
+    (subst (λ (n : ℕ). NamesFirst c.as_slice.result.now c.run_beside-done.result.3 n c.name_refused-refused.result) (c.len-number.ensures ∙ own) c.name_refused-refused.ensures.named)

@@ -17,26 +17,26 @@ pub start_blocks-requires-clause-bound : goal.start_blocks-requires-clause-bound
 start_blocks-requires-clause-bound g c =
     all_same (λ p. IsBoundIn (signals_of c.args.system.checked) (sets_of c.args.system.checked) (block_rules p) p.block) c.as_slice.result.now c.args.system.blocks.items c.as_slice.ensures.value c.parts_are_bound.ensures.bound
 
-pub run_apart-parked-requires-clause-system : goal.run_apart-parked-requires-clause-system
-run_apart-parked-requires-clause-system g c κs outlives =
+pub run_apart-stopped-requires-clause-system : goal.run_apart-stopped-requires-clause-system
+run_apart-stopped-requires-clause-system g c κs outlives =
     system_kept g.S.Agents.may c.args.system.checked c.args.system.routes c.args.system.blocks.items (map behaviours_of c.in-Ok.blocks.items) c.in-Ok.ensures.parts c.requires.system
 
-pub run_apart-parked-requires-clause-fire : goal.run_apart-parked-requires-clause-fire
-run_apart-parked-requires-clause-fire g c κs outlives =
+pub run_apart-stopped-requires-clause-fire : goal.run_apart-stopped-requires-clause-fire
+run_apart-stopped-requires-clause-fire g c κs outlives =
     can_fire g.S.Agents.may c.in-Ok.blocks.items c.as_slice.result.now (c.as_slice.ensures.value ∙ sym c.in-Ok.ensures.parts) c.parts_are_bound.ensures.allowed c.parts_are_bound.ensures.indexed
 
-pub run_apart-parked-requires-clause-environment : goal.run_apart-parked-requires-clause-environment
-run_apart-parked-requires-clause-environment g c κs outlives =
+pub run_apart-stopped-requires-clause-environment : goal.run_apart-stopped-requires-clause-environment
+run_apart-stopped-requires-clause-environment g c κs outlives =
     env_fresh c.len-2.result (length c.args.system.checked.blocks) c.new-environment.result (omega (arith, c.len-2.ensures, c.requires.system.distributed.blocks_are)) c.new-environment.ensures
 
 pub settle-requires-clause-system : goal.settle-requires-clause-system
 settle-requires-clause-system g c =
-    system_parked g.S.Agents.may (record { checked = c.args.system.checked; routes = c.args.system.routes; blocks = c.in-Ok.blocks; environment = c.new-environment.result; budget = c.args.system.budget }) c.args.system.blocks.items c.run_apart-parked.result.0 c.run_apart-parked.ensures.same c.in-Ok.ensures.parts c.requires.system
+    system_parked g.S.Agents.may (record { checked = c.args.system.checked; routes = c.args.system.routes; blocks = c.in-Ok.blocks; environment = c.new-environment.result; budget = c.args.system.budget }) c.args.system.blocks.items c.run_apart-stopped.result.parked c.run_apart-stopped.ensures.same c.in-Ok.ensures.parts c.requires.system
 
 pub settle-requires-clause-room : goal.settle-requires-clause-room
 settle-requires-clause-room g c =
-    room_parked g.S.Agents.may (record { checked = c.args.system.checked; routes = c.args.system.routes; blocks = c.in-Ok.blocks; environment = c.new-environment.result; budget = c.args.system.budget }) c.args.system.blocks.items c.run_apart-parked.result.0 c.run_apart-parked.ensures.same c.in-Ok.ensures.parts
-    c.args.thread_room.room c.args.thread_room.opened.forwarders.items c.requires.room.opened.forwarders c.requires.system.distributed.blocks_are c.run_apart-parked.ensures.parked c.requires.room.room
+    room_parked g.S.Agents.may (record { checked = c.args.system.checked; routes = c.args.system.routes; blocks = c.in-Ok.blocks; environment = c.new-environment.result; budget = c.args.system.budget }) c.args.system.blocks.items c.run_apart-stopped.result.parked c.run_apart-stopped.ensures.same c.in-Ok.ensures.parts
+    c.args.thread_room.room c.args.thread_room.opened.forwarders.items c.requires.room.opened.forwarders c.requires.system.distributed.blocks_are c.run_apart-stopped.ensures.parked c.requires.room.room
 
 pub gather-parts-requires-clause-room : goal.gather-parts-requires-clause-room
 gather-parts-requires-clause-room g c =
@@ -50,20 +50,20 @@ of_blocks-requires g c =
 
 pub returns-in-Ok-clause-ended : goal.returns-in-Ok-clause-ended
 returns-in-Ok-clause-ended g c =
-    ended_parked g.S.Agents.may (record { checked = c.args.system.checked; routes = c.args.system.routes; blocks = c.in-Ok.blocks; environment = c.new-environment.result; budget = c.args.system.budget }) c.args.system.blocks.items c.run_apart-parked.result.0 c.run_apart-parked.ensures.same c.in-Ok.ensures.parts
+    ended_parked g.S.Agents.may (record { checked = c.args.system.checked; routes = c.args.system.routes; blocks = c.in-Ok.blocks; environment = c.new-environment.result; budget = c.args.system.budget }) c.args.system.blocks.items c.run_apart-stopped.result.parked c.run_apart-stopped.ensures.same c.in-Ok.ensures.parts
     (outcome_in g.K.Keeps.events c.settle.result) c.settle.result.end c.settle.result.ledger c.settle.ensures.ended
 
 pub returns-in-Ok-clause-reading : goal.returns-in-Ok-clause-reading
 returns-in-Ok-clause-reading g c =
-    reading_parked g.S.Agents.may (record { checked = c.args.system.checked; routes = c.args.system.routes; blocks = c.in-Ok.blocks; environment = c.new-environment.result; budget = c.args.system.budget }) c.args.system.blocks.items c.run_apart-parked.result.0 c.run_apart-parked.ensures.same c.in-Ok.ensures.parts
-    c.settle.result _ _ _ c.run_apart-parked.ensures.reading c.settle.ensures.reading
+    reading_parked g.S.Agents.may (record { checked = c.args.system.checked; routes = c.args.system.routes; blocks = c.in-Ok.blocks; environment = c.new-environment.result; budget = c.args.system.budget }) c.args.system.blocks.items c.run_apart-stopped.result.parked c.run_apart-stopped.ensures.same c.in-Ok.ensures.parts
+    c.settle.result _ _ _ c.run_apart-stopped.ensures.reading c.settle.ensures.reading
 
 pub returns-in-Ok-clause-writing : goal.returns-in-Ok-clause-writing
 returns-in-Ok-clause-writing g c =
-    writing_parked g.S.Agents.may (record { checked = c.args.system.checked; routes = c.args.system.routes; blocks = c.in-Ok.blocks; environment = c.new-environment.result; budget = c.args.system.budget }) c.args.system.blocks.items c.run_apart-parked.result.0 c.run_apart-parked.ensures.same c.in-Ok.ensures.parts
-    c.settle.result _ _ _ c.run_apart-parked.ensures.writing c.settle.ensures.writing
+    writing_parked g.S.Agents.may (record { checked = c.args.system.checked; routes = c.args.system.routes; blocks = c.in-Ok.blocks; environment = c.new-environment.result; budget = c.args.system.budget }) c.args.system.blocks.items c.run_apart-stopped.result.parked c.run_apart-stopped.ensures.same c.in-Ok.ensures.parts
+    c.settle.result _ _ _ c.run_apart-stopped.ensures.writing c.settle.ensures.writing
 
 pub returns-in-Ok-clause-bound : goal.returns-in-Ok-clause-bound
 returns-in-Ok-clause-bound g c =
-    bound_parked g.S.Agents.may (record { checked = c.args.system.checked; routes = c.args.system.routes; blocks = c.in-Ok.blocks; environment = c.new-environment.result; budget = c.args.system.budget }) c.args.system.blocks.items c.run_apart-parked.result.0 c.run_apart-parked.ensures.same c.in-Ok.ensures.parts
+    bound_parked g.S.Agents.may (record { checked = c.args.system.checked; routes = c.args.system.routes; blocks = c.in-Ok.blocks; environment = c.new-environment.result; budget = c.args.system.budget }) c.args.system.blocks.items c.run_apart-stopped.result.parked c.run_apart-stopped.ensures.same c.in-Ok.ensures.parts
     c.settle.result.bound c.settle.ensures.bound

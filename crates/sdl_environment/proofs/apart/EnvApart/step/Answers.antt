@@ -17,13 +17,13 @@ returns-clause-none g c = λ not. (unrefused c.try_step.result c.try_step.ensure
 
 pub returns-then-is_some-clause-step : goal.returns-then-is_some-clause-step
 returns-then-is_some-clause-step g c =
-    works_none c.args.structure.now c.args.routes.now c.args.self.now.worker.number c.args.self.now.worker c.args.self.now.astray c.args.ends.now c.args.ends.now
+    works_none c.args.routed.structure.now c.args.routed.routes.now c.args.self.now.worker.number c.args.self.now.worker c.args.self.now.astray c.args.ends.now c.args.ends.now
     c.requires.keeps.sound c.requires.keeps.lost refl (λ t. refl)
 
 pub returns-clause-keeps : goal.returns-clause-keeps
 returns-clause-keeps g c =
-    let s = c.args.structure.now in
-    let rows = c.args.routes.now in
+    let s = c.args.routed.structure.now in
+    let rows = c.args.routed.routes.now in
     let old = c.args.self.now.worker in
     let answer = answer_of c.try_step.result in
     let new = c.try_step.new.self in

@@ -5,8 +5,8 @@ use Rattle.sdl_environment.proofs.apart.EnvApart.try_step.Goals as goal
 
 pub returns-in_err-sent-clause-step : goal.returns-in_err-sent-clause-step
 returns-in_err-sent-clause-step g c =
-    let s = c.args.structure.now in
-    let rows = c.args.routes.now in
+    let s = c.args.routed.structure.now in
+    let rows = c.args.routed.routes.now in
     let old = c.args.self.now.worker in
     let e0 = c.args.ends.now in
     let mid = c.send_apart.new.self in
@@ -15,8 +15,8 @@ returns-in_err-sent-clause-step g c =
 
 pub returns-in_err-received-clause-step : goal.returns-in_err-received-clause-step
 returns-in_err-received-clause-step g c =
-    let s = c.args.structure.now in
-    let rows = c.args.routes.now in
+    let s = c.args.routed.structure.now in
+    let rows = c.args.routed.routes.now in
     let old = c.args.self.now.worker in
     let e0 = c.args.ends.now in
     let mid = c.send_apart.new.self in
@@ -26,8 +26,8 @@ returns-in_err-received-clause-step g c =
 
 pub returns-clause-step : goal.returns-clause-step
 returns-clause-step g c =
-    let s = c.args.structure.now in
-    let rows = c.args.routes.now in
+    let s = c.args.routed.structure.now in
+    let rows = c.args.routed.routes.now in
     let old = c.args.self.now.worker in
     let e0 = c.args.ends.now in
     let mid = c.send_apart.new.self in
@@ -44,8 +44,8 @@ returns-in_err-received-clause-on g c =
 
 pub returns-clause-on : goal.returns-clause-on
 returns-clause-on g c =
-    let s = c.args.structure.now in
-    let rows = c.args.routes.now in
+    let s = c.args.routed.structure.now in
+    let rows = c.args.routed.routes.now in
     let old = c.args.self.now.worker in
     let e0 = c.args.ends.now in
     let mid = c.send_apart.new.self in
@@ -55,8 +55,8 @@ returns-clause-on g c =
 pub returns-in_err-received-clause-reading : goal.returns-in_err-received-clause-reading
 returns-in_err-received-clause-reading g c =
     λ start read.
-    let s = c.args.structure.now in
-    let rows = c.args.routes.now in
+    let s = c.args.routed.structure.now in
+    let rows = c.args.routed.routes.now in
     let old = c.args.self.now.worker in
     let e0 = c.args.ends.now in
     let mid = c.send_apart.new.self in
@@ -67,8 +67,8 @@ returns-in_err-received-clause-reading g c =
 pub returns-clause-reading : goal.returns-clause-reading
 returns-clause-reading g c =
     λ start read.
-    let s = c.args.structure.now in
-    let rows = c.args.routes.now in
+    let s = c.args.routed.structure.now in
+    let rows = c.args.routed.routes.now in
     let old = c.args.self.now.worker in
     let e0 = c.args.ends.now in
     let mid = c.send_apart.new.self in
@@ -79,8 +79,8 @@ returns-clause-reading g c =
 pub returns-in_err-sent-clause-writing : goal.returns-in_err-sent-clause-writing
 returns-in_err-sent-clause-writing g c =
     λ start wrote.
-    let s = c.args.structure.now in
-    let rows = c.args.routes.now in
+    let s = c.args.routed.structure.now in
+    let rows = c.args.routed.routes.now in
     let old = c.args.self.now.worker in
     let e0 = c.args.ends.now in
     let mid = c.send_apart.new.self in
@@ -91,8 +91,8 @@ returns-in_err-sent-clause-writing g c =
 pub returns-in_err-received-clause-writing : goal.returns-in_err-received-clause-writing
 returns-in_err-received-clause-writing g c =
     λ start wrote.
-    let s = c.args.structure.now in
-    let rows = c.args.routes.now in
+    let s = c.args.routed.structure.now in
+    let rows = c.args.routed.routes.now in
     let old = c.args.self.now.worker in
     let e0 = c.args.ends.now in
     let mid = c.send_apart.new.self in
@@ -103,8 +103,8 @@ returns-in_err-received-clause-writing g c =
 pub returns-clause-writing : goal.returns-clause-writing
 returns-clause-writing g c =
     λ start wrote.
-    let s = c.args.structure.now in
-    let rows = c.args.routes.now in
+    let s = c.args.routed.structure.now in
+    let rows = c.args.routed.routes.now in
     let old = c.args.self.now.worker in
     let e0 = c.args.ends.now in
     let mid = c.send_apart.new.self in

@@ -1,6 +1,6 @@
 use Rattle.std.proofs.Common.{ap, sym, ◌∙◌}
 use Rattle.sdl_run.proofs.Together.{kept_as}
-use Rattle.sdl_run.proofs.joining.run_beside.Goals as goal
+use Rattle.sdl_run.proofs.beside.run_beside.Goals as goal
 
 pub returns-clause-keeps : goal.returns-clause-keeps
 returns-clause-keeps g c =

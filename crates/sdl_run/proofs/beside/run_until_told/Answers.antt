@@ -1,5 +1,5 @@
 use Rattle.sdl_run.proofs.Together.{came_back}
-use Rattle.sdl_run.proofs.joining.run_until_told.Goals as goal
+use Rattle.sdl_run.proofs.beside.run_until_told.Goals as goal
 
 pub returns-clause-keeps : goal.returns-clause-keeps
 returns-clause-keeps g c =

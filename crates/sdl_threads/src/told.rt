@@ -1,0 +1,178 @@
+//! What the threads tell each other.
+use crossbeam_utils::CachePadded;
+use sdl_ends::{MARKS, Marks};
+use std::array::from_fn;
+use std::sync::Wait;
+use std::sync::atomic::AtomicU64;
+use std::sync::atomic::Ordering::SeqCst;
+use std::time::Duration;
+
+/// The states of a worker's word. Awake: it makes steps, or pauses between them.
+pub(crate) const AWAKE: u32 = 0;
+
+/// It is about to sleep, and looks once more at what there is to do.
+const DROWSY: u32 = 1;
+
+/// It looked, found nothing, and is at rest: it sleeps.
+pub(crate) const ASLEEP: u32 = 2;
+
+/// It waits for all others to rest before it asks outside the system: it sleeps.
+pub(crate) const LISTENING: u32 = 3;
+
+/// The states in which a worker sleeps are this one and those above.
+const SLEEPS: u32 = ASLEEP;
+
+/// The count of those at rest while there are none. It lies above zero, as a worker may be woken before it is counted.
+const NONE_RESTS: u64 = 4_294_967_296;
+
+/// What the threads tell each other. These are hints, and no claim rests on them: however they come, a worker comes back with
+/// what its steps keep.
+///
+/// A worker that finds nothing to do says in its word that it is about to sleep, looks once more, and sleeps: it is at rest.
+/// Whoever put something where it takes wakes it, at once where he has nothing more to do, and else after some steps, so that
+/// there is more to do for one sleep. So once all are at rest, each looked at its queue after whatever was last put there, and
+/// none has anything to do: then all are to stop.
+#[derive(Drop)]
+pub(crate) struct Told {
+    workers: u32,
+    /// How many workers are at rest, counted from `NONE_RESTS`.
+    resting: AtomicU64,
+    /// The mark of the worker that waits for all others to rest, and one more.
+    listener: AtomicU64,
+    /// 1 once all are to stop.
+    stop: AtomicU64,
+    /// Each worker's word, by the mark of the station where it takes.
+    words: [CachePadded<AtomicU64>; MARKS],
+    /// The number of the last worker whose thread could not start, and one more.
+    turned_away: AtomicU64,
+}
+
+impl Told {
+    pub(crate) fn new(workers: u32) -> Told {
+        Told {
+            workers,
+            resting: AtomicU64::new(NONE_RESTS),
+            listener: AtomicU64::new(0),
+            stop: AtomicU64::new(0),
+            words: from_fn(|_| CachePadded::new(AtomicU64::new(AWAKE as u64))),
+            turned_away: AtomicU64::new(0),
+        }
+    }
+
+    /// Tells all to stop, and wakes those that sleep.
+    pub(crate) fn stop(&self) {
+        self.stop.store(1, SeqCst);
+        for mark in 0..MARKS {
+            self.wakes(mark as u32);
+        }
+    }
+
+    pub(crate) fn is_stopped(&self) -> bool {
+        self.stop.load(SeqCst) != 0
+    }
+
+    /// The word of the worker with this mark.
+    fn word(&self, mark: u32) -> &AtomicU64 {
+        &self.words[mark as usize % MARKS]
+    }
+
+    /// Wakes the worker with this mark, where it sleeps or is about to.
+    fn wakes(&self, mark: u32) {
+        let word = self.word(mark);
+        if word.load(SeqCst) == AWAKE as u64 {
+            return;
+        }
+        let was = word.swap(AWAKE as u64, SeqCst);
+        if was == ASLEEP as u64 {
+            self.resting.fetch_sub(1, SeqCst);
+        }
+        if was >= SLEEPS as u64 {
+            word.wake_all();
+        }
+    }
+
+    /// Wakes the workers with these marks.
+    pub(crate) fn wakes_each(&self, marks: Marks) {
+        let mut left = marks;
+        for _ in 0..MARKS {
+            match left.pop() {
+                Some(mark) => self.wakes(mark),
+                None => break,
+            }
+        }
+    }
+
+    /// The worker with this mark has something to do. Whatever it put before is seen by whoever says after this that he is
+    /// about to sleep.
+    pub(crate) fn gets_up(&self, mark: u32) {
+        if self.word(mark).swap(AWAKE as u64, SeqCst) == ASLEEP as u64 {
+            self.resting.fetch_sub(1, SeqCst);
+        }
+    }
+
+    /// The worker with this mark is about to sleep. False where it said so before, and nobody woke it since.
+    pub(crate) fn nods_off(&self, mark: u32) -> bool {
+        self.moves(mark, AWAKE, DROWSY)
+    }
+
+    /// The worker with this mark, which was about to sleep, comes to rest, unless somebody woke it. All are told to stop where it
+    /// is the last, and the one that listens is woken where it is the last but him.
+    pub(crate) fn falls_asleep(&self, mark: u32) {
+        if !self.moves(mark, DROWSY, ASLEEP) {
+            return;
+        }
+        let others = self.resting.fetch_add(1, SeqCst);
+        if others.wrapping_add(1) >= self.all_rest() {
+            self.stop();
+        } else if others.wrapping_add(2) >= self.all_rest() {
+            self.wakes_listener();
+        }
+    }
+
+    /// The worker with this mark, which was about to sleep, waits for all others to rest, unless somebody woke it or they do.
+    pub(crate) fn listens(&self, mark: u32) {
+        self.listener.store(mark as u64 + 1, SeqCst);
+        if self.moves(mark, DROWSY, LISTENING) && self.all_but_one_rest() {
+            self.wakes(mark);
+        }
+    }
+
+    fn wakes_listener(&self) {
+        let listener = self.listener.load(SeqCst);
+        if listener != 0 {
+            self.wakes(((listener - 1) % MARKS as u64) as u32);
+        }
+    }
+
+    /// Whether all workers but one are at rest.
+    pub(crate) fn all_but_one_rest(&self) -> bool {
+        self.resting.load(SeqCst).wrapping_add(1) >= self.all_rest()
+    }
+
+    /// The count where all workers are at rest.
+    fn all_rest(&self) -> u64 {
+        NONE_RESTS + self.workers as u64
+    }
+
+    /// Changes the state of the worker with this mark from one to another. False where it was in none of them.
+    fn moves(&self, mark: u32, from: u32, to: u32) -> bool {
+        self.word(mark)
+            .compare_exchange(from as u64, to as u64, SeqCst, SeqCst)
+            .is_ok()
+    }
+
+    /// Sleeps while the worker with this mark is in this state, at most for this time.
+    pub(crate) fn sleeps<R: Wait>(&self, rt: &R, mark: u32, state: u32, micros: u64) {
+        self.word(mark)
+            .park_timeout(rt, state, Duration::from_micros(micros));
+    }
+
+    /// The worker of this number is called on this thread, as its own could not start.
+    pub(crate) fn turn_away(&self, number: u32) {
+        self.turned_away.store(number as u64 + 1, SeqCst);
+    }
+
+    pub(crate) fn is_turned_away(&self, number: u32) -> bool {
+        self.turned_away.load(SeqCst) == number as u64 + 1
+    }
+}
