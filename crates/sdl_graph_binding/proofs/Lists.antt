@@ -3,7 +3,7 @@ use Rattle.std.proofs.Common.{◌≡◌, refl, List, [], ◌∷◌, ◌++◌, ma
 use Rattle.std.proofs.lemmas.List.{append-nil}
 use Rattle.sdl_behaviour.specs.declared.transition.Transition.{Transition}
 use Rattle.sdl_behaviour.specs.declared.behaviour.Behaviour.{Behaviour}
-use Rattle.sdl_graph_binding.specs.Dealt.{transitions_in, all_transitions}
+use Rattle.sdl_graph_binding.specs.Transitions.{transitions_in, all_transitions}
 
 -- what is first in the list is moved behind `before`, and then more of it
 pub moved : {A : Type 0} (after between before left rest old : List A) (t : A)
@@ -35,9 +35,9 @@ module _ {S I : Type 0} {F : I → Type 0} {g : _} where
   transitions_last (x ∷ made) b = ap (λ l. transitions_in x ++ l) (transitions_last made b) ∙ sym (append_assoc (transitions_in x) (all_transitions made) (transitions_in b))
 
   -- the transitions of the behaviours, one after the other
-  pub dealt_on : (all more made : List (Behaviour S I F g)) (b : Behaviour S I F g) (left rest old : List (Transition S I F g))
+  pub taken_on : (all more made : List (Behaviour S I F g)) (b : Behaviour S I F g) (left rest old : List (Transition S I F g))
       → all_transitions all ++ left ≡ all_transitions more ++ rest → more ≡ made ++ b ∷ [] → transitions_in b ++ rest ≡ old
       → all_transitions all ++ left ≡ all_transitions made ++ old
-  dealt_on all more made b left rest old next last own =
+  taken_on all more made b left rest old next last own =
       next ∙ ap (λ l. all_transitions l ++ rest) last ∙ ap (λ l. l ++ rest) (transitions_last made b)
       ∙ append_assoc (all_transitions made) (transitions_in b) rest ∙ ap (λ l. all_transitions made ++ l) own

@@ -5,11 +5,11 @@ ghost use Rattle.sdl_routes.specs.Routes.{AreRoutesOf};
 ghost use Rattle.sdl_behaviour.specs.Transitions.{IsAllowedBehaviour};
 ghost use Rattle.sdl_transition.specs.Blocks.{AreDistributed};
 ghost use Rattle.sdl_transition.specs.Bound.{IsBound, structure_of, routes_of, blocks_of};
-ghost use Rattle.sdl_graph_binding.specs.Dealt.{transitions_in, all_transitions, meant, made_as};
+ghost use Rattle.sdl_graph_binding.specs.Transitions.{transitions_in, all_transitions, meant, made_as};
 
 use crate::agents::GraphAgents;
-use crate::dealing::{set_named, take_first, with_rows, with_states, with_uses};
 use crate::faults::GraphFault;
+use crate::set_behaviour::{set_named, take_first, with_rows, with_states, with_uses};
 use crate::sets::{Design, SetDesign, Use};
 use arrayvec::ArrayVec;
 use sdl_behaviour::{Behaviour, Transition};
@@ -49,7 +49,7 @@ fn behaviour_of<G>(
     requires { IsStructure structure.now }
     ensures allowed { IfOk result (IsAllowedBehaviour (λ _ _ _. Unit {0})) }
     ensures set { IfOk result (λ b. made_as structure.now b ≡ meant set.now) }
-    ensures dealt { IfOk result (λ b. transitions_in b ++ left.new.items ≡ left.old.items) }
+    ensures taken { IfOk result (λ b. transitions_in b ++ left.new.items ≡ left.old.items) }
 {
     let Some(number) = set_named(structure.sets(), set.name) else {
         return Err(GraphFault::NoSet(place));
@@ -79,7 +79,7 @@ fn with_one<G>(
 }
 
 /// The behaviours of these sets, of which the first is at `place` of the design, behind those that are made.
-#[tactic(auto, using(crate::proofs::Lists::dealt_on, crate::proofs::Lists::sets_on))]
+#[tactic(auto, using(crate::proofs::Lists::taken_on, crate::proofs::Lists::sets_on))]
 fn with_behaviours<G>(
     alloc: Global,
     structure: &Structure,
@@ -94,7 +94,7 @@ fn with_behaviours<G>(
     requires few { place + length sets.now < 2 ^ 64 }
     ensures allowed { IfOk result (λ list. All (IsAllowedBehaviour (λ _ _ _. Unit {0})) list.items) }
     ensures sets { IfOk result (λ list. map (made_as structure.now) list.items ≡ map (made_as structure.now) made.items ++ map meant sets.now) }
-    ensures dealt { IfOk result (λ list. all_transitions list.items ++ left.new.items ≡ all_transitions made.items ++ left.old.items) }
+    ensures taken { IfOk result (λ list. all_transitions list.items ++ left.new.items ≡ all_transitions made.items ++ left.old.items) }
 {
     match sets {
         [] => Ok(made),

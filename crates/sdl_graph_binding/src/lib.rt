@@ -1,11 +1,11 @@
-//! The transitions of a process graph, stored, dealt to the sets of a structure by name, and bound to it.
+//! The transitions of a process graph, stored, given to the sets of a structure by name, and bound to it.
 #![tactic(auto)]
 
 pub mod agents;
 pub mod binding;
-mod dealing;
 pub mod faults;
 pub mod marks;
+mod set_behaviour;
 pub mod sets;
 pub mod stored;
 

@@ -2,7 +2,7 @@
 ghost use Rattle.std.specs.Prelude.{◌≡◌, [], ◌∷◌, ◌++◌, map, IfOk, IfErr, OnOk, OnErr};
 ghost use Rattle.sdl_behaviour.specs.Offers.{IsFrameOf, Conforms};
 ghost use Rattle.sdl_conformance.specs.Stay.{CanEnd};
-ghost use Rattle.sdl_graph_binding.specs.Dealt.{IsOfferFault};
+ghost use Rattle.sdl_graph_binding.specs.Transitions.{IsOfferFault};
 
 use crate::agents::GraphAgents;
 use crate::faults::GraphFault;

@@ -1,5 +1,5 @@
 use Rattle.std.proofs.Common.{◌≡◌, ◌++◌, length, map, subst, ap, ◌∙◌, arith}
-use Rattle.sdl_graph_binding.specs.Dealt.{all_transitions, meant, made_as}
+use Rattle.sdl_graph_binding.specs.Transitions.{all_transitions, meant, made_as}
 use Rattle.sdl_graph_binding.proofs.Lists.{none_left}
 use Rattle.sdl_graph_binding.proofs.binding.bind_graph.Goals as goal
 
@@ -13,6 +13,6 @@ returns-in-Ok-clause-behaviours g c =
       subst (λ s. map (made_as s) all ≡ map meant designs) c.structure-structure.ensures.structure
           (c.in_ok-behaviours.ensures.sets ∙ ap (λ l. map (made_as c.structure-structure.result.now) l ++ map meant designs) none),
       none_left (all_transitions all) c.with_behaviours.new.left.items c.args.transitions.items (omega (arith, c.if-len-gt0.false, c.len.ensures))
-          (c.in_ok-behaviours.ensures.dealt ∙ ap (λ l. all_transitions l ++ c.args.transitions.items) none),
+          (c.in_ok-behaviours.ensures.taken ∙ ap (λ l. all_transitions l ++ c.args.transitions.items) none),
       c.in-Ok.ensures.behaviours,
     ) ∣₁

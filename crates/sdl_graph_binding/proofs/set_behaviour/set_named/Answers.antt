@@ -1,6 +1,6 @@
 use Rattle.std.proofs.Common.{sym, ◌∙◌}
 use Rattle.sdl_signal.proofs.Named.{named_from_position, nowhere_from_position}
-use Rattle.sdl_graph_binding.proofs.dealing.set_named.Goals as goal
+use Rattle.sdl_graph_binding.proofs.set_behaviour.set_named.Goals as goal
 
 pub returns-in_default-clause-absent : goal.returns-in_default-clause-absent
 returns-in_default-clause-absent c =

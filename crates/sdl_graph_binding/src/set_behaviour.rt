@@ -3,7 +3,7 @@ ghost use Rattle.std.specs.Prelude.{◌≡◌, ◌+◌, ◌<◌, ◌≤◌, [], 
 ghost use Rattle.std.specs.List.{AllByRecursion};
 ghost use Rattle.sdl_signal.specs.Reading.{IsNamedAt, IsNowhere};
 ghost use Rattle.sdl_behaviour.specs.Transitions.{IsAllowedBehaviour};
-ghost use Rattle.sdl_graph_binding.specs.Dealt.{IsByOffer, transitions_in};
+ghost use Rattle.sdl_graph_binding.specs.Transitions.{IsByOffer, transitions_in};
 
 use crate::agents::GraphAgents;
 use crate::faults::GraphFault;
@@ -147,7 +147,7 @@ pub fn with_rows<G>(
     ensures allowed { IfOk result (IsAllowedBehaviour (λ _ _ _. Unit {0})) }
     ensures rows { IfOk result (λ b. AllByRecursion IsByOffer b.rows.items) }
     ensures count { IfOk result (λ b. length b.rows.items ≡ length behaviour.rows.items + rows) }
-    ensures dealt { IfOk result (λ b. transitions_in b ++ left.new.items ≡ transitions_in behaviour ++ left.old.items) }
+    ensures taken { IfOk result (λ b. transitions_in b ++ left.new.items ≡ transitions_in behaviour ++ left.old.items) }
     ensures same { IfOk result (λ b. b ≡ record behaviour { rows = b.rows }) }
 {
     if rows == 0 {
