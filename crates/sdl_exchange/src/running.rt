@@ -50,5 +50,5 @@ fn run_stored<T: Threads + Wait + Sync, R: Read, W: Write, E: Write>(
         )?;
         stored.keep(number, offer, run)?;
     }
-    Ok(run_prepared(rt, alloc, prepared, &DESIGN, stored, input, output, errors))
+    Ok(run_prepared(rt, prepared, &DESIGN, stored, input, output, errors))
 }

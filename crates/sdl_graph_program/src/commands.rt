@@ -22,9 +22,10 @@ use std::rt::{Env, Files};
 
 const USAGE: &str = "usage: check FILE | routes FILE | run [--serial] [--ledger] [--trace] FILE";
 
-/// A run that is asked for: the structure of a file, with its routes, and what is to be told of the run.
+/// A run that is asked for: the structure of a file, with its routes, what is to be told of the run, and where it takes its memory.
 #[derive(Drop)]
 pub struct Prepared {
+    pub alloc: Global,
     pub options: Options,
     pub checked: Checked,
     pub routes: Routes,
@@ -63,6 +64,7 @@ pub fn prepare_file<W: Write, E: Write>(
         Command::Routes => Err(routes_command(alloc, &checked, output, errors)),
         Command::Run => match routes_in(alloc, &checked, errors) {
             Some(routes) => Ok(Prepared {
+                alloc,
                 options,
                 checked,
                 routes,

@@ -34,7 +34,6 @@ pub fn refused<E: Write>(errors: &mut E, design: &Design, fault: GraphFault) -> 
 #[tactic(auto, unfolding(sdl_file_commands::specs::Running::CanRun))]
 pub fn run_prepared<G: Send, T: Threads + Wait + Sync, R: Read, W: Write, E: Write>(
     rt: &T,
-    alloc: Global,
     prepared: Prepared,
     design: &Design,
     stored: Stored<G>,
@@ -48,6 +47,7 @@ pub fn run_prepared<G: Send, T: Threads + Wait + Sync, R: Read, W: Write, E: Wri
     ensures refused { result ≡ 1 → (input.new ≡ input.old) × (output.new ≡ output.old) }
 {
     let Prepared {
+        alloc,
         options,
         checked,
         routes,

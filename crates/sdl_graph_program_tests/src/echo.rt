@@ -7,8 +7,6 @@ use sdl_graph_program::{
     integer_parameter, marked_answer, no_offer, no_step, run_prepared,
 };
 use std::alloc::Global;
-use std::sync::Wait;
-use std::thread::Threads;
 
 const PING: SignalId = SignalId(0);
 
@@ -98,8 +96,8 @@ pub struct Ran {
 }
 
 /// Runs Echo by the design.
-pub fn run_echo<T: Threads + Wait + Sync>(
-    rt: &T,
+pub fn run_echo(
+    rt: &HostRuntime,
     alloc: Global,
     prepared: Prepared,
     design: &Design,
@@ -123,7 +121,6 @@ pub fn run_echo<T: Threads + Wait + Sync>(
     let mut errors = Vec::new(alloc);
     let status = run_prepared(
         rt,
-        alloc,
         prepared,
         design,
         stored,
@@ -139,8 +136,8 @@ pub fn run_echo<T: Threads + Wait + Sync>(
 }
 
 /// Runs the Echo with a broken offer.
-pub fn run_mute<T: Threads + Wait + Sync>(
-    rt: &T,
+pub fn run_mute(
+    rt: &HostRuntime,
     alloc: Global,
     prepared: Prepared,
     lines: &[u8],
@@ -163,7 +160,6 @@ pub fn run_mute<T: Threads + Wait + Sync>(
     let mut errors = Vec::new(alloc);
     let status = run_prepared(
         rt,
-        alloc,
         prepared,
         &DESIGN,
         stored,

@@ -1,5 +1,5 @@
 //! The built-in systems: the behaviours of each are made, bound to the structure and run.
-ghost use Rattle.std.specs.Prelude.{IfOk};
+ghost use Rattle.std.specs.Prelude.{IfOk, IfSome, IsSome};
 ghost use Rattle.std.specs.List.{AllByRecursion};
 ghost use Rattle.sdl_file_commands.specs.Outcomes.{HasRunOrNot};
 ghost use Rattle.sdl_file_commands.specs.Running.{CanRun};
@@ -11,7 +11,7 @@ use sdl_file_commands::faults::write_bind_fault;
 use sdl_file_commands::in_threads::run_bound_in_threads;
 use sdl_file_commands::sdl_command::status::REFUSED;
 use sdl_file_commands::sdl_run::sdl_transition::{Agents, Behaviour, bind};
-use std::alloc::AllocError;
+use std::alloc::{AllocError, Global};
 use std::io::{Read, Write};
 use std::sync::Wait;
 use std::thread::Threads;
@@ -27,64 +27,92 @@ pub fn run_system<T: Threads + Wait + Sync, R: Read, W: Write, E: Write>(
     ensures { IfOk result (HasRunOrNot job.entry.checked job.entry.routes) }
 {
     let sets = job.checked.structure().sets().len() as u32;
+    let alloc = job.settings.alloc;
+    let mut waiting = Some(job);
     match system {
-        System::Echo => run_echo(rt, sets, job),
-        System::Relay => run_relay(rt, sets, job),
-        System::Spawn => run_spawn(rt, sets, job),
-        System::Ring => run_ring(rt, sets, job),
+        System::Echo => run_echo(rt, alloc, sets, &mut waiting),
+        System::Relay => run_relay(rt, alloc, sets, &mut waiting),
+        System::Spawn => run_spawn(rt, alloc, sets, &mut waiting),
+        System::Ring => run_ring(rt, alloc, sets, &mut waiting),
     }
 }
 
 /// Runs Echo: the same.
 fn run_echo<T: Threads + Wait + Sync, R: Read, W: Write, E: Write>(
     rt: &T,
+    alloc: Global,
     sets: u32,
-    job: Job<R, W, E>,
+    waiting: &mut Option<Job<R, W, E>>,
 ) -> Result<u8, AllocError>
-    requires { CanRun job.checked job.routes }
-    ensures { IfOk result (HasRunOrNot job.entry.checked job.entry.routes) }
+    requires waits { IsSome waiting.old }
+    requires runs { IfSome waiting.old (λ job. CanRun job.checked job.routes) }
+    ensures { IfOk result (λ status. IfSome waiting.old (λ job. HasRunOrNot job.checked job.routes status)) }
 {
-    let behaviours = echo_behaviours!(job.settings.alloc, sets);
-    Ok(run_behaviours(rt, job, behaviours))
+    let behaviours = echo_behaviours!(alloc, sets);
+    Ok(run_waiting(rt, waiting, behaviours))
 }
 
 /// Runs Relay: the same.
 fn run_relay<T: Threads + Wait + Sync, R: Read, W: Write, E: Write>(
     rt: &T,
+    alloc: Global,
     sets: u32,
-    job: Job<R, W, E>,
+    waiting: &mut Option<Job<R, W, E>>,
 ) -> Result<u8, AllocError>
-    requires { CanRun job.checked job.routes }
-    ensures { IfOk result (HasRunOrNot job.entry.checked job.entry.routes) }
+    requires waits { IsSome waiting.old }
+    requires runs { IfSome waiting.old (λ job. CanRun job.checked job.routes) }
+    ensures { IfOk result (λ status. IfSome waiting.old (λ job. HasRunOrNot job.checked job.routes status)) }
 {
-    let behaviours = relay_behaviours!(job.settings.alloc, sets);
-    Ok(run_behaviours(rt, job, behaviours))
+    let behaviours = relay_behaviours!(alloc, sets);
+    Ok(run_waiting(rt, waiting, behaviours))
 }
 
 /// Runs Spawn: the same.
 fn run_spawn<T: Threads + Wait + Sync, R: Read, W: Write, E: Write>(
     rt: &T,
+    alloc: Global,
     sets: u32,
-    job: Job<R, W, E>,
+    waiting: &mut Option<Job<R, W, E>>,
 ) -> Result<u8, AllocError>
-    requires { CanRun job.checked job.routes }
-    ensures { IfOk result (HasRunOrNot job.entry.checked job.entry.routes) }
+    requires waits { IsSome waiting.old }
+    requires runs { IfSome waiting.old (λ job. CanRun job.checked job.routes) }
+    ensures { IfOk result (λ status. IfSome waiting.old (λ job. HasRunOrNot job.checked job.routes status)) }
 {
-    let behaviours = spawn_behaviours!(job.settings.alloc, sets);
-    Ok(run_behaviours(rt, job, behaviours))
+    let behaviours = spawn_behaviours!(alloc, sets);
+    Ok(run_waiting(rt, waiting, behaviours))
 }
 
 /// Runs Ring: the same.
 fn run_ring<T: Threads + Wait + Sync, R: Read, W: Write, E: Write>(
     rt: &T,
+    alloc: Global,
     sets: u32,
-    job: Job<R, W, E>,
+    waiting: &mut Option<Job<R, W, E>>,
 ) -> Result<u8, AllocError>
-    requires { CanRun job.checked job.routes }
-    ensures { IfOk result (HasRunOrNot job.entry.checked job.entry.routes) }
+    requires waits { IsSome waiting.old }
+    requires runs { IfSome waiting.old (λ job. CanRun job.checked job.routes) }
+    ensures { IfOk result (λ status. IfSome waiting.old (λ job. HasRunOrNot job.checked job.routes status)) }
 {
-    let behaviours = ring_behaviours!(job.settings.alloc, sets);
-    Ok(run_behaviours(rt, job, behaviours))
+    let behaviours = ring_behaviours!(alloc, sets);
+    Ok(run_waiting(rt, waiting, behaviours))
+}
+
+/// Binds the behaviours to the structure of the job that waits and runs the system, and answers the exit status. The job waits
+/// behind a reference while the closures are made, since whoever owns it would drop it wherever memory is refused.
+fn run_waiting<S: Agents + Send + Drop, T: Threads + Wait + Sync, R: Read, W: Write, E: Write>(
+    rt: &T,
+    waiting: &mut Option<Job<R, W, E>>,
+    behaviours: Vec<Behaviour<S>>,
+) -> u8
+    requires waits { IsSome waiting.old }
+    requires runs { IfSome waiting.old (λ job. CanRun job.checked job.routes) }
+    requires allowed { AllByRecursion (IsAllowedBehaviour S.may) behaviours.items }
+    ensures { IfSome waiting.old (λ job. HasRunOrNot job.checked job.routes result) }
+{
+    match waiting.take() {
+        Some(job) => run_behaviours(rt, job, behaviours),
+        None => unreachable!(),
+    }
 }
 
 #[tactic(auto, unfolding(sdl_file_commands::specs::Running::CanRun))]
