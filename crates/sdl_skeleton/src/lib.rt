@@ -1,0 +1,12 @@
+//! The skeleton of a designer's own crate, made from a structure: the texts of its files.
+#![tactic(auto)]
+
+pub mod agents;
+pub mod fixed;
+pub mod names;
+pub mod numbers;
+
+pub use agents::write_agents;
+pub use fixed::{MAIN, RUNNING};
+pub use numbers::write_numbers;
+pub use sdl_parts;

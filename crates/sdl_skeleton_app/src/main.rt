@@ -1,0 +1,25 @@
+//! `sdl_skeleton_app`: the skeleton of a designer's own crate, written from a structure file to standard output. It takes a word
+//! for the file that is wanted, and the structure file: `main FILE`, `running FILE`, `numbers FILE`, `agents FILE`; or
+//! `all FILE`, which writes them one after the other, each below a line with its name.
+#![tactic(auto)]
+
+mod program;
+
+use sdl_file_commands::sdl_command::errors::without_memory;
+use sdl_file_commands::sdl_command::status::REFUSED;
+use sdl_file_commands::streams::Output;
+use std::cell::RefCell;
+use std::io::BufWriter;
+use std::process::ExitCode;
+
+fn main(rt: HostRuntime) -> ExitCode {
+    let mut errors = rt.stderr();
+    let Ok(output) = BufWriter::new(rt.alloc(), rt.stdout()) else {
+        without_memory(&mut errors);
+        return ExitCode::from(REFUSED);
+    };
+    let buffer = RefCell::new(output);
+    let mut output = Output { buffer: &buffer };
+    let status = program::run(&rt, rt.alloc(), &mut output, &mut errors);
+    ExitCode::from(status)
+}
