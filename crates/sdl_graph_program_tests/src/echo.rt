@@ -7,6 +7,8 @@ use sdl_graph_program::{
     integer_parameter, marked_answer, no_offer, no_step, run_prepared,
 };
 use std::alloc::Global;
+use std::sync::Wait;
+use std::thread::Threads;
 
 const PING: SignalId = SignalId(0);
 
@@ -96,8 +98,8 @@ pub struct Ran {
 }
 
 /// Runs Echo by the design.
-pub fn run_echo(
-    rt: &HostRuntime,
+pub fn run_echo<T: Threads + Wait + Sync>(
+    rt: &T,
     alloc: Global,
     prepared: Prepared,
     design: &Design,
@@ -136,8 +138,8 @@ pub fn run_echo(
 }
 
 /// Runs the Echo with a broken offer.
-pub fn run_mute(
-    rt: &HostRuntime,
+pub fn run_mute<T: Threads + Wait + Sync>(
+    rt: &T,
     alloc: Global,
     prepared: Prepared,
     lines: &[u8],

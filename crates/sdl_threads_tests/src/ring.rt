@@ -85,8 +85,9 @@ impl Work for Passer {
         if hops == 0 {
             return Stepped::Idle;
         }
-        self.ring.put(self.next(), hops - 1);
-        self.touched.add((self.next() % 64) as u32);
+        let next = self.next();
+        self.ring.put(next, hops - 1);
+        self.touched.add((next % 64) as u32);
         self.passed = self.passed.saturating_add(1);
         Stepped::Did
     }
