@@ -48,7 +48,11 @@ impl Gate for Meeting {
     }
 }
 
-/// In Relay, the first step of L waits until the environment is about to make its step 50, which waits until so many signals
+/// The step of the environment by which it has read fifty lines and the end behind them, though it made some steps that did
+/// nothing, as it asks its reader when the others rest or when it has waited for that long enough.
+const ALL_READ: u64 = 150;
+
+/// In Relay, the first step of L waits until the environment has read fifty lines, whose next step waits until so many signals
 /// were counted.
 #[derive(Drop)]
 pub struct Holding {
@@ -61,7 +65,7 @@ impl Gate for Holding {
     fn before(&self, worker: u32, step: u64) {
         let met = match (worker, step) {
             (0, 0) => waits_for(&self.came, 1),
-            (2, 50) => {
+            (2, ALL_READ) => {
                 self.came.store(1, SeqCst);
                 waits_for(&self.counted, 50)
             }

@@ -19,7 +19,7 @@ fn two_blocks_make_their_first_step_at_once(rt: HostRuntime) -> Result<(), Fail>
     Ok(())
 }
 
-/// All that B does is done while this thread waits before the environment's step 50, and L does nothing before that.
+/// All that B does is done while this thread waits before a step of the environment, and L does nothing before that.
 #[test]
 fn threads_carry_signals_and_make_turns(rt: HostRuntime) -> Result<(), Fail> {
     let calls = Arc::new(rt.alloc(), AtomicU64::new(0))?;
