@@ -71,7 +71,7 @@ fn pass_values(values: &[Value]) -> Step
 }
 
 /// The offer of the start of X.
-pub fn first_offer(sets: u32) -> Offer
+fn first_offer(sets: u32) -> Offer
     ensures offer { IsIdleOffer sets None (offered 0 (sort.Integer ∷ []) ∷ []) [] result }
     ensures outputs { OffersOne 0 (sort.Integer ∷ []) result }
 {

@@ -20,7 +20,7 @@ pub const MAKE: SignalId = SignalId(0);
 
 pub const ASK: SignalId = SignalId(1);
 
-pub const KILL: SignalId = SignalId(2);
+pub(crate) const KILL: SignalId = SignalId(2);
 
 pub const HELLO: SignalId = SignalId(3);
 
@@ -30,9 +30,9 @@ pub const QUERY: SignalId = SignalId(5);
 
 pub const REPLY: SignalId = SignalId(6);
 
-pub const BORN: SignalId = SignalId(7);
+pub(crate) const BORN: SignalId = SignalId(7);
 
-pub const ANSWER: SignalId = SignalId(8);
+pub(crate) const ANSWER: SignalId = SignalId(8);
 
 const BOSS: SetId = SetId(0);
 

@@ -42,7 +42,7 @@ pub fn send(id: SignalId, params: ArrayVec<Value, 4>, dest: Dest) -> Action
 }
 
 /// The step with one output, of one Integer, to anywhere.
-pub fn send_integer(id: SignalId, n: i64) -> Step
+pub(crate) fn send_integer(id: SignalId, n: i64) -> Step
     ensures { LeadsToIdle (output_integer id.0 n) result }
 {
     let mut params = ArrayVec::new();

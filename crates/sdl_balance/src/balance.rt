@@ -25,7 +25,7 @@ pub fn balances<S: Agents>()
 {}
 
 /// The counts of a run that kept to its limits are small.
-pub fn fits<S: Agents>()
+pub fn counts_fit<S: Agents>()
     ensures { (plan : Plan) (o : Outcome) (finals : List State) → IsTraced S.may plan o finals → IsLimited o → CountsFit o }
 {}
 

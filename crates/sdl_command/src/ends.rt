@@ -20,7 +20,7 @@ pub fn flushed<W: Write>(output: &mut W, end: OutputEnd) -> OutputEnd
 }
 
 /// Writes a line for each end that is not whole, input first, and answers the exit status.
-pub fn report<E: Write>(input: InputEnd, output: OutputEnd, errors: &mut E) -> u8
+pub(crate) fn report<E: Write>(input: InputEnd, output: OutputEnd, errors: &mut E) -> u8
     ensures status { result ≡ status_of input output }
     ensures silent { result ≡ 0 → Keeps (E.contents errors.old) (E.contents errors.new) }
 {

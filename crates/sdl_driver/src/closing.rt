@@ -72,7 +72,7 @@ pub struct Room<S, K: Keeps = Vec<Event>> {
 
 impl<S: Agents, K: Keeps> Room<S, K> {
     /// Takes what a worker holds.
-    pub fn take_hand(&mut self, hand: Hand)
+    pub(crate) fn take_hand(&mut self, hand: Hand)
         requires room { HasRoom 0 1 self.old }
         ensures hands { self.new.hands.items ≡ self.old.hands.items ++ hand ∷ [] }
         ensures parts { self.new.parts ≡ self.old.parts }
@@ -86,7 +86,7 @@ impl<S: Agents, K: Keeps> Room<S, K> {
     }
 
     /// Takes what a block leaves.
-    pub fn take_block(&mut self, worker: BlockWorker<S, K>)
+    fn take_block(&mut self, worker: BlockWorker<S, K>)
         requires room { HasRoom 1 1 self.old }
         ensures parts { self.new.parts.items ≡ self.old.parts.items ++ behaviours_of worker ∷ [] }
         ensures logs { map K.events self.new.logs.items ≡ map K.events self.old.logs.items ++ (worker_of worker).core.log ∷ [] }

@@ -34,7 +34,7 @@ impl<S: Agents, K: Keeps> Driver<S, K> {
         ensures empty { (k : ℕ) (f : Forwarding) → from ≤ k → k < result → slice_get self.now.forwarders.items k ≡ Some f → waiting self.now.board (Line f.hop) ≡ [] }
     {
         let forwarders = self.forwarders.len();
-        if from == forwarders || self.board.is_quiet() {
+        if from == forwarders || self.board.has_no_mark() {
             return forwarders;
         }
         let low = self.forwarders[from].hop().channel;

@@ -7,8 +7,8 @@ use Rattle.sdl_ends.specs.declared.index.Index.{Index}
 use Rattle.sdl_ends.specs.Stations.{stations_of}
 use Rattle.sdl_ends.specs.Ends.{WorkerEnds, feed_at, put_at, IsSameEnds}
 use Rattle.sdl_ends.specs.Index.{place_of, IsIndexOf}
-use Rattle.sdl_ends.specs.Held.{Place, feeds_held}
-use Rattle.sdl_ends.proofs.Held.{feed_is, feed_now, feed_elsewhere, marks_now}
+use Rattle.sdl_ends.specs.FeedsLeft.{Place, feeds_held}
+use Rattle.sdl_ends.proofs.FeedsLeft.{feed_is, feed_now, feed_elsewhere, marks_now}
 
 -- what was put there since
 abbrev put_of_feed : Option FeedEnd → List Item

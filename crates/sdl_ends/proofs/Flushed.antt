@@ -8,7 +8,7 @@ use Rattle.sdl_routes.specs.declared.route.Station.{Station}
 use Rattle.sdl_queue.specs.Ends.{Opening, FeedEnd, TapEnd, IsSameFeed}
 use Rattle.sdl_ends.specs.Stations.{same_station, stations_of}
 use Rattle.sdl_ends.specs.Ends.{WorkerEnds, feed_at, feed_mark, put_at, HasNoBacklog, IsSameEnds}
-use Rattle.sdl_ends.specs.Held.{Place, with_feed, feeds_held}
+use Rattle.sdl_ends.specs.FeedsLeft.{Place, with_feed, feeds_held}
 use Rattle.sdl_ends.specs.Flushed.{IsFlushed, AreFlushed, IsClear, IsClearAt}
 
 itself : (o : Option FeedEnd) → IsFlushed o o

@@ -1,7 +1,7 @@
 pub mod Same
 pub mod Taps
 pub mod Places
-pub mod Held
+pub mod FeedsLeft
 pub mod Feeds
 pub mod Shelves
 pub mod Rejoins

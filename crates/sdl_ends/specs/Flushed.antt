@@ -1,7 +1,7 @@
 -- Feeds whose backlogs were flushed.
 use Rattle.std.specs.Prelude.{◌≡◌, List, [], ◌∷◌, Option, Some, None, ⊤}
 use Rattle.sdl_queue.specs.Ends.{FeedEnd, IsSameFeed}
-use Rattle.sdl_ends.specs.Held.{Place}
+use Rattle.sdl_ends.specs.FeedsLeft.{Place}
 
 -- the feed is the same, and what it has put
 abbrev pub IsFlushed : Option FeedEnd → Option FeedEnd → Type 0

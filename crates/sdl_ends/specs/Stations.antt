@@ -1,5 +1,5 @@
 -- Stations: which are the same, which a table of routes has, and in what order. (This project's own.)
-use Rattle.std.specs.Prelude.{◌<◌, ◌==◌, ◌&&◌, Bool, true, false, if◌then◌else◌, List, [], ◌∷◌, map, Option, None, Any, Contains, slice_get, ⊤}
+use Rattle.std.specs.Prelude.{◌<◌, ◌==◌, ◌&&◌, Bool, true, false, if◌then◌else◌, List, [], ◌∷◌, map, Option, Some, None, Any, Contains, slice_get, ⊤}
 use Rattle.std.specs.List.{AllByRecursion}
 use Rattle.std.specs.Bool.{beq}
 use Rattle.sdl_routes.specs.declared.route.Hop.{Hop}
@@ -16,6 +16,11 @@ same_station (Line h) (Line k) = same_hop h k
 same_station (Inlet b) (Inlet c) = b.0 == c.0
 same_station Outlet Outlet = true
 same_station _ _ = false
+
+-- there is a station, and it is this one
+abbrev pub is_station : Station → Option Station → Bool
+is_station s None = false
+is_station s (Some t) = same_station t s
 
 -- the stations of a list of stations with something
 abbrev pub stations_of : {X : Type 0} → List (Station × X) → List Station

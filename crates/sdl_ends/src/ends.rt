@@ -5,7 +5,7 @@ ghost use Rattle.sdl_routes.specs.Routes.{EachOnce};
 ghost use Rattle.sdl_ends.specs.Stations.{stations_of};
 ghost use Rattle.sdl_ends.specs.Ends.{put_at, taken_by, HasFeed, HasNoBacklog, IsSameEnds};
 ghost use Rattle.std.specs.List.{AllByRecursion};
-ghost use Rattle.sdl_ends.specs.Held.{filled};
+ghost use Rattle.sdl_ends.specs.FeedsLeft.{filled};
 ghost use Rattle.sdl_ends.specs.Marks.{mark};
 ghost use Rattle.sdl_ends.specs.Flushed.{IsFlushed, IsClear, IsClearAt, AreFlushed};
 
@@ -34,7 +34,7 @@ pub struct Ends {
 impl Model for Ends {
     ghost use Rattle.sdl_ends.specs.Stations.{stations_of};
     ghost use Rattle.sdl_ends.specs.Ends.{WorkerEnds};
-    ghost use Rattle.sdl_ends.specs.Held.{feeds_held};
+    ghost use Rattle.sdl_ends.specs.FeedsLeft.{feeds_held};
     ghost use Rattle.sdl_ends.specs.Index.{IsIndexOf};
 
     ghost Value = { WorkerEnds };

@@ -11,7 +11,8 @@ pub const MARKS: usize = 192;
 pub const FREE_MARK: u32 = 145;
 
 /// The mark of a station (this project's own): 0 to 15 for inlets, 16 for the outlet, 17 to 144 for delaying paths. In one
-/// structure no two stations have one mark.
+/// structure no two stations have one mark: it has at most 16 blocks and 64 channels, the `MOST_BLOCKS` and `MOST_CHANNELS` of
+/// `sdl_parts`, on which this crate does not stand.
 pub fn mark_of(station: Station) -> u32
     ensures mark { result ≡ mark station }
     ensures few { result < 145 }
@@ -36,7 +37,7 @@ impl Marks {
     }
 
     /// These marks, or none.
-    pub fn kept_if(self, kept: bool) -> Marks {
+    pub(crate) fn kept_if(self, kept: bool) -> Marks {
         if kept { self } else { Marks::none() }
     }
 

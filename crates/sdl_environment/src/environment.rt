@@ -10,11 +10,10 @@ ghost use Rattle.sdl_routes.specs.declared.route.Station.TheVariants.{Outlet};
 ghost use Rattle.sdl_forward.specs.Boards.{waiting, IsBoardOf};
 ghost use Rattle.sdl_hand.specs.declared.hand.Stepped.TheVariants.{Memory};
 ghost use Rattle.sdl_hand.specs.Puts.{AreRouted, PutsOut};
-ghost use Rattle.sdl_outcome.specs.EnvironmentWork.{OwnEnd, IsEnvFresh, IsEnvSound, IsLegalItem, GoesOut, EnvStepsAs, HasReadSoFar, HasWrittenSoFar, input_end};
+ghost use Rattle.sdl_outcome.specs.EnvironmentWork.{IsEnvFresh, IsEnvSound, IsLegalItem, GoesOut, EnvStepsAs, HasReadSoFar, HasWrittenSoFar};
 ghost use Rattle.sdl_environment.specs.EnvPhases.{IsWritable, HasReadBy, HasWrittenBy, Reads, Receives, EnvStepsTo};
 ghost use Rattle.sdl_environment.specs.EnvSteps.{ReadsNext, TakesNext, StepsOn};
 
-pub use crate::laws::{goes_on, stops_reading};
 use crate::outputs::{output_of, send};
 use crate::writing::write;
 use arrayvec::ArrayVec;
@@ -33,8 +32,8 @@ use std::marker::Model;
 pub struct EnvWorker {
     number: u32,
     reader: EnvReader,
-    ended: Option<InputEnd>,
-    put: Vec<EnvOut>,
+    pub(crate) ended: Option<InputEnd>,
+    pub(crate) put: Vec<EnvOut>,
     pub(crate) hand: Hand,
     pub(crate) received: Vec<Item>,
     pub(crate) sink: LineSink,
@@ -50,21 +49,6 @@ impl Model for EnvWorker {
     ghost view = { λ w. record { number = w.number; reading = w.reader; ended = w.ended; put = w.put.items; outgoing = w.hand.outgoing.items; received = w.received.items; output = w.output } };
 
     ghost invariant = { λ w. (length w.put.items ≡ w.reader.carried) × (w.reader.carried ≤ 16384) × (w.hand.kept ≡ None) × OwnEnd w.ended };
-}
-
-/// What the environment's worker leaves.
-#[derive(Drop)]
-pub struct EnvParts {
-    /// What became of the lines that were read, in order.
-    pub put: Vec<EnvOut>,
-    /// What was sent and could not be put.
-    pub hand: Hand,
-    /// What was received, in order.
-    pub received: Vec<Item>,
-    /// How the reading ended: where it did not, it stopped after so many lines.
-    pub input: InputEnd,
-    /// Whether all that was received could be written.
-    pub output: OutputEnd,
 }
 
 impl EnvWorker {
@@ -227,28 +211,5 @@ impl EnvWorker {
         self.output = write(&mut self.sink, self.output, names, routes, &item, output);
         self.received.push_reserved(item);
         Ok(true)
-    }
-
-    /// What the worker leaves. No memory is taken.
-    pub fn into_parts(self) -> EnvParts
-        ensures put { result.put.items ≡ self.put }
-        ensures kept { result.hand.kept ≡ None }
-        ensures outgoing { result.hand.outgoing.items ≡ self.outgoing }
-        ensures received { result.received.items ≡ self.received }
-        ensures input { result.input ≡ input_end self }
-        ensures own { OwnEnd self.ended }
-        ensures output { result.output ≡ self.output }
-    {
-        let input = match self.ended {
-            Some(end) => end,
-            None => InputEnd::Stopped(self.put.len() as u32),
-        };
-        EnvParts {
-            put: self.put,
-            hand: self.hand,
-            received: self.received,
-            input,
-            output: self.output,
-        }
     }
 }

@@ -6,10 +6,12 @@ pub mod environment;
 mod laws;
 mod leaving;
 mod outputs;
+mod parts;
 mod routed;
 mod writing;
 
 pub use apart::EnvApart;
-pub use environment::{EnvParts, EnvWorker};
-pub use laws::new_environments_are_putting_out;
+pub use environment::EnvWorker;
+pub use laws::{goes_on, new_environments_are_putting_out, stops_reading};
+pub use parts::EnvParts;
 pub use routed::RoutedStructure;

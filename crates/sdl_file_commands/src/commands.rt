@@ -119,7 +119,7 @@ pub fn write_check<W: Write>(output: &mut W, structure: &Structure) -> io::Resul
 }
 
 /// Writes all routes, by number.
-pub fn write_routes<W: Write>(
+fn write_routes<W: Write>(
     output: &mut W,
     structure: &Structure,
     routes: &Routes,

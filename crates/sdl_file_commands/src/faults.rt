@@ -7,7 +7,11 @@ use sdl_run::sdl_transition::BindFault;
 use std::io::Write;
 
 /// Writes the fault of the structure as one line.
-pub fn write_check_fault<E: Write>(errors: &mut E, structure: &Structure, fault: CheckFault) {
+pub(crate) fn write_check_fault<E: Write>(
+    errors: &mut E,
+    structure: &Structure,
+    fault: CheckFault,
+) {
     match fault {
         CheckFault::BadEnds(channel) => {
             let channel = channel_name(structure, channel);

@@ -2,7 +2,7 @@
 //! the texts of all of them.
 #![tactic(auto)]
 
-pub mod closing;
+mod closing;
 pub mod commands;
 pub mod faults;
 pub mod files;

@@ -7,7 +7,7 @@ use Rattle.sdl_routes.specs.declared.route.Station.TheVariants.{Line}
 use Rattle.sdl_queue.specs.Ends.{FeedEnd, TapEnd, items_of}
 use Rattle.sdl_ends.specs.Ends.{WorkerEnds, HasFeed, feed_at, put_at, taken_by}
 use Rattle.sdl_forward.specs.Forwards.{Forwarding, next_station}
-use Rattle.sdl_forward.specs.Carries.{Takes, Brings}
+use Rattle.sdl_forward.specs.Carries.{Takes, PutsNext}
 
 put_same : (old new : WorkerEnds) → new.feeds ≡ old.feeds → (s : Station) → put_at new s ≡ put_at old s
 put_same old new e s = ap (λ (fs : List (Station × FeedEnd)). elim (feed_at fs s) as (λ _. List Item) [ None ↦ [] | Some f ↦ f.put ]) e
@@ -21,7 +21,7 @@ taken_then was old mid new item e h = subst (λ (xs : List Item). ((was.held ≡
 
 pub brings : (rows : List TableRow) (was is : Forwarding) (old mid new : WorkerEnds) (item : Item) (to : Station) → Takes was old item mid → is ≡ record { hop = was.hop; held = None }
     → mid.feeds ≡ old.feeds → next_station rows (Line was.hop) item ≡ Some to → put_at new to ≡ put_at mid to ++ item ∷ []
-    → ((s : Station) → s ≢ to → put_at new s ≡ put_at mid s) → new.tap ≡ mid.tap → Brings rows was old is new
+    → ((s : Station) → s ≢ to → put_at new s ≡ put_at mid s) → new.tap ≡ mid.tap → PutsNext rows was old is new
 brings rows was is old mid new item to takes emptied feeds next puts others tap =
     record {
       item = item;

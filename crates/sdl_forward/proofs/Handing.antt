@@ -17,8 +17,9 @@ use Rattle.sdl_forward.specs.declared.forwarder.Forwarded.{Forwarded}
 use Rattle.sdl_forward.specs.declared.forwarder.Forwarded.TheVariants.{Moved, Idle, Held}
 use Rattle.sdl_forward.specs.Boards.{same_station}
 use Rattle.sdl_forward.specs.Forwards.{Forwarding, next_station}
-use Rattle.sdl_forward.specs.Carries.{Carries, HasWaysOn, Takes, Brings, Keeps, Waits}
-use Rattle.sdl_forward.specs.HandsOn.{AreFresh, is_at, going_to, GoesOn, IsHandingOn, HasHandedOn}
+use Rattle.sdl_forward.specs.Carries.{Carries, HasWaysOn, Takes, PutsNext, Keeps, Waits}
+use Rattle.sdl_ends.specs.Stations.{is_station}
+use Rattle.sdl_forward.specs.HandsOn.{AreFresh, going_to, GoesOn, IsHandingOn, HasHandedOn}
 
 abbrev station_in : Station → List (Station × (Opening × ℕ)) → Station
 station_in s [] = s
@@ -45,14 +46,14 @@ ways_same : (rows : List TableRow) (h : Hop) (old new : WorkerEnds) → IsSameEn
 ways_same rows h old new same ways = λ i s next. let f = ways i s next in feed_marked old.feeds new.feeds same.feeds s f.0 f.1
 
 going-append : (rows : List TableRow) (h : Hop) (s : Station) (xs ys : List Item) → going_to rows h s (xs ++ ys) ≡ going_to rows h s xs ++ going_to rows h s ys
-going-append rows h s xs ys = filter-append (λ (i : Item). is_at s (next_station rows (Line h) i)) xs ys
+going-append rows h s xs ys = filter-append (λ (i : Item). is_station s (next_station rows (Line h) i)) xs ys
 
 -- an item goes to its next station, and to no other
 going_there : (rows : List TableRow) (h : Hop) (i : Item) (t : Station) → next_station rows (Line h) i ≡ Some t → going_to rows h t (i ∷ []) ≡ i ∷ []
-going_there rows h i t next = cond-true (is_at t (next_station rows (Line h) i)) (i ∷ []) [] (ap (is_at t) next ∙ same_station_itself t)
+going_there rows h i t next = cond-true (is_station t (next_station rows (Line h) i)) (i ∷ []) [] (ap (is_station t) next ∙ same_station_itself t)
 
 going_elsewhere : (rows : List TableRow) (h : Hop) (i : Item) (s t : Station) → s ≢ t → next_station rows (Line h) i ≡ Some t → going_to rows h s (i ∷ []) ≡ []
-going_elsewhere rows h i s t n next = cond-false (is_at s (next_station rows (Line h) i)) (i ∷ []) [] (ap (is_at s) next ∙ other_station t s (λ e. n (sym e)))
+going_elsewhere rows h i s t n next = cond-false (is_station s (next_station rows (Line h) i)) (i ∷ []) [] (ap (is_station s) next ∙ other_station t s (λ e. n (sym e)))
 
 all_more : (P : Item → Type 0) (xs : List Item) (i : Item) → AllByRecursion P xs → P i → AllByRecursion P (xs ++ i ∷ [])
 all_more P [] i all p = (p, tt)
@@ -81,7 +82,7 @@ put_after rows h old new put item to each next puts others s = elim (cases_stati
       ∙ sym (going-append rows h s put (item ∷ []))
 ]
 
-after_bringing : (rows : List TableRow) (was is : Forwarding) (old new : WorkerEnds) → IsHandingOn rows was old → Brings rows was old is new → IsSameEnds old new → IsHandingOn rows is new
+after_bringing : (rows : List TableRow) (was is : Forwarding) (old new : WorkerEnds) → IsHandingOn rows was old → PutsNext rows was old is new → IsSameEnds old new → IsHandingOn rows is new
 after_bringing rows was is old new k b same =
     let now : IsHandingOn rows (record { hop = was.hop; held = None }) new = record {
       ways = ways_same rows was.hop old new same k.ways;

@@ -21,7 +21,7 @@ Takes was old item new =
     ⊎ ((was.held ≡ None) × (taken_by new ≡ taken_by old ++ item ∷ []))
 
 -- The item is put at its next station. Nothing is held after, and nothing is put elsewhere.
-pub record Brings (rows : List TableRow) (was : Forwarding) (old : WorkerEnds) (is : Forwarding) (new : WorkerEnds) : Type 0 where
+pub record PutsNext (rows : List TableRow) (was : Forwarding) (old : WorkerEnds) (is : Forwarding) (new : WorkerEnds) : Type 0 where
   pub item : Item
   pub to : Station
   pub takes : Takes was old item new
@@ -46,6 +46,6 @@ pub record Waits (was : Forwarding) (old : WorkerEnds) (is : Forwarding) (new : 
 
 -- what a step did, by its answer
 abbrev pub Carries : List TableRow → Forwarding → WorkerEnds → Forwarded → Forwarding → WorkerEnds → Type 0
-Carries rows was old Moved is new = Brings rows was old is new
+Carries rows was old Moved is new = PutsNext rows was old is new
 Carries rows was old Held is new = Keeps was old is new
 Carries rows was old Idle is new = Waits was old is new

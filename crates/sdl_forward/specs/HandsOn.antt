@@ -1,5 +1,5 @@
 -- What holds of a forwarder and its ends after any number of steps. (This project's own.)
-use Rattle.std.specs.Prelude.{◌≡◌, ◌⊎◌, Bool, false, List, [], ◌++◌, Option, Some, None, filter}
+use Rattle.std.specs.Prelude.{◌≡◌, ◌⊎◌, List, [], ◌++◌, Option, Some, None, filter}
 use Rattle.std.specs.Option.{option_to_list}
 use Rattle.std.specs.List.{AllByRecursion}
 use Rattle.sdl_signal.specs.declared.values.Item.{Item}
@@ -9,18 +9,13 @@ use Rattle.sdl_routes.specs.declared.route.Station.{Station}
 use Rattle.sdl_routes.specs.declared.route.Station.TheVariants.{Line}
 use Rattle.sdl_ends.specs.Ends.{WorkerEnds, put_at, taken_by}
 pub use Rattle.sdl_ends.specs.Ends.{AreFresh}
-use Rattle.sdl_forward.specs.Boards.{same_station}
+use Rattle.sdl_ends.specs.Stations.{is_station}
 use Rattle.sdl_forward.specs.Forwards.{Forwarding, next_station}
 use Rattle.sdl_forward.specs.Carries.{HasWaysOn}
 
--- there is a station, and it is this one
-abbrev pub is_at : Station → Option Station → Bool
-is_at s None = false
-is_at s (Some t) = same_station t s
-
 -- those of the items whose next station from this path is the one named, in order
 abbrev pub going_to : List TableRow → Hop → Station → List Item → List Item
-going_to rows hop s items = filter (λ i. is_at s (next_station rows (Line hop) i)) items
+going_to rows hop s items = filter (λ i. is_station s (next_station rows (Line hop) i)) items
 
 -- the item has a next station from this path
 abbrev pub GoesOn : List TableRow → Hop → Item → Type 0

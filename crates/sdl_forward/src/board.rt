@@ -10,7 +10,7 @@ ghost use Rattle.sdl_forward.specs.Boards.{stations_of, waiting, ChangesOnly, li
 
 use crate::busy::Busy;
 use crate::hints::Hints;
-use crate::stations::stations_of;
+use sdl_opening::stations::stations_of;
 use sdl_queue::{Rest, SerialQueue};
 use sdl_routes::{Routes, Station};
 use sdl_signal::{ChannelId, Item};
@@ -105,7 +105,7 @@ impl Board {
     }
 
     /// Whether nothing waits at any delaying path. It may still say no once nothing does.
-    pub fn is_quiet(&self) -> bool
+    pub fn has_no_mark(&self) -> bool
         ensures { MatchBool result ((h : Hop) → waiting self.now (Line h) ≡ []) ⊤ }
     {
         self.busy.is_clear()

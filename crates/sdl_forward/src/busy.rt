@@ -5,11 +5,12 @@ ghost use Rattle.sdl_routes.specs.declared.route.Station.TheVariants.{Line};
 ghost use Rattle.sdl_forward.specs.Boards.{lists_of};
 ghost use Rattle.sdl_forward.specs.Busy.{IsClear, MarksAll};
 
+use sdl_parts::limits::MOST_CHANNELS;
 use sdl_queue::Rest;
 use sdl_routes::{Hop, Station};
 
 /// The number of channels that have a mark of their own: those of a structure are no more.
-const CHANNELS: u32 = 64;
+const CHANNELS: u32 = MOST_CHANNELS as u32;
 
 /// Marks of delaying paths: at a path without one nothing waits.
 #[derive(Drop)]

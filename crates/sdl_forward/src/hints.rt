@@ -2,13 +2,14 @@
 ghost use Rattle.std.specs.Prelude.{◌≡◌, Some, Contains, slice_get, MatchOption};
 ghost use Rattle.sdl_forward.specs.Boards.{stations_of};
 
+use sdl_parts::limits::{MOST_BLOCKS, MOST_CHANNELS};
 use sdl_routes::{Hop, Station};
 
 /// The number of delaying paths that have a hint of their own: those of a structure are no more.
-const LINES: usize = 128;
+const LINES: usize = 2 * MOST_CHANNELS;
 
 /// The number of inlets that have a hint of their own: the blocks of a structure are no more.
-const INLETS: usize = 16;
+const INLETS: usize = MOST_BLOCKS;
 
 /// A place for each station, at which a look-up looks first. It need not be the right one.
 #[derive(Drop)]

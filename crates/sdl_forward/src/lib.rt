@@ -8,7 +8,6 @@ mod busy;
 pub mod forwarder;
 mod hints;
 pub mod laws;
-mod stations;
 
 pub use board::Board;
 pub use forwarder::{Forwarded, Forwarder};

@@ -136,9 +136,9 @@ fn a_board_of_rejoined_queues_gives_their_items_in_order(rt: HostRuntime) -> Res
         Err(_) => three_queues(&rt, rt.alloc())?,
     };
     let mut board = adopt(&rt, rests)?;
-    assert!(rt; !board.is_quiet());
+    assert!(rt; !board.has_no_mark());
     take_all(&rt, &mut board, PATH, 0, 40);
-    assert!(rt; board.is_quiet());
+    assert!(rt; board.has_no_mark());
     take_all(&rt, &mut board, INLET, 40, 40);
     take_all(&rt, &mut board, Station::Outlet, 40, 42);
     take_all(&rt, &mut board, Station::Inlet(BlockId(1)), 42, 42);

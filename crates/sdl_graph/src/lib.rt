@@ -1,4 +1,4 @@
-//! Process graphs: the transitions of a system's agents as two plain functions of a number, with what they are written in.
+//! Process graphs: the transitions of a system's agents as two functions of a number without contracts, with what they are written in.
 #![tactic(auto)]
 
 pub mod graph;

@@ -11,6 +11,7 @@ use crate::sets::Use;
 use arrayvec::ArrayVec;
 use sdl_behaviour::{Behaviour, Named, Row, Transition};
 use sdl_parts::Set;
+use sdl_parts::limits::{MOST_ROWS, MOST_USES};
 use sdl_signal::{Name, name};
 
 /// The place of the first set whose name is `text`.
@@ -62,7 +63,7 @@ fn with_use<G>(
     let Some(name) = name(text) else {
         return Err(GraphFault::BadUses);
     };
-    if behaviour.uses.len() >= 256 {
+    if behaviour.uses.len() >= MOST_USES {
         return Err(GraphFault::BadUses);
     }
     match behaviour.add_use(Named { kind, number, name }) {
@@ -118,7 +119,7 @@ fn with_row<G>(
 {
     let mut behaviour = behaviour;
     let row = row_of(transition)?;
-    if behaviour.rows.len() >= 256 {
+    if behaviour.rows.len() >= MOST_ROWS {
         return Err(GraphFault::ManyRows(behaviour.set));
     }
     match behaviour.add_row(row) {

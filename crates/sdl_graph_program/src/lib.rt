@@ -3,11 +3,10 @@
 #![tactic(auto)]
 
 pub mod commands;
-pub mod faults;
+mod faults;
 pub mod runs;
 
 pub use commands::{Prepared, prepare, prepare_file};
-pub use faults::write_graph_fault;
 pub use runs::{BROKEN, refused, run_prepared};
 pub use sdl_file_commands;
 pub use sdl_file_commands::sdl_command::errors::without_memory;

@@ -1,5 +1,5 @@
 -- What a block does in a step on one thread. (This project's own.)
-use Rattle.std.specs.Prelude.{◌≡◌, ◌≢◌, ℕ, ◌*◌, ◌≤◌, ◌⊎◌, Bool, false, List, [], ◌++◌, Option, None, Some, length, filter, All, slice_get, option_and_then}
+use Rattle.std.specs.Prelude.{◌≡◌, ◌≢◌, ℕ, ◌*◌, ◌≤◌, ◌⊎◌, List, [], ◌++◌, Option, None, Some, length, filter, All, slice_get, option_and_then}
 use Rattle.std.specs.Option.{option_to_list}
 use Rattle.sdl_signal.specs.declared.values.Pid.{Pid}
 use Rattle.sdl_signal.specs.declared.values.Item.{Item}
@@ -13,7 +13,8 @@ use Rattle.sdl_instances.specs.Machine.{System}
 use Rattle.sdl_instances.specs.Run.{arrived, sent, turns}
 use Rattle.sdl_instances.specs.Core.{Core, IsReady, IsSound, IsLegalIn}
 use Rattle.sdl_instances.specs.Calls.{KeepsRest}
-use Rattle.sdl_forward.specs.Boards.{same_station, stations_of, waiting}
+use Rattle.sdl_forward.specs.Boards.{stations_of, waiting}
+pub use Rattle.sdl_ends.specs.Stations.{is_station}
 use Rattle.sdl_hand.specs.declared.hand.Stepped.{Stepped}
 use Rattle.sdl_hand.specs.declared.hand.Stepped.TheVariants.{Did, Idle, Memory}
 
@@ -31,10 +32,6 @@ with_core c = record { core = c; kept = None; outgoing = [] }
 -- the first station of the item's route; none where the table has no such route
 abbrev pub first_station : List TableRow → Item → Option Station
 first_station rows i = option_and_then (λ row. slice_get row.route.stations.items 0) (slice_get rows i.route.0)
-
-abbrev pub is_station : Station → Option Station → Bool
-is_station s None = false
-is_station s (Some x) = same_station x s
 
 -- those of the items whose routes begin at the station, in order
 abbrev pub beginning_at : List TableRow → Station → List Item → List Item

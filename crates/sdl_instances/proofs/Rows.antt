@@ -144,7 +144,7 @@ is_parent = instance (Some idle) [] pid.Null (kid 3) pid.Env
 
 makes : next_any spawn_may spawn (kid_gone asked) boss_makes (kid_made (new_kid []))
 makes =
-    let born : State = record { living = (boss, heard) ∷ (kid 2, waits) ∷ (kid 3, new_kid []) ∷ []; last = 1 ∷ 3 ∷ [] } in (
+    let created : State = record { living = (boss, heard) ∷ (kid 2, waits) ∷ (kid 3, new_kid []) ∷ []; last = 1 ∷ 3 ∷ [] } in (
       asked,
       [],
       idle,
@@ -165,7 +165,7 @@ makes =
           kid_made (new_kid []),
           (
             heard,
-            born,
+            created,
             record { room = (_, refl, lit< tt); serial = refl; rules = _; rules_are = refl; living = refl; last = refl },
             record { place = 0; was = refl; living = refl; last = refl },
           ),

@@ -22,7 +22,7 @@ use Rattle.sdl_opening.specs.Used.{AreUsed}
 use Rattle.sdl_opening.proofs.Using.{used_length}
 use Rattle.sdl_forward.specs.Boards.{waiting, lists_of, IsBoardOf, AreAllStations}
 use Rattle.sdl_forward.specs.Forwards.{Forwarding, next_station}
-use Rattle.sdl_forward.specs.HandsOn.{IsHandingOn, is_at, going_to}
+use Rattle.sdl_forward.specs.HandsOn.{IsHandingOn, going_to}
 use Rattle.sdl_hand.specs.Work.{Working, is_station}
 use Rattle.sdl_hand.specs.Apart.{IsPuttingOut}
 use Rattle.sdl_outcome.specs.Steps.{bound_for}
@@ -51,15 +51,11 @@ none_put t w = record { put = []; whole = refl; each = λ s. refl }
 block_put : (may : ℕ → Frame → Step → Type 0) (plan : Plan) (b : BlockId) (w : Working) (e : WorkerEnds) → IsPuttingOut may (system_at plan b.0) w e → HasPut (ways_of plan) (Block b) (sent w.core.log) w.outgoing e
 block_put may plan b w e p = record { put = p.put; whole = p.whole; each = λ s. p.each s ∙ sym (bound_is plan b s p.put) }
 
-at_station : (s : Station) (o : Option Station) → is_station s o ≡ is_at s o
-at_station s None = refl
-at_station s (Some x) = refl
-
 -- a forwarder's items go on behind its path
 going_is : (plan : Plan) (h : Hop) (s : Station) (items : List Item) → bound_for (ways_of plan) (Forwarder h) s items ≡ going_to plan.routes h s items
 going_is plan h s items =
-    filter_agrees (λ (i : Item). is_station s (next (ways_of plan) (Forwarder h) i.route.0)) (λ (i : Item). is_at s (next_station plan.routes (Line h) i))
-    (λ i. at_station s (next (ways_of plan) (Forwarder h) i.route.0) ∙ ap (is_at s) (next_is plan h i)) items
+    filter_agrees (λ (i : Item). is_station s (next (ways_of plan) (Forwarder h) i.route.0)) (λ (i : Item). is_station s (next_station plan.routes (Line h) i))
+    (λ i. ap (is_station s) (next_is plan h i)) items
 
 line_put : (plan : Plan) (h : Hop) (f : Forwarding) (e : WorkerEnds) → f.hop ≡ h → IsHandingOn plan.routes f e → HasPut (ways_of plan) (Forwarder h) (taken_by e) (option_to_list f.held) e
 line_put plan h f e same p =

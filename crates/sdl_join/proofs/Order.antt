@@ -21,7 +21,8 @@ use Rattle.sdl_outcome.specs.Stations.{Leads, AreWays, IsWay, Once}
 use Rattle.sdl_outcome.specs.Books.{Books, InOrder, of_route, outs, came, left, standing}
 use Rattle.sdl_outcome.specs.Steps.{bound_for}
 use Rattle.sdl_outcome.proofs.Lists.{all_front, all_end, all_append, all_weaker, all_both, all_every, all_map, all_passes, all_filter, filter_within, filter_none}
-use Rattle.sdl_outcome.proofs.AlongStations.{IsBefore, before_one, next_among, place_taker, after_rest, after_itself, next_agent}
+use Rattle.sdl_opening.specs.Opens.{Brings}
+use Rattle.sdl_outcome.proofs.AlongStations.{before_one, next_among, place_taker, after_rest, after_itself, next_agent}
 use Rattle.sdl_outcome.proofs.Along.{same_route, is_station_is, route_bound, way, ways, head, first_way, back_from}
 use Rattle.sdl_ends.specs.Ends.{WorkerEnds, feed_at, put_at, number_at, taken_by}
 use Rattle.sdl_join.specs.Joins.{given, pending, Joined}
@@ -81,10 +82,10 @@ module _ (t : Ways) (ends : Worker → WorkerEnds) (accounts : Station → Accou
   starts_put w = subst (AllByRecursion (λ (i : Item). IsAgent w → t.start i.route.0 ≡ w)) (sym (j.went w).whole) (starts_of w)
 
   -- each worker puts an item where the item's route goes
-  put_before : (w : Worker) (s : Station) → AllByRecursion (λ (i : Item). IsBefore t i.route.0 w s) (put_at (ends w) s)
+  put_before : (w : Worker) (s : Station) → AllByRecursion (λ (i : Item). Brings t w i.route.0 s) (put_at (ends w) s)
   put_before w s =
       let put = (j.went w).put in
-      subst (AllByRecursion (λ (i : Item). IsBefore t i.route.0 w s)) (sym ((j.went w).each s))
+      subst (AllByRecursion (λ (i : Item). Brings t w i.route.0 s)) (sym ((j.went w).each s))
       (all_both (λ (i : Item). next t w i.route.0 ≡ Some s) (λ (i : Item). IsAgent w → t.start i.route.0 ≡ w) (bound_for t w s put)
       (all_weaker (λ (i : Item). is_station s (next t w i.route.0) ≡ true) (λ (i : Item). next t w i.route.0 ≡ Some s) (λ i e. is_station_is s (next t w i.route.0) e) (bound_for t w s put)
       (all_passes (λ (i : Item). is_station s (next t w i.route.0)) put))
@@ -96,21 +97,21 @@ module _ (t : Ways) (ends : Worker → WorkerEnds) (accounts : Station → Accou
 
   -- each thing at a station was put there by a worker that brings the item there
   abbrev IsKnown : Station → Tagged → Type 0
-  IsKnown s x = (w : Worker) × (number_at (ends w) s ≡ Some x.feeder) × IsBefore t x.item.route.0 w s
+  IsKnown s x = (w : Worker) × (number_at (ends w) s ≡ Some x.feeder) × Brings t w x.item.route.0 s
 
-  before_at : (s : Station) (f : ℕ) (w : Worker) → number_at (ends w) s ≡ Some f → AllByRecursion (λ (i : Item). IsBefore t i.route.0 w s) (items_by f ((accounts s).taken ++ (accounts s).left))
+  before_at : (s : Station) (f : ℕ) (w : Worker) → number_at (ends w) s ≡ Some f → AllByRecursion (λ (i : Item). Brings t w i.route.0 s) (items_by f ((accounts s).taken ++ (accounts s).left))
   before_at s f w e =
-      subst (AllByRecursion (λ (i : Item). IsBefore t i.route.0 w s)) ((j.lanes s).fed w f e ∙ sym (items_by_append f (accounts s).taken (accounts s).left)) (put_before w s)
+      subst (AllByRecursion (λ (i : Item). Brings t w i.route.0 s)) ((j.lanes s).fed w f e ∙ sym (items_by_append f (accounts s).taken (accounts s).left)) (put_before w s)
 
   known : (s : Station) → AllByRecursion (IsKnown s) ((accounts s).taken ++ (accounts s).left)
   known s =
       let all = (accounts s).taken ++ (accounts s).left in
-      let each = by_feeder (λ f i. (w : Worker) → number_at (ends w) s ≡ Some f → IsBefore t i.route.0 w s) all
-      (λ f. all_forall (λ (w : Worker) (i : Item). number_at (ends w) s ≡ Some f → IsBefore t i.route.0 w s) (items_by f all)
-      (λ w. all_given (number_at (ends w) s ≡ Some f) (λ (i : Item). IsBefore t i.route.0 w s) (items_by f all) (before_at s f w))) in
-      all_weaker (λ (x : Tagged). ((w : Worker) × (number_at (ends w) s ≡ Some x.feeder)) × ((w : Worker) → number_at (ends w) s ≡ Some x.feeder → IsBefore t x.item.route.0 w s)) (IsKnown s)
+      let each = by_feeder (λ f i. (w : Worker) → number_at (ends w) s ≡ Some f → Brings t w i.route.0 s) all
+      (λ f. all_forall (λ (w : Worker) (i : Item). number_at (ends w) s ≡ Some f → Brings t w i.route.0 s) (items_by f all)
+      (λ w. all_given (number_at (ends w) s ≡ Some f) (λ (i : Item). Brings t w i.route.0 s) (items_by f all) (before_at s f w))) in
+      all_weaker (λ (x : Tagged). ((w : Worker) × (number_at (ends w) s ≡ Some x.feeder)) × ((w : Worker) → number_at (ends w) s ≡ Some x.feeder → Brings t w x.item.route.0 s)) (IsKnown s)
       (λ x p. (p.0.0, p.0.1, p.1 p.0.0 p.0.1)) all
-      (all_both (λ (x : Tagged). (w : Worker) × (number_at (ends w) s ≡ Some x.feeder)) (λ (x : Tagged). (w : Worker) → number_at (ends w) s ≡ Some x.feeder → IsBefore t x.item.route.0 w s) all (j.lanes s).by each)
+      (all_both (λ (x : Tagged). (w : Worker) × (number_at (ends w) s ≡ Some x.feeder)) (λ (x : Tagged). (w : Worker) → number_at (ends w) s ≡ Some x.feeder → Brings t w x.item.route.0 s) all (j.lanes s).by each)
 
   known_taken : (s : Station) → AllByRecursion (IsKnown s) (accounts s).taken
   known_taken s = all_front (IsKnown s) (accounts s).taken (accounts s).left (known s)
@@ -119,26 +120,26 @@ module _ (t : Ways) (ends : Worker → WorkerEnds) (accounts : Station → Accou
   known_left s = all_end (IsKnown s) (accounts s).taken (accounts s).left (known s)
 
   -- a thing of r at s was put there by the worker before s
-  feeder_is : (r : ℕ) (w : Worker) (s : Station) → IsWay t r → IsBefore t r w s → (x : Tagged) → IsKnown s x → eqb x.item.route.0 r ≡ true → number_at (ends w) s ≡ Some x.feeder
+  feeder_is : (r : ℕ) (w : Worker) (s : Station) → IsWay t r → Brings t w r s → (x : Tagged) → IsKnown s x → eqb x.item.route.0 r ≡ true → number_at (ends w) s ≡ Some x.feeder
   feeder_is r w s is_way before x p e =
-      let same : p.0 ≡ w = before_one t r s is_way.once p.0 w (subst (λ (n : ℕ). IsBefore t n p.0 s) (same_route x.item r e) p.2) before in
+      let same : p.0 ≡ w = before_one t r s is_way.once p.0 w (subst (λ (n : ℕ). Brings t p.0 n s) (same_route x.item r e) p.2) before in
       subst (λ (v : Worker). number_at (ends v) s ≡ Some x.feeder) same p.1
 
-  one_feeder : (r : ℕ) (w : Worker) (s : Station) → IsWay t r → IsBefore t r w s → (n : ℕ) → number_at (ends w) s ≡ Some n → (xs : List Tagged) → AllByRecursion (IsKnown s) xs
+  one_feeder : (r : ℕ) (w : Worker) (s : Station) → IsWay t r → Brings t w r s → (n : ℕ) → number_at (ends w) s ≡ Some n → (xs : List Tagged) → AllByRecursion (IsKnown s) xs
       → of_route r (items_by n xs) ≡ of_route r (items_of xs)
   one_feeder r w s is_way before n mine xs h =
       filter_within (λ (i : Item). eqb i.route.0 r) (λ (x : Tagged). x.item) (λ (x : Tagged). eqb x.feeder n) xs
       (all_weaker (IsKnown s) (λ (x : Tagged). eqb x.item.route.0 r ≡ true → eqb x.feeder n ≡ true)
       (λ x p e. eq-eqb x.feeder n (same_Some x.feeder n (sym (feeder_is r w s is_way before x p e) ∙ mine))) xs h)
 
-  no_feeder : (r : ℕ) (w : Worker) (s : Station) → IsWay t r → IsBefore t r w s → number_at (ends w) s ≡ None → (xs : List Tagged) → AllByRecursion (IsKnown s) xs → of_route r (items_of xs) ≡ []
+  no_feeder : (r : ℕ) (w : Worker) (s : Station) → IsWay t r → Brings t w r s → number_at (ends w) s ≡ None → (xs : List Tagged) → AllByRecursion (IsKnown s) xs → of_route r (items_of xs) ≡ []
   no_feeder r w s is_way before mine xs h =
       filter_none (λ (i : Item). eqb i.route.0 r) (items_of xs)
       (all_map (λ (i : Item). eqb i.route.0 r ≡ true → ⊥) (λ (x : Tagged). x.item) xs
       (all_weaker (IsKnown s) (λ (x : Tagged). eqb x.item.route.0 r ≡ true → ⊥) (λ x p e. none-some x.feeder (sym mine ∙ feeder_is r w s is_way before x p e)) xs h))
 
   -- what the worker before s put there for r: what was taken of r, then what is left of r
-  through : (r : ℕ) (w : Worker) (s : Station) → IsWay t r → IsBefore t r w s → of_route r (put_at (ends w) s) ≡ of_route r (taken_by (ends (taker s))) ++ of_route r (b.rest s)
+  through : (r : ℕ) (w : Worker) (s : Station) → IsWay t r → Brings t w r s → of_route r (put_at (ends w) s) ≡ of_route r (taken_by (ends (taker s))) ++ of_route r (b.rest s)
   through r w s is_way before =
       let tap : of_route r (items_of (accounts s).taken) ≡ of_route r (taken_by (ends (taker s))) = ap (of_route r) (j.lanes s).tapped in
       let rest : of_route r (b.rest s) ≡ of_route r (items_of (accounts s).left) = ap (of_route r) (j.rests s) in
@@ -157,7 +158,7 @@ module _ (t : Ways) (ends : Worker → WorkerEnds) (accounts : Station → Accou
       ]
 
   -- what the worker before s put there for r and what it has pending of r: what it was given of r
-  carried : (r : ℕ) (w : Worker) (s : Station) → IsBefore t r w s → of_route r (put_at (ends w) s) ++ of_route r (pending b w) ≡ of_route r (given ends b w)
+  carried : (r : ℕ) (w : Worker) (s : Station) → Brings t w r s → of_route r (put_at (ends w) s) ++ of_route r (pending b w) ≡ of_route r (given ends b w)
   carried r w s before =
       let put = (j.went w).put in
       let e = ap (of_route r) ((j.went w).each s) in
@@ -169,7 +170,7 @@ module _ (t : Ways) (ends : Worker → WorkerEnds) (accounts : Station → Accou
   abbrev stand : ℕ → Station → List Item
   stand r s = of_route r (standing b s)
 
-  walk : (r : ℕ) → IsWay t r → (hs : List Hop) (w : Worker) → IsBefore t r w (head t r hs) → ((a : Station) → Among a (way t r hs) → station_behind a (t.stations r) ≡ station_behind a (way t r hs)) → Once (way t r hs)
+  walk : (r : ℕ) → IsWay t r → (hs : List Hop) (w : Worker) → Brings t w r (head t r hs) → ((a : Station) → Among a (way t r hs) → station_behind a (t.stations r) ≡ station_behind a (way t r hs)) → Once (way t r hs)
       → of_route r (put_at (ends w) (head t r hs)) ≡ came t b r ++ flat_map (stand r) (reverse (way t r hs))
   unfolding way head
   walk r is_way [] w before same once =
@@ -185,7 +186,7 @@ module _ (t : Ways) (ends : Worker → WorkerEnds) (accounts : Station → Accou
       cc
   walk r is_way (h ∷ hs) w before same once =
       let mine : next t (Forwarder h) r ≡ Some (head t r hs) = same (Line h) (inl refl) ∙ (after_itself (Line h) (way t r hs) ∙ first_way t r hs) in
-      let next_before : IsBefore t r (Forwarder h) (head t r hs) = (mine, λ n. absurd n) in
+      let next_before : Brings t (Forwarder h) r (head t r hs) = (mine, λ n. absurd n) in
       let later = walk r is_way hs (Forwarder h) next_before (λ a m. same a (inr m) ∙ after_rest a (Line h) (way t r hs) m once.0) once.1 in
       let e = through r w (Line h) is_way before in
       let g = carried r (Forwarder h) (head t r hs) next_before in
@@ -200,7 +201,7 @@ module _ (t : Ways) (ends : Worker → WorkerEnds) (accounts : Station → Accou
       let w = t.start r in
       let are : t.stations r ≡ way t r is_way.lines = ways r is_way in
       let goes : next t w r ≡ Some (head t r is_way.lines) = next_agent t r w is_way.from ∙ (ap first are ∙ first_way t r is_way.lines) in
-      let before : IsBefore t r w (head t r is_way.lines) = (goes, λ a. refl) in
+      let before : Brings t w r (head t r is_way.lines) = (goes, λ a. refl) in
       let e = walk r is_way is_way.lines w before (λ a m. ap (station_behind a) are) (subst Once are is_way.once) in
       let g = carried r w (head t r is_way.lines) before in
       let p = pending_agent b w is_way.from in

@@ -4,7 +4,7 @@
 pub mod counts;
 pub mod event;
 pub mod keeps;
-pub mod past;
+mod past;
 mod stored;
 pub mod unstored;
 

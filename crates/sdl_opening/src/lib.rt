@@ -4,12 +4,12 @@
 mod givers;
 pub mod laws;
 pub mod opening;
+pub mod order;
 mod shares;
 pub mod stations;
 mod worker;
-pub mod workers;
 
 pub use opening::ends_open;
+pub use order::workers_of;
 pub use stations::stations_of;
 pub use worker::Worker;
-pub use workers::workers_of;

@@ -10,9 +10,9 @@ ghost use Rattle.sdl_opening.specs.Opens.{IsOpenedAs, AreOpen};
 
 use crate::Worker;
 use crate::givers::{count_of, marks_at, taker};
+use crate::order::workers_of;
 use crate::shares::{Share, distribute, no_shares};
 use crate::stations::stations_of;
-use crate::workers::workers_of;
 use sdl_ends::{Ends, Shelf};
 use sdl_parts::Checked;
 use sdl_queue::{AnyFeed, AnyTap, any_queue, any_ring};

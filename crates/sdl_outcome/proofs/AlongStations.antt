@@ -7,6 +7,7 @@ use Rattle.sdl_routes.specs.declared.route.Station.{Station}
 use Rattle.sdl_routes.specs.declared.route.Station.TheVariants.{Line}
 use Rattle.sdl_opening.specs.declared.worker.Worker.{Worker}
 use Rattle.sdl_opening.specs.declared.worker.Worker.TheVariants.{Block, Environment, Forwarder}
+use Rattle.sdl_opening.specs.Opens.{Brings}
 use Rattle.sdl_forward.specs.Boards.{same_station}
 use Rattle.sdl_outcome.specs.Stations.{Ways, IsAgent, Leads, AreWays, IsWay, Among, Once, first, next, place, taker}
 use Rattle.sdl_forward.specs.Forwards.{station_behind}
@@ -41,11 +42,7 @@ after_one : (ss : List Station) (a b s : Station) → Once ss → station_behind
 after_one [] a b s o e f = absurd (first_among [] s e)
 after_one (x ∷ xs) a b s o e f = after_one_at x a b s xs (same_station x a) (same_station x b) (after_one xs a b s o.1) o.1 refl refl e f
 
--- w brings the items of r to s
-abbrev pub IsBefore : Ways → ℕ → Worker → Station → Type 0
-IsBefore t r w s = (next t w r ≡ Some s) × (IsAgent w → t.start r ≡ w)
-
-pub before_one : (t : Ways) (r : ℕ) (s : Station) → Once (t.stations r) → (v w : Worker) → IsBefore t r v s → IsBefore t r w s → v ≡ w
+pub before_one : (t : Ways) (r : ℕ) (s : Station) → Once (t.stations r) → (v w : Worker) → Brings t v r s → Brings t w r s → v ≡ w
 before_one t r s o (Forwarder h) (Forwarder k) e f = ap taker (after_one (t.stations r) (Line h) (Line k) s o e.0 f.0)
 before_one t r s o (Forwarder h) (Block n) e f = absurd (first_not_after (t.stations r) (Line h) s o f.0 e.0)
 before_one t r s o (Forwarder h) Environment e f = absurd (first_not_after (t.stations r) (Line h) s o f.0 e.0)

@@ -4,7 +4,7 @@
 
 mod built_in;
 pub mod program;
-pub mod running;
+mod running;
 pub mod systems;
 
 pub use sdl_file_commands;

@@ -5,10 +5,10 @@
 pub mod any;
 pub mod ends;
 pub mod rest;
-pub mod rule;
+mod rule;
 
 pub use any::{AnyFeed, AnyTap, any_queue, any_rejoin, any_ring};
 pub use ends::{Feed, Rejoined, Tap, queue_open, rejoin};
 pub use rest::Rest;
-pub use rule::Tagged;
+pub use rule::{PutList, Tagged};
 pub use sdl_ring::{RingFeed, RingRejoined, RingTap, SerialQueue, ring_open, ring_rejoin};

@@ -5,11 +5,9 @@ ghost use Rattle.sdl_routes.specs.Index.{end_goal, group_place, goal_place, list
 
 use crate::entries::{Entry, add_entries, find};
 use crate::route::{EndPoint, Goal, Source, TableRow, Wish};
+use sdl_parts::limits::MOST_SIGNALS;
 use sdl_signal::SignalId;
 use std::alloc::{AllocError, Global};
-
-/// The most signals of a structure.
-const MOST_SIGNALS: usize = 64;
 
 /// The entries of all wishes that some route fits: in groups, one for each source and signal, and in a group in lists, one
 /// for each goal. A list has an entry for each VIA, and first that for none.

@@ -8,7 +8,6 @@ use crate::index::Index;
 use crate::route::{Route, Station, TableRow, Wish};
 use crate::search::all_routes;
 use sdl_parts::Checked;
-use sdl_parts::limits::MOST_SIGNALS;
 use sdl_signal::RouteId;
 use std::alloc::Global;
 use std::marker::Model;

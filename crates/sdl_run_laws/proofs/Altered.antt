@@ -1,4 +1,4 @@
--- With one thing changed in what the run of Echo leaves, a sentence on runs that have ended fails.
+-- With one thing changed in what the run of Echo leaves, a promise of runs that have ended fails.
 use Rattle.std.proofs.Common.{◌≡◌, ℕ, ◌<◌, ◌≤◌, inl, inr, Bool, true, false, List, [], ◌∷◌, ◌++◌, length, Some, refl, ap, lit<, true≢false, slice_get, pos, arith}
 use Rattle.sdl_driver.specs.sdl_signal.declared.values.Item.{Item}
 use Rattle.sdl_driver.specs.sdl_signal.declared.values.Origin.{Origin}

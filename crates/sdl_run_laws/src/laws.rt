@@ -74,7 +74,7 @@ pub fn changed_ledgers_are_refused()
 {}
 
 /// No log of E is lawful with another stamp or another value in its answer, and no output of the environment with another
-/// number. The headline fails sentence by sentence: a signal is lost or made up, two outputs have one origin, a signal arrives
+/// number. The headline fails promise by promise: a signal is lost or made up, two outputs have one origin, a signal arrives
 /// where its route does not end, or causes itself.
 pub fn changed_logs_are_refused()
     ensures misstamped { (finals : List State) → IsLawful EchoMay plan (with_log (log_of (pong 0 7))) finals → ⊥ }

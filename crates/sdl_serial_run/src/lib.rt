@@ -1,14 +1,7 @@
 //! Whole runs of a system on one thread.
 #![tactic(auto)]
 
-pub mod balance;
 pub mod blocks;
-pub mod closing;
-pub mod driver;
-pub mod environment;
-pub mod environment_output;
-pub mod laws;
-pub mod ledger;
 pub mod serial;
 pub mod start;
 

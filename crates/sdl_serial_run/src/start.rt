@@ -17,7 +17,7 @@ use std::alloc::{AllocError, Global};
 
 /// What a run takes before its blocks: the board, the forwarders, the lists of its closing, and room for the blocks.
 #[derive(Drop)]
-pub struct StartRoom<S, K: Keeps = Vec<Event>> {
+pub(crate) struct StartRoom<S, K: Keeps = Vec<Event>> {
     pub board: Board,
     pub forwarders: Vec<Forwarder>,
     pub room: Room<S, K>,
@@ -25,7 +25,7 @@ pub struct StartRoom<S, K: Keeps = Vec<Event>> {
 }
 
 /// Empty lists, with room for what so many blocks and so many workers leave.
-pub fn make_room<S: Agents, K: Keeps>(
+fn make_room<S: Agents, K: Keeps>(
     alloc: Global,
     blocks: usize,
     workers: usize,
@@ -40,7 +40,7 @@ pub fn make_room<S: Agents, K: Keeps>(
 }
 
 /// Takes what a run of so many blocks needs, before any block starts.
-pub fn make_start_room<S: Agents, K: Keeps>(
+pub(crate) fn make_start_room<S: Agents, K: Keeps>(
     alloc: Global,
     checked: &Checked,
     routes: &Routes,

@@ -14,7 +14,7 @@ use std::io::Read;
 use std::marker::Model;
 
 /// How many lines of an input are carried out at most. (This project's own.)
-pub const MOST_LINES: u32 = 16_384;
+const MOST_LINES: u32 = 16_384;
 
 /// What the environment's reading answers.
 #[derive(Debug, PartialEq, Eq, Drop)]

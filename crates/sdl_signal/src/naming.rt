@@ -59,7 +59,7 @@ fn is_name_byte(b: u8) -> bool
 
 /// A signal's name and the sorts of its parameters.
 #[derive(Drop)]
-pub struct SignalEntry {
+pub(crate) struct SignalEntry {
     pub name: Name,
     pub sorts: ArrayVec<Sort, 4>,
 }

@@ -16,7 +16,7 @@ use std::fmt::{self, Display, Formatter};
 use values::{read_pid, read_values};
 
 /// The bytes of the longest line, without its newline.
-pub const LONGEST_LINE: usize = 320;
+pub(crate) const LONGEST_LINE: usize = 320;
 
 /// Why a line is refused: the first rule that fails. (This project's own.)
 #[derive(Clone, Copy, Debug, PartialEq, Eq)]

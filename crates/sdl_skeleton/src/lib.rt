@@ -3,7 +3,7 @@
 
 pub mod agents;
 pub mod fixed;
-pub mod names;
+mod names;
 pub mod numbers;
 
 pub use agents::write_agents;

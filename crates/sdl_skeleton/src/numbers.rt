@@ -1,11 +1,9 @@
 //! The text of `numbers.rt`: a constant for each signal, each set and each gate of a set, and the names that are meant.
 use crate::names::{Constant, Part};
+use sdl_parts::limits::MOST_USES;
 use sdl_parts::{Gate, Owner, SignalDecl, Structure};
 use sdl_signal::Sort;
 use std::io::{Result, Write};
-
-/// The most names that a design may say it means. (This project's own.)
-const MOST_USES: usize = 256;
 
 /// Writes the text of `numbers.rt`.
 pub fn write_numbers<W: Write>(output: &mut W, structure: &Structure) -> Result<()> {

@@ -6,6 +6,6 @@ mod checking;
 #[cfg(test)]
 mod echo;
 #[cfg(test)]
-mod faults;
+mod echo_parts;
 #[cfg(test)]
-mod parts;
+mod faults;

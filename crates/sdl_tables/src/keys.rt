@@ -4,7 +4,9 @@ ghost use Rattle.sdl_tables.specs.Keys.{part_text, key_text, keys_of, gate_keys,
 ghost use Rattle.sdl_tables.specs.Places.{part_inside, inside};
 
 use crate::place::{Key, Part, Place};
-use sdl_parts::limits::{MOST_BLOCKS, MOST_GATES, MOST_INSTANCES, MOST_PARAMETERS, MOST_SIGNALS};
+use sdl_parts::limits::{
+    MOST_BLOCKS, MOST_BUDGET, MOST_GATES, MOST_INSTANCES, MOST_PARAMETERS, MOST_SIGNALS,
+};
 
 impl Part {
     /// The part as the text of a fault names it, as `block-gate`.
@@ -153,7 +155,7 @@ impl Key {
     {
         match self {
             Key::Version => 1,
-            Key::Budget => 1_000_000,
+            Key::Budget => MOST_BUDGET,
             Key::Initial | Key::Maximum => MOST_INSTANCES,
             _ => 0,
         }

@@ -101,7 +101,7 @@ fn take_first<S>(behaviours: &mut Vec<Behaviour<S>>) -> Behaviour<S>
 }
 
 /// Empty parts of all blocks, with room for the behaviours and with their index.
-pub fn empty_parts<S>(
+pub(crate) fn empty_parts<S>(
     alloc: Global,
     structure: &Structure,
     behaviours: &[Behaviour<S>],

@@ -26,7 +26,7 @@ fn place_of_signal(signals: &[SignalEntry], text: &[u8]) -> Option<usize>
 
 impl Names {
     /// Each name keeps the rule of names, and no signal has over four parameters.
-    pub fn keep_rules(&self)
+    pub(crate) fn keep_rules(&self)
         ensures { IsLexicon self.now }
     {
         let _names = &self.gates;

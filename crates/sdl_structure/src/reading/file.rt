@@ -9,6 +9,7 @@ ghost use Rattle.sdl_parts.specs.Lists.{structure_of};
 
 use super::draft::Draft;
 use super::gates::read_gates;
+use sdl_parts::limits::DEFAULT_BUDGET;
 use sdl_parts::{Lists, Owner, Scope, Structure};
 use sdl_signal::Name;
 use sdl_tables::{FileFault, Key, Part, Walk, read_signals};
@@ -84,6 +85,6 @@ fn read_budget(top: &Walk) -> Result<u32, FileFault>
     ensures range { IfOk result (λ n. (1 ≤ n) × (n ≤ 1000000)) }
     ensures fault { IfErr result (IsBroken (file_of top.now)) }
 {
-    let budget = top.integer_or(Key::Budget, 100_000)?;
+    let budget = top.integer_or(Key::Budget, DEFAULT_BUDGET)?;
     Ok(budget as u32)
 }

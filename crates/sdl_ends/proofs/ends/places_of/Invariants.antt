@@ -1,5 +1,5 @@
 use Rattle.std.proofs.Common.{◌≡◌, map}
-use Rattle.sdl_ends.specs.Held.{filled}
+use Rattle.sdl_ends.specs.FeedsLeft.{filled}
 use Rattle.sdl_ends.proofs.ends.places_of.Given as goal
 
 abbrev pub invariant-loop-station : goal.invariant-loop-station

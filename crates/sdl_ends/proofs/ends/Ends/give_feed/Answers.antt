@@ -2,9 +2,9 @@ use Rattle.std.proofs.Common.{◌≡◌, ◌<◌, List, Option, length, slice_se
 use Rattle.sdl_routes.specs.declared.route.Station.{Station}
 use Rattle.sdl_queue.specs.Ends.{FeedEnd}
 use Rattle.sdl_ends.specs.Ends.{WorkerEnds, feed_at}
-use Rattle.sdl_ends.specs.Held.{feeds_held}
+use Rattle.sdl_ends.specs.FeedsLeft.{feeds_held}
 use Rattle.sdl_ends.specs.Shelves.{drop_feed}
-use Rattle.sdl_ends.proofs.Held.{absent, drop_none, within, feed_is, index_now, held_back}
+use Rattle.sdl_ends.proofs.FeedsLeft.{absent, drop_none, within, feed_is, index_now, held_back}
 use Rattle.sdl_ends.proofs.ends.Ends.give_feed.Goals as goal
 
 pub returns-in_err-place-clause-feed : goal.returns-in_err-place-clause-feed

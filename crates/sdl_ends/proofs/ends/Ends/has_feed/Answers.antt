@@ -1,6 +1,6 @@
 use Rattle.std.proofs.Common.{◌<◌, length, None, false, refl, ap, sym, ◌∙◌, arith}
 use Rattle.sdl_ends.specs.Ends.{WorkerEnds, feed_at}
-use Rattle.sdl_ends.proofs.Held.{absent, within, feed_is, fed}
+use Rattle.sdl_ends.proofs.FeedsLeft.{absent, within, feed_is, fed}
 use Rattle.sdl_ends.proofs.ends.Ends.has_feed.Goals as goal
 
 pub returns-in_default : goal.returns-in_default

@@ -3,8 +3,8 @@ use Rattle.sdl_routes.specs.declared.route.Station.{Station}
 use Rattle.sdl_queue.specs.Ends.{FeedEnd}
 use Rattle.sdl_ends.specs.Stations.{stations_of}
 use Rattle.sdl_ends.specs.Index.{IsIndexOf}
-use Rattle.sdl_ends.specs.Held.{feeds_held}
-use Rattle.sdl_ends.proofs.Held.{filled_held, filled_stations}
+use Rattle.sdl_ends.specs.FeedsLeft.{feeds_held}
+use Rattle.sdl_ends.proofs.FeedsLeft.{filled_held, filled_stations}
 use Rattle.sdl_ends.proofs.ends.Ends.new.Goals as goal
 
 pub invariant_of-result : goal.invariant_of-result

@@ -1,7 +1,7 @@
 use Rattle.std.proofs.Common.{◌<◌, length, ap, sym, ◌∙◌, arith}
 use Rattle.std.proofs.lemmas.Option.{none-some}
 use Rattle.sdl_ends.specs.Ends.{WorkerEnds, feed_at}
-use Rattle.sdl_ends.proofs.Held.{absent, within, feed_is, index_now}
+use Rattle.sdl_ends.proofs.FeedsLeft.{absent, within, feed_is, index_now}
 use Rattle.sdl_ends.proofs.Feeds.{puts, others, marks}
 use Rattle.sdl_ends.proofs.ends.Ends.put.Goals as goal
 

@@ -2,7 +2,7 @@ use Rattle.std.proofs.Common.{◌++◌, ◌∷◌, [], List, ap, sym, ◌∙◌}
 use Rattle.sdl_opening.specs.declared.worker.Worker.{Worker}
 use Rattle.sdl_opening.specs.declared.worker.Worker.TheVariants.{Block}
 use Rattle.sdl_opening.proofs.Counted.{blocks_more}
-use Rattle.sdl_opening.proofs.workers.blocks_of.Goals as goal
+use Rattle.sdl_opening.proofs.order.blocks_of.Goals as goal
 
 pub loop-number-preserved : goal.loop-number-preserved
 loop-number-preserved c =

@@ -9,7 +9,7 @@ use Rattle.sdl_ends.specs.declared.index.Index.{Index}
 use Rattle.sdl_ends.specs.Stations.{same_station, stations_of}
 use Rattle.sdl_ends.specs.Ends.{WorkerEnds, HasFeed, feed_at, feed_mark}
 use Rattle.sdl_ends.specs.Index.{place_of, IsIndexOf}
-use Rattle.sdl_ends.specs.Held.{Place, with_feed, feeds_held, filled}
+use Rattle.sdl_ends.specs.FeedsLeft.{Place, with_feed, feeds_held, filled}
 use Rattle.sdl_ends.specs.Shelves.{drop_feed}
 use Rattle.sdl_ends.proofs.Same.{same_station_itself, other_station}
 use Rattle.sdl_ends.proofs.Places.{stations_get}

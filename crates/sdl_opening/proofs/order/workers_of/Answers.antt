@@ -1,6 +1,6 @@
 use Rattle.std.proofs.Common.{ap, length}
 use Rattle.sdl_opening.proofs.Counted.{workers_few, workers_are}
-use Rattle.sdl_opening.proofs.workers.workers_of.Goals as goal
+use Rattle.sdl_opening.proofs.order.workers_of.Goals as goal
 
 pub returns-clause-few : goal.returns-clause-few
 returns-clause-few c =
