@@ -6,3 +6,4 @@ pub mod Feeds
 pub mod Shelves
 pub mod Rejoins
 pub mod Flushed
+pub mod MarkSets

@@ -1,6 +1,6 @@
 //! The marks of stations, by which who puts something finds who takes it there asleep.
-ghost use Rattle.std.specs.Prelude.{◌≡◌, ◌<◌};
-ghost use Rattle.sdl_ends.specs.Marks.{mark};
+ghost use Rattle.std.specs.Prelude.{◌≡◌, ℕ, ◌%◌, ◌<◌, ◌↔◌, ◌⊎◌, IsTrue, IfSome, IfNone};
+ghost use Rattle.sdl_ends.specs.Marks.{mark, HasMark, IsEmpty, IsLeast, IsWithout};
 
 use sdl_routes::Station;
 
@@ -24,7 +24,7 @@ pub fn mark_of(station: Station) -> u32
     }
 }
 
-/// A set of marks. It serves for hints, and nothing is claimed of it.
+/// A set of marks, each below `MARKS`.
 #[derive(Clone, Copy, Drop)]
 pub struct Marks {
     words: [u64; 3],
@@ -32,38 +32,55 @@ pub struct Marks {
 
 impl Marks {
     /// No mark.
-    pub fn none() -> Marks {
+    pub fn none() -> Marks
+        ensures { IsEmpty result }
+    {
         Marks { words: [0; 3] }
     }
 
     /// These marks, or none.
-    pub(crate) fn kept_if(self, kept: bool) -> Marks {
+    pub(crate) fn kept_if(self, kept: bool) -> Marks
+        ensures { (m : ℕ) → HasMark result m ↔ (IsTrue kept × HasMark self m) }
+    {
         if kept { self } else { Marks::none() }
     }
 
-    pub fn is_empty(&self) -> bool {
-        self.words == [0; 3]
+    pub fn is_empty(&self) -> bool
+        ensures { IsTrue result ↔ IsEmpty self.now }
+    {
+        self.words[0] | self.words[1] | self.words[2] == 0
     }
 
-    /// Adds a mark.
-    pub fn add(&mut self, mark: u32) {
+    /// Adds a mark. One from `MARKS` on stands for its remainder.
+    pub fn add(&mut self, mark: u32)
+        ensures { (m : ℕ) → HasMark self.new m ↔ (HasMark self.old m ⊎ (m ≡ mark % 192)) }
+    {
         self.words[(mark / 64 % 3) as usize] |= 1 << (mark % 64);
     }
 
     /// Adds these marks.
-    pub fn join(&mut self, others: Marks) {
+    pub fn join(&mut self, others: Marks)
+        ensures { (m : ℕ) → HasMark self.new m ↔ (HasMark self.old m ⊎ HasMark others m) }
+    {
         for place in 0..3 {
             self.words[place] |= others.words[place];
         }
     }
 
     /// Takes the least mark out.
-    pub fn pop(&mut self) -> Option<u32> {
+    pub fn pop(&mut self) -> Option<u32>
+        ensures least { IfSome result (λ mark. IsLeast self.old mark) }
+        ensures few { IfSome result (λ mark. mark < 192) }
+        ensures left { IfSome result (λ mark. IsWithout self.old mark self.new) }
+        ensures empty { IfNone result (IsEmpty self.old) }
+        ensures same { IfNone result (self.new ≡ self.old) }
+    {
         for place in 0..3 {
             let word = self.words[place];
             if word != 0 {
-                self.words[place] = word & (word - 1);
-                return Some((place as u32 * 64).saturating_add(word.trailing_zeros()));
+                let lowest = word.trailing_zeros();
+                self.words[place] = word & !(1 << lowest);
+                return Some(place as u32 * 64 + lowest);
             }
         }
         None
