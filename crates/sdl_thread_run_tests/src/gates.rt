@@ -48,9 +48,8 @@ impl Gate for Meeting {
     }
 }
 
-/// The step of the environment by which it has read fifty lines and the end behind them, though it made some steps that did
-/// nothing, as it asks its reader when the others rest or when it has waited for that long enough.
-const ALL_READ: u64 = 150;
+/// The step of the environment before which it has read fifty lines.
+const ALL_READ: u64 = 50;
 
 /// In Relay, the first step of L waits until the environment has read fifty lines, whose next step waits until so many signals
 /// were counted.

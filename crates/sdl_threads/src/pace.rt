@@ -1,7 +1,7 @@
 //! One worker's loop, and how it comes to rest.
 ghost use Rattle.sdl_threads.specs.Back.{ComesFrom};
 
-use crate::told::{ASLEEP, AWAKE, LISTENING, Told};
+use crate::told::{ASLEEP, LISTENING, Told};
 use crate::work::{Returned, Stepped, Work};
 use crossbeam_utils::Backoff;
 use sdl_ends::{FREE_MARK, Marks};
@@ -10,7 +10,8 @@ use sdl_routes::Routes;
 use std::sync::Wait;
 
 /// Called before each step of each worker in a thread. Steps are counted from 0, and the count stays at `u64::MAX` once it is
-/// there. It is for tests, which hold a step back until another was made.
+/// there. Where the environment waits for the others before it reads, and takes what comes meanwhile, that is no step. It is for
+/// tests, which hold a step back until another was made.
 pub trait Gate: Sync {
     /// The worker of this number is about to make the step of this number.
     fn before(&self, worker: u32, step: u64);
@@ -27,14 +28,11 @@ impl Gate for OpenGate {
 /// A sleep ends after this time, whether or not somebody ended it.
 const NAP_MICROS: u64 = 8_000;
 
-/// The sleep of a worker that waits for room at a ring, as nobody tells that there is some.
-const SHORT_NAP_MICROS: u64 = 64;
-
-/// How often a worker that finds nothing to do spins before it sleeps, each time twice as long.
-const MOST_SPINS: u32 = 6;
-
 /// After how many steps that did something a worker wakes those that take what it put, unless it has nothing more to do before.
 const MOST_UNTOLD: u32 = 32;
+
+/// After how many steps that did something a worker wakes who waits for room where it takes: half a ring.
+const MOST_ROOM: u32 = 32;
 
 /// After how many sleeps, or steps, a worker asks outside the system although the others are not at rest: some never are. That
 /// many sleeps take 80 ms.
@@ -53,8 +51,9 @@ struct Idling {
     /// take there.
     untold: Marks,
     untold_steps: u32,
+    /// How many of its steps did something since somebody waits for room where it takes.
+    room_steps: u32,
     pause: Backoff,
-    spins: u32,
     /// How often it has slept since it last did something.
     naps: u32,
     /// How many steps it made since it last might ask.
@@ -68,8 +67,8 @@ impl Idling {
             awake: true,
             untold: Marks::none(),
             untold_steps: 0,
+            room_steps: 0,
             pause: Backoff::new(),
-            spins: 0,
             naps: 0,
             listened: 0,
         }
@@ -97,12 +96,23 @@ impl Idling {
             self.awake = true;
         }
         self.pause.reset();
-        self.spins = 0;
         self.naps = 0;
         self.untold_steps = self.untold_steps.saturating_add(1);
         if self.untold_steps >= MOST_UNTOLD {
             self.tells(told);
         }
+        if told.is_room_asked(self.mark) {
+            self.room_steps = self.room_steps.saturating_add(1);
+            if self.room_steps >= MOST_ROOM {
+                self.gives_room(told);
+            }
+        }
+    }
+
+    /// Wakes who waits for room where the worker takes.
+    fn gives_room(&mut self, told: &Told) {
+        self.room_steps = 0;
+        told.gives_room(self.mark);
     }
 
     /// Wakes those that take what the worker put.
@@ -115,18 +125,26 @@ impl Idling {
         }
     }
 
-    /// A step did nothing, but what the worker put still waits for room. It is not at rest.
+    /// A step did nothing, but what the worker put still waits for room. It is not at rest, and sleeps until there is some.
     fn waits<R: Wait>(&mut self, rt: &R, told: &Told) {
-        self.tells(told);
-        if !self.spins_on() {
-            told.sleeps(rt, self.mark, AWAKE, SHORT_NAP_MICROS);
+        told.wakes_each(self.untold);
+        self.gives_room(told);
+        if self.pauses_on() {
+            return;
+        }
+        if self.nods_off(told) {
+            told.asks_room(self.untold, self.mark);
+        } else {
+            told.waits(self.mark);
+            told.sleeps(rt, self.mark, LISTENING, NAP_MICROS);
         }
     }
 
     /// A step did nothing, as the worker may not ask yet. It is not at rest, and sleeps until the others are.
     fn listens<R: Wait>(&mut self, rt: &R, told: &Told) {
         self.tells(told);
-        if !self.spins_on() && !self.nods_off(told) {
+        self.gives_room(told);
+        if !self.pauses_on() && !self.nods_off(told) {
             told.listens(self.mark);
             told.sleeps(rt, self.mark, LISTENING, NAP_MICROS);
             self.naps = self.naps.saturating_add(1);
@@ -136,7 +154,8 @@ impl Idling {
     /// A step did nothing. The worker comes to rest.
     fn rests<R: Wait>(&mut self, rt: &R, told: &Told) {
         self.tells(told);
-        if !self.spins_on() && !self.nods_off(told) {
+        self.gives_room(told);
+        if !self.pauses_on() && !self.nods_off(told) {
             told.falls_asleep(self.mark);
             told.sleeps(rt, self.mark, ASLEEP, NAP_MICROS);
         }
@@ -148,14 +167,12 @@ impl Idling {
         told.nods_off(self.mark)
     }
 
-    /// Spins, unless it did so often enough. It never yields: on a machine with other work, whoever yields is put behind all of
-    /// it.
-    fn spins_on(&mut self) -> bool {
-        if self.spins >= MOST_SPINS {
+    /// Spins, and then yields, unless it did so often enough.
+    fn pauses_on(&mut self) -> bool {
+        if self.pause.is_completed() {
             return false;
         }
-        self.pause.spin();
-        self.spins += 1;
+        self.pause.snooze();
         true
     }
 }
@@ -187,13 +204,18 @@ pub(crate) fn drive<W: Work, G: Gate, R: Wait>(
     let mut idling = Idling::new(mark);
     let mut step = 0u64;
     for _ in rt.forever() {
-        gate.before(number, step);
         let flushed = worker.flush();
         let asks = worker.asks_outside();
         let may_ask = !asks || (flushed && idling.may_ask(told));
+        let counts = may_ask || !flushed;
+        if counts {
+            gate.before(number, step);
+        }
         let pick = (step % 4_294_967_296) as u32;
         let stepped = worker.step(rt, structure, routes, pick, may_ask);
-        step = step.saturating_add(1);
+        if counts {
+            step = step.saturating_add(1);
+        }
         idling.untold.join(worker.touched());
         match stepped {
             Stepped::Did => idling.stirs(told),

@@ -16,7 +16,7 @@ const DROWSY: u32 = 1;
 /// It looked, found nothing, and is at rest: it sleeps.
 pub(crate) const ASLEEP: u32 = 2;
 
-/// It waits for all others to rest before it asks outside the system: it sleeps.
+/// It waits for all others to rest before it asks outside the system, or for room where it puts: it sleeps.
 pub(crate) const LISTENING: u32 = 3;
 
 /// The states in which a worker sleeps are this one and those above.
@@ -32,6 +32,8 @@ const NONE_RESTS: u64 = 4_294_967_296;
 /// Whoever put something where it takes wakes it, at once where he has nothing more to do, and else after some steps, so that
 /// there is more to do for one sleep. So once all are at rest, each looked at its queue after whatever was last put there, and
 /// none has anything to do: then all are to stop.
+///
+/// A worker that waits for room at a ring says so to who takes there, and sleeps; it is woken once there is some.
 #[derive(Drop)]
 pub(crate) struct Told {
     workers: u32,
@@ -43,6 +45,8 @@ pub(crate) struct Told {
     stop: AtomicU64,
     /// Each worker's word, by the mark of the station where it takes.
     words: [CachePadded<AtomicU64>; MARKS],
+    /// For each mark of a station, the mark of the worker that waits for room there, and one more. 0 where none does.
+    rooms: [CachePadded<AtomicU64>; MARKS],
     /// The number of the last worker whose thread could not start, and one more.
     turned_away: AtomicU64,
 }
@@ -55,6 +59,7 @@ impl Told {
             listener: AtomicU64::new(0),
             stop: AtomicU64::new(0),
             words: from_fn(|_| CachePadded::new(AtomicU64::new(AWAKE as u64))),
+            rooms: from_fn(|_| CachePadded::new(AtomicU64::new(0))),
             turned_away: AtomicU64::new(0),
         }
     }
@@ -142,6 +147,42 @@ impl Told {
         if listener != 0 {
             self.wakes(((listener - 1) % MARKS as u64) as u32);
         }
+    }
+
+    /// The place for whoever waits for room at the station with this mark.
+    fn room(&self, mark: u32) -> &AtomicU64 {
+        &self.rooms[mark as usize % MARKS]
+    }
+
+    /// The worker with this mark waits for room at the stations with these marks.
+    pub(crate) fn asks_room(&self, stations: Marks, mark: u32) {
+        let mut left = stations;
+        for _ in 0..MARKS {
+            match left.pop() {
+                Some(station) => self.room(station).store(mark as u64 + 1, SeqCst),
+                None => break,
+            }
+        }
+    }
+
+    /// Whether somebody waits for room at the station with this mark.
+    pub(crate) fn is_room_asked(&self, station: u32) -> bool {
+        self.room(station).load(SeqCst) != 0
+    }
+
+    /// Wakes whoever waits for room at the station with this mark.
+    pub(crate) fn gives_room(&self, station: u32) {
+        if self.is_room_asked(station) {
+            let asked = self.room(station).swap(0, SeqCst);
+            if asked != 0 {
+                self.wakes(((asked - 1) % MARKS as u64) as u32);
+            }
+        }
+    }
+
+    /// The worker with this mark, which was about to sleep, waits for room, unless somebody woke it.
+    pub(crate) fn waits(&self, mark: u32) {
+        self.moves(mark, DROWSY, LISTENING);
     }
 
     /// Whether all workers but one are at rest.
