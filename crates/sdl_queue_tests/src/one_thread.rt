@@ -2,7 +2,7 @@
 ghost use Rattle.sdl_queue.specs.Ends.{IsSameFeed, IsSameTap};
 
 use super::ends::{item_of, open_two, rejoin_two};
-use sdl_queue::{Feed, Rest, SerialQueue, Tap, queue_open, rejoin};
+use sdl_queue::{Feed, Rest, SerialQueue, Tap, queue_open, rejoin, ring_open, ring_rejoin};
 use std::process::Abort;
 use std::sync::Wait;
 use std::test::Fail;
@@ -53,7 +53,7 @@ fn two_feeders_and_a_tap_on_one_thread(rt: HostRuntime) -> Result<(), Fail> {
 }
 
 #[test]
-fn a_rest_of_either_kind_has_a_length(rt: HostRuntime) -> Result<(), Fail> {
+fn a_rest_of_each_kind_has_a_length(rt: HostRuntime) -> Result<(), Fail> {
     let (feeds, mut first, second, tap) = open_two(&rt, rt.alloc())?;
     put_one(&rt, &mut first, 0, 0);
     let rest = Rest::Ruled(rejoin_two(&rt, feeds, first, second, tap)?);
@@ -61,6 +61,10 @@ fn a_rest_of_either_kind_has_a_length(rt: HostRuntime) -> Result<(), Fail> {
     let mut queue = SerialQueue::new(rt.alloc());
     assert!(rt; queue.put(item_of(0, 0)).is_ok());
     assert_eq!(rt; Rest::Serial(queue).len(), 1);
+    let (mut feed, tap) = ring_open(rt.alloc(), 1)?;
+    assert!(rt; feed.put(item_of(0, 0)).is_ok());
+    assert!(rt; feed.put(item_of(0, 1)).is_ok());
+    assert_eq!(rt; Rest::Ring(ring_rejoin(feed, tap)).len(), 2);
     Ok(())
 }
 
