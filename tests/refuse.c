@@ -1,15 +1,21 @@
-/* Loaded before the C library, it refuses the program's allocation of the number in REFUSE, counted from 1. */
+/* Loaded before the C library, it refuses the program's allocation of the number in REFUSE, counted from 1. It then makes the file
+   that REFUSE_MARK names, where there is one. */
 #define _GNU_SOURCE
 #include <dlfcn.h>
 #include <errno.h>
+#include <fcntl.h>
 #include <stdatomic.h>
 #include <stdlib.h>
+#include <unistd.h>
 
 static atomic_long made;
 
 static int is_refused(void) {
     const char *number = getenv("REFUSE");
-    return atomic_fetch_add(&made, 1) + 1 == (number ? atol(number) : 0);
+    if (atomic_fetch_add(&made, 1) + 1 != (number ? atol(number) : 0)) return 0;
+    const char *mark = getenv("REFUSE_MARK");
+    if (mark) close(creat(mark, 0600));
+    return 1;
 }
 
 void *malloc(size_t size) {
