@@ -6,7 +6,9 @@ ghost use Rattle.sdl_forward.specs.Boards.{stations_of};
 
 use super::bench::item_of;
 use sdl_forward::Board;
-use sdl_queue::{Feed, Rejoined, Rest, Tap, queue_open, rejoin};
+use sdl_queue::{
+    Feed, Rejoined, Rest, RingFeed, RingRejoined, Tap, queue_open, rejoin, ring_open, ring_rejoin,
+};
 use sdl_routes::{Hop, Station};
 use sdl_signal::{BlockId, ChannelId};
 use std::alloc::{AllocError, Global};
@@ -71,12 +73,35 @@ fn left_over<R: Wait>(
     rejoin_one(rt, feeds, feed, tap)
 }
 
+/// Puts so many items, numbered from 0 on, each once more where memory was refused.
+fn put_in_ring(rt: &impl Abort, feed: &mut RingFeed, count: u32)
+    ensures { feed.new.opening ≡ feed.old.opening }
+{
+    for number in 0..count {
+        if let Err((back, _)) = feed.put(item_of(0, number as u64)) {
+            let put = feed.put(back);
+            assert!(rt; put.is_ok());
+        }
+    }
+}
+
+/// A ring of 32 slots in which 40 items are left: the last eight are in its backlog.
+fn left_in_ring(rt: &impl Abort, alloc: Global) -> Result<RingRejoined, AllocError> {
+    let (mut feed, tap) = ring_open(alloc, 32)?;
+    put_in_ring(rt, &mut feed, 40);
+    Ok(ring_rejoin(feed, tap))
+}
+
 /// The queues of three stations: 40 items at the path, none at the inlet, two in the outlet.
-fn three_queues<R: Wait>(rt: &R, alloc: Global) -> Result<Vec<(Station, Rest)>, AllocError>
+fn three_queues<R: Wait>(
+    rt: &R,
+    alloc: Global,
+    path: Rest,
+) -> Result<Vec<(Station, Rest)>, AllocError>
     ensures { IfOk result (λ rests. EachOnce (stations_of rests.items)) }
 {
     let mut rests = Vec::with_capacity(alloc, 3)?;
-    rests.push((PATH, Rest::Ruled(left_over(rt, alloc, 0, 40)?)))?;
+    rests.push((PATH, path))?;
     rests.push((INLET, Rest::Ruled(left_over(rt, alloc, 40, 0)?)))?;
     rests.push((Station::Outlet, Rest::Ruled(left_over(rt, alloc, 40, 2)?)))?;
     Ok(rests)
@@ -128,20 +153,53 @@ fn is_empty(rt: &impl Abort, board: Board) {
     }
 }
 
+/// A queue at the path, and those of the other two stations.
+fn with_queue<R: Wait>(rt: &R, alloc: Global) -> Result<Vec<(Station, Rest)>, AllocError>
+    ensures { IfOk result (λ rests. EachOnce (stations_of rests.items)) }
+{
+    let queue = left_over(rt, alloc, 0, 40)?;
+    three_queues(rt, alloc, Rest::Ruled(queue))
+}
+
+/// A ring at the path, and the queues of the other two stations.
+fn with_ring<R: Wait + Abort>(rt: &R, alloc: Global) -> Result<Vec<(Station, Rest)>, AllocError>
+    ensures { IfOk result (λ rests. EachOnce (stations_of rests.items)) }
+{
+    let ring = left_in_ring(rt, alloc)?;
+    three_queues(rt, alloc, Rest::Ring(ring))
+}
+
+/// The board of these queues gives their items in order.
+fn gives_in_order<R: Wait + Abort>(rt: &R, rests: Vec<(Station, Rest)>) -> Result<(), Fail>
+    requires { EachOnce (stations_of rests.items) }
+{
+    let mut board = adopt(rt, rests)?;
+    assert!(rt; !board.has_no_mark());
+    take_all(rt, &mut board, PATH, 0, 40);
+    assert!(rt; board.has_no_mark());
+    take_all(rt, &mut board, INLET, 40, 40);
+    take_all(rt, &mut board, Station::Outlet, 40, 42);
+    take_all(rt, &mut board, Station::Inlet(BlockId(1)), 42, 42);
+    is_empty(rt, board);
+    Ok(())
+}
+
 // Run it with each allocation refused in turn, too.
 #[test]
 fn a_board_of_rejoined_queues_gives_their_items_in_order(rt: HostRuntime) -> Result<(), Fail> {
-    let rests = match three_queues(&rt, rt.alloc()) {
+    let rests = match with_queue(&rt, rt.alloc()) {
         Ok(rests) => rests,
-        Err(_) => three_queues(&rt, rt.alloc())?,
+        Err(_) => with_queue(&rt, rt.alloc())?,
     };
-    let mut board = adopt(&rt, rests)?;
-    assert!(rt; !board.has_no_mark());
-    take_all(&rt, &mut board, PATH, 0, 40);
-    assert!(rt; board.has_no_mark());
-    take_all(&rt, &mut board, INLET, 40, 40);
-    take_all(&rt, &mut board, Station::Outlet, 40, 42);
-    take_all(&rt, &mut board, Station::Inlet(BlockId(1)), 42, 42);
-    is_empty(&rt, board);
-    Ok(())
+    gives_in_order(&rt, rests)
+}
+
+// Run it with each allocation refused in turn, too.
+#[test]
+fn a_board_with_a_rejoined_ring_gives_its_items_in_order(rt: HostRuntime) -> Result<(), Fail> {
+    let rests = match with_ring(&rt, rt.alloc()) {
+        Ok(rests) => rests,
+        Err(_) => with_ring(&rt, rt.alloc())?,
+    };
+    gives_in_order(&rt, rests)
 }
