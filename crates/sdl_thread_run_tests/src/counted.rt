@@ -5,7 +5,7 @@ ghost use Rattle.sdl_transition.specs.Transitions.{IsAllowed, IsAllowedBehaviour
 ghost use Rattle.sdl_agents.specs.Tables.{LeadsToIdle, RelayMay, forwarded};
 ghost use Rattle.sdl_agents.specs.Offered.{KeepsTo, OffersOne};
 
-use crate::plan::{Left, run_behaviours};
+use crate::plan::{Left, Logs, run_behaviours};
 use arrayvec::ArrayVec;
 use sdl_agents::offers::{forward_offer, start_offer};
 use sdl_agents::relay::Relay;
@@ -103,13 +103,14 @@ fn behaviour_of(
     }
 }
 
-/// Makes the behaviours of A, C and B, and runs Relay on the input: in threads with this gate, or else in turns.
+/// Makes the behaviours of A, C and B, and runs Relay on the input: in threads with this gate, its logs kept so, or else in turns.
 pub fn run<T: Threads + Wait + Sync, G: Gate>(
     rt: &T,
     alloc: Global,
     calls: &Arc<AtomicU64, Global>,
     input: &[u8],
     gate: Option<&G>,
+    logs: Logs,
 ) -> Result<Left, Stop> {
     let shared = calls.clone()?;
     let start_a: Run = Box::new(alloc, |frame: &Frame| begin(frame))?;
@@ -128,5 +129,5 @@ pub fn run<T: Threads + Wait + Sync, G: Gate>(
     let c = behaviour_of(alloc, 1, &USES_OF_C, PUT, start_c, put_c)?;
     let b = behaviour_of(alloc, 2, &USES_OF_B, NUM, start_b, num_b)?;
     let behaviours = Vec::from_array(alloc, [a, c, b])?;
-    run_behaviours(rt, alloc, RELAY, behaviours, input, gate)
+    run_behaviours(rt, alloc, RELAY, behaviours, input, gate, logs)
 }

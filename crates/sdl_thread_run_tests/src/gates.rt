@@ -76,7 +76,8 @@ impl Gate for Holding {
     }
 }
 
-/// In Relay, the first step of the forwarder behind L waits until the environment was about to make 201 steps.
+/// In Relay, the first step of the forwarder of `sa`, which leads from the gate `left` to L, waits until the environment was about
+/// to make 201 steps.
 #[derive(Drop)]
 pub struct HeldPath {
     pub came: AtomicU64,

@@ -2,6 +2,8 @@
 #![tactic(auto)]
 
 #[cfg(test)]
+mod along;
+#[cfg(test)]
 mod counted;
 #[cfg(test)]
 mod gates;

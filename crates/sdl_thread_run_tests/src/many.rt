@@ -1,9 +1,9 @@
 //! Many runs of Relay in threads whose steps are held back at random, each against a run in turns.
 use crate::counted;
 use crate::gates::Jitter;
-use crate::plan::{Left, lines};
-use sdl_run::{Ledger, RunEnd};
-use sdl_signal::{InputEnd, Item, Origin, OutputEnd, Value};
+use crate::plan::{Left, Logs, lines};
+use sdl_run::{EnvOut, Ledger, RunEnd};
+use sdl_signal::{InputEnd, Item, Origin, OutputEnd, RouteId, Value};
 use sdl_test_systems::Stop;
 use std::alloc::Global;
 use std::ops::Range;
@@ -21,7 +21,7 @@ fn run<T: Threads + Wait + Sync>(
     gate: Option<&Jitter>,
 ) -> Result<Left, Stop> {
     let calls = Arc::new(alloc, AtomicU64::new(0))?;
-    counted::run(rt, alloc, &calls, input, gate)
+    counted::run(rt, alloc, &calls, input, gate, Logs::Stored)
 }
 
 /// All of so many came, by one route in the order in which B sent them, and the numbers of each side in the order of the lines.
@@ -41,6 +41,42 @@ fn are_in_order(rt: &impl Abort, received: &[Item], count: u32) {
     }
     let count = i64::from(count);
     assert_eq!(rt; next, [count, count + 1]);
+}
+
+/// The item of a line that was read, if it went out.
+fn item_in(out: &EnvOut) -> Option<&Item> {
+    match out {
+        EnvOut::Sent(item) => Some(item),
+        EnvOut::NoRoute(_, _) => None,
+    }
+}
+
+/// Each line went out, the even ones from `left` and the odd ones from `right`, numbered on.
+fn went_out(rt: &impl Abort, env_put: &[EnvOut], count: u32) {
+    let mut next: i64 = 0;
+    for (place, out) in env_put.iter().enumerate() {
+        let route = if next % 2 == 0 { 0 } else { 1 };
+        let origin = Origin {
+            worker: 2,
+            number: place as u64,
+        };
+        let sent = item_in(out).map(|item| (item.route, item.origin, number_of(item)));
+        assert_eq!(rt; sent, Some((RouteId(route), origin, next)));
+        next = next.wrapping_add(1);
+    }
+    assert_eq!(rt; next, i64::from(count));
+}
+
+/// Each route carried all that went out along it, in order, and nothing is left on the way. Half of it comes by way of A, and the
+/// other half by way of C.
+fn all_came(rt: &impl Abort, left: &Left, count: u32) {
+    let half = Some(count as usize / 2);
+    let wanted = [half, half, half, half, Some(count as usize)];
+    match &left.logs {
+        Some(logs) => assert_eq!(rt; logs.carried.as_slice(), wanted.as_slice()),
+        None => assert!(rt; false),
+    }
+    assert_eq!(rt; (left.held, left.resting), (0, 0));
 }
 
 /// The number that the signal carries, and -1 where it carries something else.
@@ -80,6 +116,18 @@ fn sum(counts: &[u64]) -> u64 {
     total
 }
 
+/// Each log is a run of its block and of no other, what A sent is not what came from C, and there are as many events as in turns.
+fn logs_look_like(rt: &impl Abort, left: &Left, serial: &Left) {
+    match (&left.logs, &serial.logs) {
+        (Some(logs), Some(others)) => {
+            assert_eq!(rt; (logs.runs, logs.runs_of_others), (2, 0));
+            assert_eq!(rt; logs.crossed, None);
+            assert_eq!(rt; logs.events, others.events);
+        }
+        _ => assert!(rt; false),
+    }
+}
+
 /// The run left what a run in turns leaves, in some order.
 fn looks_like(rt: &impl Abort, left: &Left, serial: &Left, count: u32) {
     assert_eq!(rt; left.end, RunEnd::Quiet);
@@ -88,8 +136,9 @@ fn looks_like(rt: &impl Abort, left: &Left, serial: &Left, count: u32) {
     balances(rt, &left.ledger);
     assert_eq!(rt; left.ledger, serial.ledger);
     assert_eq!(rt; left.written.len(), serial.written.len());
-    assert_eq!(rt; (left.runs, left.runs_of_others), (2, 0));
-    assert_eq!(rt; left.events, serial.events);
+    went_out(rt, left.env_put.as_slice(), count);
+    all_came(rt, left, count);
+    logs_look_like(rt, left, serial);
     are_in_order(rt, left.env_received.as_slice(), count);
 }
 

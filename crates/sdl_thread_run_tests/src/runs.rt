@@ -1,18 +1,21 @@
 //! Runs of Relay in threads where steps wait for one another.
 use crate::counted;
-use crate::gates::{HeldPath, Holding, Meeting};
-use crate::plan::lines;
+use crate::gates::{HeldPath, Holding, Jitter, Meeting};
+use crate::plan::{Left, Logs, lines};
 use sdl_run::{Ledger, RunEnd};
-use std::sync::Arc;
+use sdl_test_systems::Stop;
+use std::alloc::Global;
 use std::sync::atomic::AtomicU64;
 use std::sync::atomic::Ordering::SeqCst;
+use std::sync::{Arc, Wait};
 use std::test::Fail;
+use std::thread::Threads;
 
 #[test]
 fn two_blocks_make_their_first_step_at_once(rt: HostRuntime) -> Result<(), Fail> {
     let meeting = Meeting::new();
     let calls = Arc::new(rt.alloc(), AtomicU64::new(0))?;
-    let left = counted::run(&rt, rt.alloc(), &calls, &[], Some(&meeting))?;
+    let left = counted::run(&rt, rt.alloc(), &calls, &[], Some(&meeting), Logs::Stored)?;
     assert_eq!(rt; meeting.met.load(SeqCst), 2);
     assert_eq!(rt; left.end, RunEnd::Quiet);
     assert_eq!(rt; left.ledger, Ledger::default());
@@ -29,7 +32,14 @@ fn threads_carry_signals_and_make_turns(rt: HostRuntime) -> Result<(), Fail> {
         met: AtomicU64::new(0),
     };
     let input = lines(rt.alloc(), ["left put", "left put"], 1..51)?;
-    let left = counted::run(&rt, rt.alloc(), &calls, input.as_slice(), Some(&holding))?;
+    let left = counted::run(
+        &rt,
+        rt.alloc(),
+        &calls,
+        input.as_slice(),
+        Some(&holding),
+        Logs::Stored,
+    )?;
     assert_eq!(rt; holding.met.load(SeqCst), 2);
     let wanted = lines(rt.alloc(), ["sink out", "sink out"], 1..51)?;
     assert_eq!(rt; left.written.as_slice(), wanted.as_slice());
@@ -53,10 +63,56 @@ fn two_hundred_lines_come_in_their_order_behind_a_held_forwarder(
     let held = HeldPath::new();
     let calls = Arc::new(rt.alloc(), AtomicU64::new(0))?;
     let input = lines(rt.alloc(), ["left put", "left put"], 1..201)?;
-    let left = counted::run(&rt, rt.alloc(), &calls, input.as_slice(), Some(&held))?;
+    let left = counted::run(
+        &rt,
+        rt.alloc(),
+        &calls,
+        input.as_slice(),
+        Some(&held),
+        Logs::Stored,
+    )?;
     assert_eq!(rt; held.met.load(SeqCst), 1);
     let wanted = lines(rt.alloc(), ["sink out", "sink out"], 1..201)?;
     assert_eq!(rt; left.written.as_slice(), wanted.as_slice());
     assert_eq!(rt; left.end, RunEnd::Quiet);
+    Ok(())
+}
+
+/// A run in threads on lines to the left alone, some of its steps held back at random.
+fn run_keeping<T: Threads + Wait + Sync>(
+    rt: &T,
+    alloc: Global,
+    input: &[u8],
+    logs: Logs,
+) -> Result<Left, Stop> {
+    let calls = Arc::new(alloc, AtomicU64::new(0))?;
+    let jitter = Jitter::new(1);
+    counted::run(rt, alloc, &calls, input, Some(&jitter), logs)
+}
+
+#[test]
+fn a_run_that_counts_its_logs_leaves_what_one_that_stores_them_does(
+    rt: HostRuntime,
+) -> Result<(), Fail> {
+    let input = lines(rt.alloc(), ["left put", "left put"], 1..301)?;
+    let stored = run_keeping(&rt, rt.alloc(), input.as_slice(), Logs::Stored)?;
+    let counted = run_keeping(&rt, rt.alloc(), input.as_slice(), Logs::Counted)?;
+    assert!(rt; stored.logs.is_some());
+    assert!(rt; counted.logs.is_none());
+    let wanted = lines(rt.alloc(), ["sink out", "sink out"], 1..301)?;
+    let ledger = Ledger {
+        output: 900,
+        entered: 900,
+        fired: 600,
+        environment: 300,
+        ..Ledger::default()
+    };
+    for left in [&stored, &counted] {
+        assert_eq!(rt; left.written.as_slice(), wanted.as_slice());
+        assert_eq!(rt; left.ledger, ledger);
+        assert_eq!(rt; left.end, RunEnd::Quiet);
+        assert_eq!(rt; (left.env_put.len(), left.held, left.resting), (300, 0, 0));
+    }
+    assert!(rt; stored.env_received == counted.env_received);
     Ok(())
 }
