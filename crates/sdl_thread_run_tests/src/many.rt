@@ -167,25 +167,49 @@ fn relay_carries_a_hundred_lines_in_a_hundred_runs(rt: HostRuntime) -> Result<()
 }
 
 #[test]
-fn relay_carries_a_thousand_lines_in_250_runs(rt: HostRuntime) -> Result<(), Fail> {
-    run_often(&rt, rt.alloc(), 0..250, 1000)?;
+fn relay_carries_a_thousand_lines_in_the_runs_from_0(rt: HostRuntime) -> Result<(), Fail> {
+    run_often(&rt, rt.alloc(), 0..125, 1000)?;
     Ok(())
 }
 
 #[test]
-fn relay_carries_a_thousand_lines_in_250_more(rt: HostRuntime) -> Result<(), Fail> {
-    run_often(&rt, rt.alloc(), 250..500, 1000)?;
+fn relay_carries_a_thousand_lines_in_the_runs_from_125(rt: HostRuntime) -> Result<(), Fail> {
+    run_often(&rt, rt.alloc(), 125..250, 1000)?;
     Ok(())
 }
 
 #[test]
-fn relay_carries_a_thousand_lines_in_a_third_250(rt: HostRuntime) -> Result<(), Fail> {
-    run_often(&rt, rt.alloc(), 500..750, 1000)?;
+fn relay_carries_a_thousand_lines_in_the_runs_from_250(rt: HostRuntime) -> Result<(), Fail> {
+    run_often(&rt, rt.alloc(), 250..375, 1000)?;
     Ok(())
 }
 
 #[test]
-fn relay_carries_a_thousand_lines_in_the_last_250(rt: HostRuntime) -> Result<(), Fail> {
-    run_often(&rt, rt.alloc(), 750..1000, 1000)?;
+fn relay_carries_a_thousand_lines_in_the_runs_from_375(rt: HostRuntime) -> Result<(), Fail> {
+    run_often(&rt, rt.alloc(), 375..500, 1000)?;
+    Ok(())
+}
+
+#[test]
+fn relay_carries_a_thousand_lines_in_the_runs_from_500(rt: HostRuntime) -> Result<(), Fail> {
+    run_often(&rt, rt.alloc(), 500..625, 1000)?;
+    Ok(())
+}
+
+#[test]
+fn relay_carries_a_thousand_lines_in_the_runs_from_625(rt: HostRuntime) -> Result<(), Fail> {
+    run_often(&rt, rt.alloc(), 625..750, 1000)?;
+    Ok(())
+}
+
+#[test]
+fn relay_carries_a_thousand_lines_in_the_runs_from_750(rt: HostRuntime) -> Result<(), Fail> {
+    run_often(&rt, rt.alloc(), 750..875, 1000)?;
+    Ok(())
+}
+
+#[test]
+fn relay_carries_a_thousand_lines_in_the_runs_from_875(rt: HostRuntime) -> Result<(), Fail> {
+    run_often(&rt, rt.alloc(), 875..1000, 1000)?;
     Ok(())
 }
