@@ -6,12 +6,12 @@ pub mod environment;
 mod laws;
 mod leaving;
 mod outputs;
-mod parts;
 mod routed;
+mod worker_parts;
 mod writing;
 
 pub use apart::EnvApart;
 pub use environment::EnvWorker;
 pub use laws::{goes_on, new_environments_are_putting_out, stops_reading};
-pub use parts::EnvParts;
 pub use routed::RoutedStructure;
+pub use worker_parts::EnvParts;
