@@ -1,4 +1,4 @@
-//! Echo as a graph, and an Echo whose row does not offer its output.
+//! Echo as a graph, and in it an Echo whose row does not offer its output.
 ghost use Rattle.sdl_graph_program.specs.Running.{CanRun};
 
 use sdl_graph_program::{
@@ -16,60 +16,53 @@ const PONG: SignalId = SignalId(1);
 
 const IDLE: StateId = StateId(0);
 
-fn echo_offer(number: u32) -> OfferBuilder {
-    let start = OfferBuilder::start(1, &[]);
-    if number == 0 {
-        start
-    } else {
-        start.row(IDLE, PING, &[Sort::Integer])
-    }
+fn start_offer() -> Offer {
+    OfferBuilder::start(1, &[]).next_state(IDLE).build()
 }
 
-fn echo_step(number: u32, frame: &Frame) -> Step {
-    match number {
-        0 => StepBuilder::next_state(frame, IDLE).build(),
-        1 => {
-            let given = Value::Integer(integer_parameter(frame, 0).unwrap_or(0));
-            StepBuilder::next_state(frame, IDLE)
-                .output(PONG, &[given], Dest::Anywhere, Via::Any)
-                .build()
-        }
-        _ => no_step(),
-    }
+fn ping_offer() -> OfferBuilder {
+    OfferBuilder::start(1, &[]).row(IDLE, PING, &[Sort::Integer])
 }
 
+fn start_step(frame: &Frame) -> Step {
+    StepBuilder::next_state(frame, IDLE).build()
+}
+
+fn ping_step(frame: &Frame) -> Step {
+    let given = Value::Integer(integer_parameter(frame, 0).unwrap_or(0));
+    StepBuilder::next_state(frame, IDLE)
+        .output(PONG, &[given], Dest::Anywhere, Via::Any)
+        .build()
+}
+
+/// The number of the start of Echo.
+pub const SOUND: u32 = 0;
+
+/// The number of the start of an Echo whose row does not offer the output that it makes.
+pub const MUTE: u32 = 2;
+
+/// Both, each a start and a row.
 pub struct Echo;
 
 impl Graph for Echo {
     fn offer(number: u32) -> Offer {
         match number {
-            0 => echo_offer(0).next_state(IDLE).build(),
-            1 => echo_offer(1)
+            0 | 2 => start_offer(),
+            1 => ping_offer()
                 .output(PONG, &[Sort::Integer], Via::Any)
                 .next_state(IDLE)
                 .build(),
+            3 => ping_offer().next_state(IDLE).build(),
             _ => no_offer(),
         }
     }
 
     fn step(number: u32, frame: &Frame) -> Step {
-        echo_step(number, frame)
-    }
-}
-
-/// Its row does not offer the output that it makes.
-pub struct Mute;
-
-impl Graph for Mute {
-    fn offer(number: u32) -> Offer {
         match number {
-            0 | 1 => echo_offer(number).next_state(IDLE).build(),
-            _ => no_offer(),
+            0 | 2 => start_step(frame),
+            1 | 3 => ping_step(frame),
+            _ => no_step(),
         }
-    }
-
-    fn step(number: u32, frame: &Frame) -> Step {
-        echo_step(number, frame)
     }
 }
 
@@ -97,18 +90,20 @@ pub struct Ran {
     pub errors: Vec<u8>,
 }
 
-/// Runs Echo by the design.
+/// Runs by the design the Echo whose start has this number.
 pub fn run_echo<T: Threads + Wait + Sync>(
     rt: &T,
     alloc: Global,
     prepared: Prepared,
     design: &Design,
+    start: u32,
     lines: &[u8],
 ) -> Result<Ran, GraphFault>
     requires { CanRun prepared.checked prepared.routes }
 {
     let mut stored: Stored<Echo> = Stored::new(alloc)?;
-    for number in 0..2 {
+    for place in 0..2 {
+        let number = start.saturating_add(place);
         let offer = ending_offer::<Echo>(number)?;
         let own = copied_offer(&offer);
         let marks = stored.marks()?;
@@ -125,45 +120,6 @@ pub fn run_echo<T: Threads + Wait + Sync>(
         rt,
         prepared,
         design,
-        stored,
-        &mut input,
-        &mut output,
-        &mut errors,
-    );
-    Ok(Ran {
-        status,
-        output,
-        errors,
-    })
-}
-
-/// Runs the Echo with a broken offer.
-pub fn run_mute<T: Threads + Wait + Sync>(
-    rt: &T,
-    alloc: Global,
-    prepared: Prepared,
-    lines: &[u8],
-) -> Result<Ran, GraphFault>
-    requires { CanRun prepared.checked prepared.routes }
-{
-    let mut stored: Stored<Mute> = Stored::new(alloc)?;
-    for number in 0..2 {
-        let offer = ending_offer::<Mute>(number)?;
-        let own = copied_offer(&offer);
-        let marks = stored.marks()?;
-        let run: Run = Box::new(
-            alloc,
-            move |frame: &Frame| marked_answer::<Mute>(number, &own, frame, &marks),
-        )?;
-        stored.keep(number, offer, run)?;
-    }
-    let mut input = lines;
-    let mut output = Vec::new(alloc);
-    let mut errors = Vec::new(alloc);
-    let status = run_prepared(
-        rt,
-        prepared,
-        &DESIGN,
         stored,
         &mut input,
         &mut output,

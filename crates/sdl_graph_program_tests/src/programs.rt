@@ -2,7 +2,7 @@
 ghost use Rattle.std.specs.Prelude.{IfOk};
 ghost use Rattle.sdl_graph_program.specs.Running.{CanRun};
 
-use super::echo::{DESIGN, SET, run_echo, run_mute};
+use super::echo::{DESIGN, MUTE, SET, SOUND, run_echo};
 use sdl_examples::ECHO;
 use sdl_graph_program::sdl_file_commands::sdl_command::arguments::{Command, Options};
 use sdl_graph_program::{BROKEN, Design, Prepared, SetDesign, prepare_file};
@@ -85,7 +85,7 @@ fn a_graph_runs(rt: HostRuntime) -> Result<(), Fail> {
     let (prepared, _, _) = prepare_echo(rt.alloc(), options_of(Command::Run, true));
     match prepared {
         Ok(prepared) => {
-            let ran = run_echo(&rt, rt.alloc(), prepared, &DESIGN, PINGS)?;
+            let ran = run_echo(&rt, rt.alloc(), prepared, &DESIGN, SOUND, PINGS)?;
             assert_eq!(rt; ran.status, 0);
             assert_eq!(rt; ran.output.as_slice(), BOOKS);
             assert!(rt; ran.errors.is_empty());
@@ -101,11 +101,11 @@ fn a_broken_offer_gives_status_4(rt: HostRuntime) -> Result<(), Fail> {
     let (prepared, _, _) = prepare_echo(rt.alloc(), options_of(Command::Run, false));
     match prepared {
         Ok(prepared) => {
-            let ran = run_mute(&rt, rt.alloc(), prepared, PINGS)?;
+            let ran = run_echo(&rt, rt.alloc(), prepared, &DESIGN, MUTE, PINGS)?;
             assert_eq!(rt; ran.status, BROKEN);
             assert_eq!(rt; ran.status, 4);
             assert!(rt; ran.output.is_empty());
-            let line = b"broken offer transition 1 answers 2\n".as_slice();
+            let line = b"broken offer transition 3 answers 2\n".as_slice();
             assert_eq!(rt; ran.errors.as_slice(), line);
         }
         Err(_) => assert!(rt; false),
@@ -119,10 +119,17 @@ fn a_broken_offer_stands_above_a_fault(rt: HostRuntime) -> Result<(), Fail> {
     let (prepared, _, _) = prepare_echo(rt.alloc(), options_of(Command::Run, false));
     match prepared {
         Ok(prepared) => {
-            let ran = run_mute(&rt, rt.alloc(), prepared, b"line ping 7\nline\n")?;
+            let ran = run_echo(
+                &rt,
+                rt.alloc(),
+                prepared,
+                &DESIGN,
+                MUTE,
+                b"line ping 7\nline\n",
+            )?;
             assert_eq!(rt; ran.status, 4);
             let lines =
-                b"input line 2: L3 Missing\nbroken offer transition 1 answers 1\n".as_slice();
+                b"input line 2: L3 Missing\nbroken offer transition 3 answers 1\n".as_slice();
             assert_eq!(rt; ran.errors.as_slice(), lines);
         }
         Err(_) => assert!(rt; false),
@@ -140,7 +147,7 @@ fn a_design_that_does_not_fit_is_refused(rt: HostRuntime) -> Result<(), Fail> {
     let (prepared, _, _) = prepare_echo(rt.alloc(), options_of(Command::Run, false));
     match prepared {
         Ok(prepared) => {
-            let ran = run_echo(&rt, rt.alloc(), prepared, &design, PINGS)?;
+            let ran = run_echo(&rt, rt.alloc(), prepared, &design, SOUND, PINGS)?;
             assert_eq!(rt; ran.status, 1);
             assert!(rt; ran.output.is_empty());
             assert_eq!(rt; ran.errors.as_slice(), b"G4 NoSet F\n".as_slice());

@@ -1,7 +1,7 @@
 //! Whole runs of the wheel, and what they leave.
 ghost use Rattle.sdl_graph_run.specs.sdl_graph_binding.sdl_transition.Bound.{IsBound};
 
-use super::wheel::{BROKEN, DESIGN, Faulty, TRANSITIONS, WHEEL, Wheel};
+use super::wheel::{BROKEN, DESIGN, FAULTY, SOUND, TRANSITIONS, WHEEL, Wheel};
 use sdl_graph_run::run_graph;
 use sdl_graph_run::sdl_graph_binding::sdl_behaviour::{Frame, Run};
 use sdl_graph_run::sdl_graph_binding::sdl_conformance::copied_offer;
@@ -29,9 +29,9 @@ struct Ran {
 }
 
 /// Runs agents that are bound, with logs of this kind.
-fn run_bound<G, K: Keeps>(
+fn run_bound<K: Keeps>(
     alloc: Global,
-    bound: Bound<GraphAgents<G>>,
+    bound: Bound<GraphAgents<Wheel>>,
     marks: &Marks,
     lines: &[u8],
 ) -> Result<Ran, GraphFault>
@@ -39,7 +39,7 @@ fn run_bound<G, K: Keeps>(
 {
     let mut input = lines;
     let mut output: Vec<u8> = Vec::new(alloc);
-    match run_graph::<G, K, &[u8], Vec<u8>>(
+    match run_graph::<Wheel, K, &[u8], Vec<u8>>(
         alloc,
         bound,
         marks,
@@ -67,13 +67,14 @@ fn run_bound<G, K: Keeps>(
     }
 }
 
-/// Stores the wheel's transitions and runs it.
-fn run_wheel<K: Keeps>(alloc: Global, lines: &[u8]) -> Result<Ran, GraphFault> {
+/// Stores the transitions of the wheel whose start has this number, and runs it.
+fn run_wheel<K: Keeps>(alloc: Global, start: u32, lines: &[u8]) -> Result<Ran, GraphFault> {
     let Ok((checked, routes)) = routes_of(alloc, WHEEL) else {
         return Err(GraphFault::Memory);
     };
     let mut stored: Stored<Wheel> = Stored::new(alloc)?;
-    for number in 0..TRANSITIONS {
+    for place in 0..TRANSITIONS {
+        let number = start.saturating_add(place);
         let offer = ending_offer::<Wheel>(number)?;
         let own = copied_offer(&offer);
         let marks = stored.marks()?;
@@ -85,28 +86,7 @@ fn run_wheel<K: Keeps>(alloc: Global, lines: &[u8]) -> Result<Ran, GraphFault> {
     }
     let (transitions, marks) = stored.into_parts();
     let bound = bind_graph(alloc, checked, routes, &DESIGN, transitions)?;
-    run_bound::<Wheel, K>(alloc, bound, &marks, lines)
-}
-
-/// The same of the wheel with a broken offer.
-fn run_faulty<K: Keeps>(alloc: Global, lines: &[u8]) -> Result<Ran, GraphFault> {
-    let Ok((checked, routes)) = routes_of(alloc, WHEEL) else {
-        return Err(GraphFault::Memory);
-    };
-    let mut stored: Stored<Faulty> = Stored::new(alloc)?;
-    for number in 0..TRANSITIONS {
-        let offer = ending_offer::<Faulty>(number)?;
-        let own = copied_offer(&offer);
-        let marks = stored.marks()?;
-        let run: Run = Box::new(
-            alloc,
-            move |frame: &Frame| marked_answer::<Faulty>(number, &own, frame, &marks),
-        )?;
-        stored.keep(number, offer, run)?;
-    }
-    let (transitions, marks) = stored.into_parts();
-    let bound = bind_graph(alloc, checked, routes, &DESIGN, transitions)?;
-    run_bound::<Faulty, K>(alloc, bound, &marks, lines)
+    run_bound::<K>(alloc, bound, &marks, lines)
 }
 
 /// Once round, one position on, two back, and then a halt that is no row there.
@@ -127,10 +107,10 @@ fn assert_round(rt: &impl Abort, ran: &Ran) {
 /// Whether the log is stored or not, each of the 16 states is passed.
 #[test]
 fn a_wheel_turns(rt: HostRuntime) -> Result<(), Fail> {
-    let kept = run_wheel::<Vec<Event>>(rt.alloc(), ROUND)?;
+    let kept = run_wheel::<Vec<Event>>(rt.alloc(), SOUND, ROUND)?;
     assert_round(&rt, &kept);
     assert!(rt; kept.stored > 26);
-    let counted = run_wheel::<Unstored>(rt.alloc(), ROUND)?;
+    let counted = run_wheel::<Unstored>(rt.alloc(), SOUND, ROUND)?;
     assert_round(&rt, &counted);
     assert_eq!(rt; counted.stored, 0);
     Ok(())
@@ -138,7 +118,11 @@ fn a_wheel_turns(rt: HostRuntime) -> Result<(), Fail> {
 
 #[test]
 fn a_wheel_halts(rt: HostRuntime) -> Result<(), Fail> {
-    let ran = run_wheel::<Unstored>(rt.alloc(), b"g turn\ng back\ng look\ng halt\ng look\n")?;
+    let ran = run_wheel::<Unstored>(
+        rt.alloc(),
+        SOUND,
+        b"g turn\ng back\ng look\ng halt\ng look\n",
+    )?;
     assert_eq!(rt; ran.output.as_slice(), b"g at 0 2\n".as_slice());
     assert_eq!(rt; ran.fired, (4, 0));
     Ok(())
@@ -161,7 +145,7 @@ fn assert_marked(rt: &impl Abort, ran: &Ran) {
 
 #[test]
 fn a_broken_offer_is_marked_in_the_closing(rt: HostRuntime) -> Result<(), Fail> {
-    assert_marked(&rt, &run_faulty::<Vec<Event>>(rt.alloc(), LOOKS)?);
-    assert_marked(&rt, &run_faulty::<Unstored>(rt.alloc(), LOOKS)?);
+    assert_marked(&rt, &run_wheel::<Vec<Event>>(rt.alloc(), FAULTY, LOOKS)?);
+    assert_marked(&rt, &run_wheel::<Unstored>(rt.alloc(), FAULTY, LOOKS)?);
     Ok(())
 }

@@ -158,25 +158,19 @@ fn wheel_step(number: u32, frame: &Frame) -> Step {
     }
 }
 
+/// The number of the start of the wheel.
+pub const SOUND: u32 = 0;
+
+/// The number of the start of a wheel in which a look in position 2 does not offer its output.
+pub const FAULTY: u32 = TRANSITIONS;
+
+/// The number of the transition whose offer is broken.
+pub const BROKEN: u32 = FAULTY + 9;
+
+/// Both wheels.
 pub struct Wheel;
 
 impl Graph for Wheel {
-    fn offer(number: u32) -> Offer {
-        wheel_offer(number)
-    }
-
-    fn step(number: u32, frame: &Frame) -> Step {
-        wheel_step(number, frame)
-    }
-}
-
-/// The number of the transition whose offer is broken: a look in position 2.
-pub const BROKEN: u32 = 9;
-
-/// A wheel in which a look in position 2 does not offer its output.
-pub struct Faulty;
-
-impl Graph for Faulty {
     fn offer(number: u32) -> Offer {
         if number == BROKEN {
             OfferBuilder::start(1, &[Sort::Integer])
@@ -184,12 +178,12 @@ impl Graph for Faulty {
                 .next_state(StateId(2))
                 .build()
         } else {
-            wheel_offer(number)
+            wheel_offer(number % TRANSITIONS)
         }
     }
 
     fn step(number: u32, frame: &Frame) -> Step {
-        wheel_step(number, frame)
+        wheel_step(number % TRANSITIONS, frame)
     }
 }
 

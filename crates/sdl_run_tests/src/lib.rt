@@ -1,10 +1,12 @@
-//! Whole runs of Ring, and of Echo where a schedule chooses or many signals wait.
+//! Whole runs of Ring, and of Echo where a schedule chooses or many signals wait; and the environment of Echo at work through ends of its own.
 #![tactic(auto)]
 
 #[cfg(test)]
 mod choices;
 #[cfg(test)]
 mod echo;
+#[cfg(test)]
+mod environment_step;
 #[cfg(test)]
 mod left;
 #[cfg(test)]

@@ -5,7 +5,8 @@ ghost use Rattle.sdl_transition.specs.Transitions.{IsAllowed, IsAllowedBehaviour
 ghost use Rattle.sdl_agents.specs.Tables.{LeadsToIdle, RelayMay, forwarded};
 ghost use Rattle.sdl_agents.specs.Offered.{KeepsTo, OffersOne};
 
-use crate::plan::{Left, Logs, run_behaviours};
+use crate::left::Left;
+use crate::plan::{Logs, run_behaviours};
 use arrayvec::ArrayVec;
 use sdl_agents::offers::{forward_offer, start_offer};
 use sdl_agents::relay::Relay;

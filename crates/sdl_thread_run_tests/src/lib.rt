@@ -8,6 +8,8 @@ mod counted;
 #[cfg(test)]
 mod gates;
 #[cfg(test)]
+mod left;
+#[cfg(test)]
 mod logs;
 #[cfg(test)]
 mod many;

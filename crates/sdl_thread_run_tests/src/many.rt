@@ -1,7 +1,8 @@
 //! Many runs of Relay in threads whose steps are held back at random, each against a run in turns.
 use crate::counted;
 use crate::gates::Jitter;
-use crate::plan::{Left, Logs, lines};
+use crate::left::Left;
+use crate::plan::{Logs, lines};
 use sdl_run::{EnvOut, Ledger, RunEnd};
 use sdl_signal::{InputEnd, Item, Origin, OutputEnd, RouteId, Value};
 use sdl_test_systems::Stop;

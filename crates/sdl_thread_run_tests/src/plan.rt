@@ -1,21 +1,14 @@
-//! Runs of a system in threads or in turns, and what each left.
+//! Runs of a system in threads or in turns.
 ghost use Rattle.std.specs.List.{AllByRecursion};
 ghost use Rattle.sdl_transition.specs.Bound.{IsBound};
 ghost use Rattle.sdl_transition.specs.Transitions.{IsAllowedBehaviour};
 
-use crate::along::{FROM_A, FROM_C, ROUTES, Traffic, carried};
-use crate::logs::is_run;
-use sdl_run::sdl_driver::sdl_hand::Hand;
-use sdl_run::sdl_driver::sdl_queue::Rest;
-use sdl_run::sdl_log::{Keeps, Unstored};
-use sdl_run::sdl_routes::Station;
-use sdl_run::{
-    Closing, EnvOut, Gate, Ledger, RunEnd, StartFault, run_serial, run_threads, run_threads_keeping,
-};
-use sdl_signal::{InputEnd, Item, OutputEnd};
+use crate::left::{Left, left_by, left_with_logs};
+use sdl_run::sdl_log::Unstored;
+use sdl_run::{Closing, Gate, StartFault, run_serial, run_threads, run_threads_keeping};
 use sdl_test_systems::{Stop, bind_to};
 use sdl_transition::{Agents, Behaviour, Bound};
-use std::alloc::{AllocError, Global};
+use std::alloc::Global;
 use std::io::Write;
 use std::ops::Range;
 use std::sync::Wait;
@@ -29,36 +22,6 @@ const BUDGET: u32 = 100_000;
 pub enum Logs {
     Stored,
     Counted,
-}
-
-/// What the checkers say of the logs.
-#[derive(Drop)]
-pub struct Said {
-    /// How many events the logs have, how many logs are a run of their block, and how many one of the block behind it.
-    pub events: usize,
-    pub runs: usize,
-    pub runs_of_others: usize,
-    /// For each route, how many items were output along it, where just these came at its end, in that order.
-    pub carried: Vec<Option<usize>>,
-    /// The same of what A output to B and of what came to B from C, which are others wherever there are any.
-    pub crossed: Option<usize>,
-}
-
-/// What a run left that these tests look at, and what it wrote.
-#[derive(Drop)]
-pub struct Left {
-    pub env_put: Vec<EnvOut>,
-    pub env_received: Vec<Item>,
-    pub ledger: Ledger,
-    pub end: RunEnd,
-    pub input: InputEnd,
-    pub output: OutputEnd,
-    pub written: Vec<u8>,
-    /// How many items the workers still hold, and how many lie at the stations.
-    pub held: usize,
-    pub resting: usize,
-    /// What is said of the logs, where they are stored.
-    pub logs: Option<Said>,
 }
 
 /// A line for each of these numbers: an even one behind the first head, an odd one behind the second.
@@ -153,107 +116,5 @@ fn run_in_turns<S: Agents + Drop>(
     match run_serial(alloc, bound, BUDGET, &[], &mut input, &mut written) {
         Ok(closing) => left_with_logs(alloc, closing, written),
         Err(StartFault::Memory(_)) => Err(Stop::Memory),
-    }
-}
-
-/// What is left, and what is said of the logs.
-fn left_with_logs<S: Agents + Drop>(
-    alloc: Global,
-    closing: Closing<S>,
-    written: Vec<u8>,
-) -> Result<Left, Stop> {
-    let traffic = Traffic {
-        env_put: closing.env_put.as_slice(),
-        env_received: closing.env_received.as_slice(),
-        logs: closing.logs.as_slice(),
-    };
-    let logs = look_at(alloc, traffic)?;
-    Ok(left_by(closing, written, Some(logs)))
-}
-
-/// What the checkers say.
-fn look_at(alloc: Global, traffic: Traffic<'_>) -> Result<Said, AllocError> {
-    let crossed = carried(alloc, traffic, FROM_A, FROM_C)?;
-    let carried = carried_along(alloc, traffic)?;
-    let mut said = Said {
-        events: 0,
-        runs: 0,
-        runs_of_others: 0,
-        carried,
-        crossed,
-    };
-    let mut block: u32 = 0;
-    for log in traffic.logs {
-        said.events = said.events.saturating_add(log.len());
-        if is_run(alloc, block, log.as_slice())? {
-            said.runs = said.runs.saturating_add(1);
-        }
-        if is_run(alloc, block.wrapping_add(1), log.as_slice())? {
-            said.runs_of_others = said.runs_of_others.saturating_add(1);
-        }
-        block = block.wrapping_add(1);
-    }
-    Ok(said)
-}
-
-/// What each route carried.
-fn carried_along(alloc: Global, traffic: Traffic<'_>) -> Result<Vec<Option<usize>>, AllocError> {
-    let mut all = Vec::new(alloc);
-    for route in 0..ROUTES {
-        all.push(carried(alloc, traffic, route, route)?)?;
-    }
-    Ok(all)
-}
-
-/// How many items the workers hold.
-fn held_in(hands: &[Hand]) -> usize {
-    let mut held: usize = 0;
-    for hand in hands {
-        let kept = if hand.kept.is_some() { 1 } else { 0 };
-        held = held
-            .saturating_add(hand.outgoing.len())
-            .saturating_add(kept);
-    }
-    held
-}
-
-/// How many items lie at the stations.
-fn resting_in(rests: &[(Station, Rest)]) -> usize {
-    let mut resting: usize = 0;
-    for (_, rest) in rests {
-        resting = resting.saturating_add(rest.len());
-    }
-    resting
-}
-
-/// What is left, without the system and its logs.
-fn left_by<S: Agents + Drop, K: Keeps>(
-    closing: Closing<S, K>,
-    written: Vec<u8>,
-    logs: Option<Said>,
-) -> Left {
-    let Closing {
-        bound: _,
-        logs: _,
-        env_put,
-        env_received,
-        hands,
-        rests,
-        ledger,
-        end,
-        input,
-        output,
-    } = closing;
-    Left {
-        env_put,
-        env_received,
-        ledger,
-        end,
-        input,
-        output,
-        written,
-        held: held_in(hands.as_slice()),
-        resting: resting_in(rests.as_slice()),
-        logs,
     }
 }

@@ -1,7 +1,8 @@
 //! Runs of Relay in threads where steps wait for one another.
 use crate::counted;
 use crate::gates::{HeldPath, Holding, Jitter, Meeting};
-use crate::plan::{Left, Logs, lines};
+use crate::left::Left;
+use crate::plan::{Logs, lines};
 use sdl_run::{Ledger, RunEnd};
 use sdl_test_systems::Stop;
 use std::alloc::Global;

@@ -1,7 +1,7 @@
 use Rattle.std.proofs.Common.{◌≡◌, ◌<◌, List, Some, length, slice_get, refl, subst, arith}
 use Rattle.std.proofs.lemmas.Option.{slice_get_read}
 use Rattle.sdl_opening.specs.declared.worker.Worker.{Worker}
-use Rattle.sdl_environment_tests.proofs.steps.take_ends.Goals as goal
+use Rattle.sdl_run_tests.proofs.environment_step.take_ends.Goals as goal
 
 pub returns : goal.returns
 returns c =

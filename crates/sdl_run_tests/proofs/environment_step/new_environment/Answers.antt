@@ -1,6 +1,6 @@
 use Rattle.std.proofs.Common.{None, sym, subst}
 use Rattle.sdl_environment.specs.EnvApart.{IsEnvPuttingOut}
-use Rattle.sdl_environment_tests.proofs.steps.new_environment.Goals as goal
+use Rattle.sdl_run_tests.proofs.environment_step.new_environment.Goals as goal
 
 pub returns : goal.returns
 returns c =

@@ -6,7 +6,7 @@ use Rattle.sdl_opening.specs.declared.worker.Worker.TheVariants.{Environment}
 use Rattle.sdl_opening.specs.Workers.{workers_in}
 use Rattle.sdl_ways.proofs.Serving.{fresh, gate_ways}
 use Rattle.sdl_ways.proofs.Standing.{own_ends}
-use Rattle.sdl_environment_tests.proofs.steps.ends_of_environment.Goals as goal
+use Rattle.sdl_run_tests.proofs.environment_step.ends_of_environment.Goals as goal
 
 pub returns-clause-fresh : goal.returns-clause-fresh
 returns-clause-fresh g c =
