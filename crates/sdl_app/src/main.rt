@@ -2,18 +2,14 @@
 #![tactic(auto)]
 
 use sdl_program::program;
-use sdl_program::streams::{Input, Output};
-use std::cell::RefCell;
-use std::io::BufWriter;
+use sdl_program::streams::{Input, Output, shared_buffer};
 use std::process::ExitCode;
 
 fn main(rt: HostRuntime) -> ExitCode {
     let mut errors = rt.stderr();
-    let Ok(output) = BufWriter::new(rt.alloc(), rt.stdout()) else {
-        program::without_memory(&mut errors);
+    let Some(buffer) = shared_buffer(rt.alloc(), rt.stdout(), &mut errors) else {
         return ExitCode::from(program::REFUSED);
     };
-    let buffer = RefCell::new(output);
     let mut input = Input {
         reader: rt.stdin(),
         buffer: &buffer,

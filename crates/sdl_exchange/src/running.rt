@@ -6,7 +6,6 @@ use sdl_graph_program::{
     Frame, Graph, GraphFault, Prepared, Run, Stored, copied_offer, ending_offer, marked_answer,
     refused, run_prepared,
 };
-use std::alloc::Global;
 use std::io::{Read, Write};
 use std::sync::Wait;
 use std::thread::Threads;
@@ -14,7 +13,6 @@ use std::thread::Threads;
 /// Runs the exchange in the structure that is prepared, and answers the exit status.
 pub fn run<T: Threads + Wait + Sync, R: Read, W: Write, E: Write>(
     rt: &T,
-    alloc: Global,
     prepared: Prepared,
     input: &mut R,
     output: &mut W,
@@ -22,7 +20,7 @@ pub fn run<T: Threads + Wait + Sync, R: Read, W: Write, E: Write>(
 ) -> u8
     requires { CanRun prepared.checked prepared.routes }
 {
-    match run_stored(rt, alloc, prepared, input, output, &mut *errors) {
+    match run_stored(rt, prepared, input, output, &mut *errors) {
         Ok(status) => status,
         Err(fault) => refused(errors, &DESIGN, fault),
     }
@@ -31,7 +29,6 @@ pub fn run<T: Threads + Wait + Sync, R: Read, W: Write, E: Write>(
 /// Stores all transitions, and runs them.
 fn run_stored<T: Threads + Wait + Sync, R: Read, W: Write, E: Write>(
     rt: &T,
-    alloc: Global,
     prepared: Prepared,
     input: &mut R,
     output: &mut W,
@@ -39,6 +36,7 @@ fn run_stored<T: Threads + Wait + Sync, R: Read, W: Write, E: Write>(
 ) -> Result<u8, GraphFault>
     requires { CanRun prepared.checked prepared.routes }
 {
+    let alloc = prepared.alloc;
     let mut stored: Stored<Exchange> = Stored::new(alloc)?;
     for number in 0..TRANSITIONS {
         let offer = ending_offer::<Exchange>(number)?;

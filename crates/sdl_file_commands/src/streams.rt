@@ -1,9 +1,31 @@
 //! Standard input and output: what the output holds is written out before the input is waited for.
+ghost use Rattle.std.specs.Prelude.{◌≡◌, IfSome};
+
+use sdl_command::errors::without_memory;
+use std::alloc::Global;
 use std::cell::RefCell;
 use std::io::{BufWriter, ErrorKind, Read, Result, Write};
 
 /// A writer's buffer, which a reader and a writer share.
 pub type Shared<W> = RefCell<BufWriter<W>>;
+
+/// A buffer in front of the writer, for a reader and a writer to share. Where it finds no memory, a line of standard error says
+/// so.
+pub fn shared_buffer<W: Write + Drop, E: Write>(
+    alloc: Global,
+    writer: W,
+    errors: &mut E,
+) -> Option<Shared<W>>
+    ensures silent { IfSome result (λ buffer. errors.new ≡ errors.old) }
+{
+    match BufWriter::new(alloc, writer) {
+        Ok(buffer) => Some(RefCell::new(buffer)),
+        Err(_) => {
+            without_memory(errors);
+            None
+        }
+    }
+}
 
 /// A reader that writes out what the buffer holds before it reads on.
 #[derive(Drop)]

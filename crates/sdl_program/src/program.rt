@@ -8,8 +8,7 @@ ghost use Rattle.sdl_program.specs.Commands.{Answers, HasRunBuiltIn, IsAnswered,
 use crate::systems::run_file;
 use sdl_file_commands::files::{FileRead, read_file};
 use sdl_file_commands::sdl_command::arguments::{Arguments, Command, Options, read_arguments};
-pub use sdl_file_commands::sdl_command::errors::without_memory;
-use sdl_file_commands::sdl_command::errors::write_error;
+use sdl_file_commands::sdl_command::errors::{without_memory, write_error};
 pub use sdl_file_commands::sdl_command::pipe::pipe_command;
 pub use sdl_file_commands::sdl_command::status::{FAULTY, REFUSED, WHOLE, WRONG_ARGUMENTS};
 use sdl_file_commands::sdl_structure::FileFault;

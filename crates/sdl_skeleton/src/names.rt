@@ -10,6 +10,7 @@ pub enum Part {
     Signal,
     Set,
     Gate,
+    Channel,
 }
 
 impl Part {
@@ -19,6 +20,7 @@ impl Part {
             Part::Signal => "SIGNAL",
             Part::Set => "SET",
             Part::Gate => "GATE",
+            Part::Channel => "CHANNEL",
         }
     }
 }

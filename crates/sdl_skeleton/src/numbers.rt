@@ -1,7 +1,8 @@
-//! The text of `numbers.rt`: a constant for each signal, each set and each gate of a set, and the names that are meant.
+//! The text of `numbers.rt`: a constant for each signal, each set, each gate of a set and each channel, and the names that are
+//! meant.
 use crate::names::{Constant, Part};
 use sdl_parts::limits::MOST_USES;
-use sdl_parts::{Gate, Owner, SignalDecl, Structure};
+use sdl_parts::{Channel, Gate, Owner, SignalDecl, Structure};
 use sdl_signal::Sort;
 use std::io::{Result, Write};
 
@@ -10,12 +11,13 @@ pub fn write_numbers<W: Write>(output: &mut W, structure: &Structure) -> Result<
     let system = structure.system();
     writeln!(
         output,
-        "//! The numbers of the parts of {system}, as its structure file has them.\nuse sdl_graph_program::{{GateId, Kind, SetId, SignalId, Sort, Use}};\n"
+        "//! The numbers of the parts of {system}, as its structure file has them.\nuse sdl_graph_program::{{ChannelId, GateId, Kind, SetId, SignalId, Sort, Use}};\n"
     )?;
     write_signals(output, structure.signals())?;
     write_sorts(output, structure.signals())?;
     write_sets(output, structure)?;
     write_gates(output, structure.gates())?;
+    write_channels(output, structure.channels())?;
     write_uses(output, structure)
 }
 
@@ -108,12 +110,30 @@ fn write_gates<W: Write>(output: &mut W, gates: &[Gate]) -> Result<()> {
     Ok(())
 }
 
+/// Writes the number of each channel.
+fn write_channels<W: Write>(output: &mut W, channels: &[Channel]) -> Result<()> {
+    writeln!(output, "// The channels, as a VIA may name them.")?;
+    for (number, channel) in channels.iter().enumerate() {
+        let constant = Constant {
+            part: Part::Channel,
+            number,
+            name: channel.name.as_str(),
+        };
+        writeln!(
+            output,
+            "pub const {constant}: ChannelId = ChannelId({number});\n"
+        )?;
+    }
+    Ok(())
+}
+
 /// How many gates of sets there are.
 fn gates_of_sets(gates: &[Gate]) -> usize {
     gates.iter().filter(|gate| is_gate_of_set(gate)).count()
 }
 
-/// Writes the names that are meant by the numbers: those of all sets and signals, and of as many gates as there is room for.
+/// Writes the names that are meant by the numbers: those of all sets and signals, and of as many gates of sets and then
+/// channels as there is room for.
 fn write_uses<W: Write>(output: &mut W, structure: &Structure) -> Result<()> {
     let others = structure
         .sets()
@@ -121,10 +141,11 @@ fn write_uses<W: Write>(output: &mut W, structure: &Structure) -> Result<()> {
         .saturating_add(structure.signals().len());
     let room = MOST_USES.saturating_sub(others);
     let gates = gates_of_sets(structure.gates()).min(room);
-    let uses = others.saturating_add(gates);
+    let channels = structure.channels().len().min(room.saturating_sub(gates));
+    let uses = others.saturating_add(gates).saturating_add(channels);
     writeln!(
         output,
-        "/// What the transitions mean by the numbers that they use.\npub const USES: [Use; {uses}] = [\n    // Each set and signal, and the gates of the sets."
+        "/// What the transitions mean by the numbers that they use.\npub const USES: [Use; {uses}] = [\n    // Each set and signal, the gates of the sets, and the channels."
     )?;
     for (number, set) in structure.sets().iter().enumerate() {
         write_use(output, "Set", number, set.name.as_str())?;
@@ -133,6 +154,9 @@ fn write_uses<W: Write>(output: &mut W, structure: &Structure) -> Result<()> {
         write_use(output, "Signal", number, signal.name.as_str())?;
     }
     write_gate_uses(output, structure.gates(), gates)?;
+    for (number, channel) in structure.channels().iter().enumerate().take(channels) {
+        write_use(output, "Channel", number, channel.name.as_str())?;
+    }
     writeln!(output, "];")
 }
 

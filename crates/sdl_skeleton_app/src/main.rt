@@ -5,20 +5,15 @@
 
 mod program;
 
-use sdl_file_commands::sdl_command::errors::without_memory;
 use sdl_file_commands::sdl_command::status::REFUSED;
-use sdl_file_commands::streams::Output;
-use std::cell::RefCell;
-use std::io::BufWriter;
+use sdl_file_commands::streams::{Output, shared_buffer};
 use std::process::ExitCode;
 
 fn main(rt: HostRuntime) -> ExitCode {
     let mut errors = rt.stderr();
-    let Ok(output) = BufWriter::new(rt.alloc(), rt.stdout()) else {
-        without_memory(&mut errors);
+    let Some(buffer) = shared_buffer(rt.alloc(), rt.stdout(), &mut errors) else {
         return ExitCode::from(REFUSED);
     };
-    let buffer = RefCell::new(output);
     let mut output = Output { buffer: &buffer };
     let status = program::run(&rt, rt.alloc(), &mut output, &mut errors);
     ExitCode::from(status)
