@@ -1,1 +1,2 @@
 pub mod RingEnds
+pub mod Batches

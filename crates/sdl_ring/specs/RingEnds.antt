@@ -14,7 +14,7 @@ pub record RingOpening : Type 0 where
   pub names : Names
   pub heap : Global
 
-abbrev pub opening_of : {P : Type 0} → End Item Global P → RingOpening
+abbrev pub opening_of : {T P : Type 0} → End T Global P → RingOpening
 opening_of e = record { words = e.words; slots = e.slots; names = e.names; heap = e.heap }
 
 -- a feed: which opening it is of, what it has put, which of that still waits for room in the ring, and how many free slots

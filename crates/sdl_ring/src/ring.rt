@@ -3,32 +3,45 @@ ghost use Rattle.std.specs.Prelude.{◌≡◌, ◌+◌, ◌≤◌, ◌↔◌, []
 ghost use Rattle.std.specs.VecDeque.{deque_len, deque_capacity};
 ghost use Rattle.rtrb.specs.Ring.{known_items};
 ghost use Rattle.sdl_ring.specs.RingEnds.{WaitsForRoom, IsNextBacklog};
+ghost use Rattle.sdl_ring.specs.Batches.{items_of};
 
 use crate::SerialQueue;
-use rtrb::{Consumer, Producer, PushError, RingBuffer};
+use rtrb::{Consumer, Producer, RingBuffer};
 use sdl_signal::Item;
 use std::alloc::{AllocError, Global};
 use std::collections::VecDeque;
 use std::marker::Model;
+use std::mem;
+
+/// What stands in a slot of a ring: an item, and those that were behind it in a backlog.
+#[derive(Drop)]
+struct Batch {
+    first: Item,
+    rest: VecDeque<Item>,
+}
 
 /// The end of a ring at which its thread puts items. What the ring has no room for stands in a backlog. Contracts see which
 /// opening it is of, what it has put, its backlog, and how many free slots of the ring it knows of.
 #[derive(Drop)]
 pub struct RingFeed {
-    producer: Producer<Item>,
+    producer: Producer<Batch>,
     backlog: VecDeque<Item>,
+    /// How many items were put.
+    count: usize,
+    alloc: Global,
 }
 
 impl Model for RingFeed {
-    ghost use Rattle.std.specs.Prelude.{◌++◌};
+    ghost use Rattle.std.specs.Prelude.{◌≡◌, ◌<◌, ◌^◌, ◌++◌, length};
     ghost use Rattle.rtrb.specs.Ring.{sent, known_free};
     ghost use Rattle.sdl_ring.specs.RingEnds.{RingFeedEnd, WaitsForRoom, opening_of};
+    ghost use Rattle.sdl_ring.specs.Batches.{items_of};
 
     ghost Value = { RingFeedEnd };
 
-    ghost view = { λ f. record { opening = opening_of f.producer.end; put = sent f.producer ++ f.backlog.items; backlog = f.backlog.items; room = known_free f.producer } };
+    ghost view = { λ f. record { opening = opening_of f.producer.end; put = items_of (sent f.producer) ++ f.backlog.items; backlog = f.backlog.items; room = known_free f.producer } };
 
-    ghost invariant = { λ f. WaitsForRoom f.backlog.items (known_free f.producer) };
+    ghost invariant = { λ f. WaitsForRoom f.backlog.items (known_free f.producer) × (f.count ≡ length (items_of (sent f.producer) ++ f.backlog.items)) × (f.count < 2 ^ 64) };
 }
 
 impl RingFeed {
@@ -40,21 +53,27 @@ impl RingFeed {
         ensures backlog { MatchResult result (λ _. IsNextBacklog self.old.backlog item self.new.backlog) (λ _. self.new.backlog ≡ self.old.backlog) }
         ensures full { WaitsForRoom self.new.backlog self.new.room }
     {
-        let late = if self.backlog.is_empty() {
-            match self.producer.push(item) {
-                Ok(()) => return Ok(()),
-                Err(PushError::Full(back)) => back,
+        // (no run puts as many)
+        if self.count == usize::MAX {
+            return Err((item, AllocError));
+        }
+        if self.backlog.is_empty() && !self.producer.is_full() {
+            let rest = VecDeque::new(self.alloc);
+            self.producer.push_reserved(Batch { first: item, rest });
+            self.count += 1;
+            return Ok(());
+        }
+        match self.backlog.push_back(item) {
+            Ok(()) => {
+                self.count += 1;
+                Ok(())
             }
-        } else {
-            item
-        };
-        match self.backlog.push_back(late) {
-            Ok(()) => Ok(()),
             Err(refused) => Err((refused.value, AllocError)),
         }
     }
 
-    /// Moves what fits from the backlog into the ring, and says whether the backlog is empty. Takes no memory.
+    /// Moves the backlog into the ring, as a whole, where a slot is free, and says whether the backlog is empty. Takes no
+    /// memory.
     pub fn flush(&mut self) -> bool
         ensures same { self.new.opening ≡ self.old.opening }
         ensures put { self.new.put ≡ self.old.put }
@@ -64,14 +83,15 @@ impl RingFeed {
         if self.backlog.is_empty() {
             return true;
         }
-        let free = self.producer.slots();
-        for _ in 0..free {
-            let Some(item) = self.backlog.pop_front() else {
-                return true;
-            };
-            self.producer.push_reserved(item);
+        if self.producer.is_full() {
+            return false;
         }
-        self.backlog.is_empty()
+        let mut rest = mem::replace(&mut self.backlog, VecDeque::new(self.alloc));
+        let Some(first) = rest.pop_front() else {
+            unreachable!()
+        };
+        self.producer.push_reserved(Batch { first, rest });
+        true
     }
 }
 
@@ -79,17 +99,25 @@ impl RingFeed {
 /// seen in the ring and not taken yet.
 #[derive(Drop)]
 pub struct RingTap {
-    consumer: Consumer<Item>,
+    consumer: Consumer<Batch>,
+    /// What is left of the slot that was taken from the ring last.
+    rest: VecDeque<Item>,
+    /// How many items were taken.
+    count: usize,
     alloc: Global,
 }
 
 impl Model for RingTap {
+    ghost use Rattle.std.specs.Prelude.{◌≡◌, ◌++◌, length};
     ghost use Rattle.rtrb.specs.Ring.{received, known_items};
     ghost use Rattle.sdl_ring.specs.RingEnds.{RingTapEnd, opening_of};
+    ghost use Rattle.sdl_ring.specs.Batches.{items_of, without, IsCount};
 
     ghost Value = { RingTapEnd };
 
-    ghost view = { λ t. record { opening = opening_of t.consumer.end; taken = received t.consumer; seen = known_items t.consumer } };
+    ghost view = { λ t. record { opening = opening_of t.consumer.end; taken = without (items_of (received t.consumer)) t.rest.items; seen = t.rest.items ++ items_of (known_items t.consumer) } };
+
+    ghost invariant = { λ t. (without (items_of (received t.consumer)) t.rest.items ++ t.rest.items ≡ items_of (received t.consumer)) × IsCount t.count (length (without (items_of (received t.consumer)) t.rest.items)) };
 }
 
 impl RingTap {
@@ -99,7 +127,18 @@ impl RingTap {
         ensures same { self.new.opening ≡ self.old.opening }
         ensures taken { MatchOption result ((self.new.taken ≡ self.old.taken) × (self.new.seen ≡ [])) (λ item. self.new.taken ≡ self.old.taken ++ item ∷ []) }
     {
-        self.consumer.pop().ok()
+        if let Some(item) = self.rest.pop_front() {
+            self.count = self.count.saturating_add(1);
+            return Some(item);
+        }
+        match self.consumer.pop() {
+            Ok(Batch { first, rest }) => {
+                self.rest = rest;
+                self.count = self.count.saturating_add(1);
+                Some(first)
+            }
+            Err(_) => None,
+        }
     }
 }
 
@@ -111,29 +150,44 @@ pub fn ring_open(alloc: Global, size: usize) -> Result<(RingFeed, RingTap), Allo
     ensures pair { IfOk result (λ ends. ends.0.opening ≡ ends.1.opening) }
 {
     let (producer, consumer) = RingBuffer::new(alloc, size)?;
-    let backlog = VecDeque::new(alloc);
-    Ok((RingFeed { producer, backlog }, RingTap { consumer, alloc }))
+    let feed = RingFeed {
+        producer,
+        backlog: VecDeque::new(alloc),
+        count: 0,
+        alloc,
+    };
+    let tap = RingTap {
+        consumer,
+        rest: VecDeque::new(alloc),
+        count: 0,
+        alloc,
+    };
+    Ok((feed, tap))
 }
 
 /// A ring both of whose ends have come back. Contracts see what was put, what was taken and what is left.
 #[derive(Drop)]
 pub struct RingRejoined {
-    producer: Producer<Item>,
-    consumer: Consumer<Item>,
+    producer: Producer<Batch>,
+    consumer: Consumer<Batch>,
+    rest: VecDeque<Item>,
     backlog: VecDeque<Item>,
+    /// How many items are left.
+    count: usize,
     alloc: Global,
 }
 
 impl Model for RingRejoined {
-    ghost use Rattle.std.specs.Prelude.{◌≡◌, ◌++◌};
+    ghost use Rattle.std.specs.Prelude.{◌≡◌, ◌++◌, length};
     ghost use Rattle.rtrb.specs.Ring.{sent, received, known_items};
     ghost use Rattle.sdl_ring.specs.RingEnds.{RingAccount};
+    ghost use Rattle.sdl_ring.specs.Batches.{items_of, without};
 
     ghost Value = { RingAccount };
 
-    ghost view = { λ r. record { put = sent r.producer ++ r.backlog.items; taken = received r.consumer; left = known_items r.consumer ++ r.backlog.items } };
+    ghost view = { λ r. record { put = items_of (sent r.producer) ++ r.backlog.items; taken = without (items_of (received r.consumer)) r.rest.items; left = r.rest.items ++ items_of (known_items r.consumer) ++ r.backlog.items } };
 
-    ghost invariant = { λ r. received r.consumer ++ known_items r.consumer ≡ sent r.producer };
+    ghost invariant = { λ r. (received r.consumer ++ known_items r.consumer ≡ sent r.producer) × (r.count ≡ length (r.rest.items ++ items_of (known_items r.consumer) ++ r.backlog.items)) };
 }
 
 /// Puts both ends of one opening together again. The backlog is among what is left, after the ring. Takes no memory.
@@ -145,16 +199,22 @@ pub fn ring_rejoin(feed: RingFeed, tap: RingTap) -> RingRejoined
     let RingFeed {
         mut producer,
         backlog,
+        count: put,
+        alloc,
     } = feed;
     let RingTap {
         mut consumer,
-        alloc,
+        rest,
+        count: taken,
+        alloc: _,
     } = tap;
     consumer.slots_beside(&mut producer);
     RingRejoined {
         producer,
         consumer,
+        rest,
         backlog,
+        count: put - taken,
         alloc,
     }
 }
@@ -164,46 +224,54 @@ impl RingRejoined {
     pub fn len(&self) -> usize
         ensures { result ≡ length self.now.left }
     {
-        self.consumer.cached_slots() + self.backlog.len()
+        self.count
     }
 
     /// What is left, in a queue of one thread. `Err` hands back the same where memory was refused.
     pub fn into_serial(self) -> Result<SerialQueue, (RingRejoined, AllocError)>
         ensures { MatchResult result (λ q. q ≡ self.left) (λ back. back.0 ≡ self) }
     {
-        let Ok(mut items) = VecDeque::with_capacity(self.alloc, self.len()) else {
+        let Ok(mut items) = VecDeque::with_capacity(self.alloc, self.count) else {
             return Err((self, AllocError));
         };
         let RingRejoined {
             producer: _,
             mut consumer,
+            mut rest,
             mut backlog,
+            count: _,
             alloc: _,
         } = self;
+        move_queue(&mut rest, &mut items);
         move_ring(&mut consumer, &mut items);
-        move_backlog(&mut backlog, &mut items);
+        move_queue(&mut backlog, &mut items);
         Ok(SerialQueue::of(items))
     }
 }
 
 // Moves all items that are known to be in the ring to the back of a queue that has room for them.
-fn move_ring(consumer: &mut Consumer<Item>, items: &mut VecDeque<Item>)
-    requires { deque_len items.old + length (known_items consumer.old) ≤ deque_capacity items.old }
-    ensures items { items.new.items ≡ items.old.items ++ known_items consumer.old }
+fn move_ring(consumer: &mut Consumer<Batch>, items: &mut VecDeque<Item>)
+    requires { deque_len items.old + length (items_of (known_items consumer.old)) ≤ deque_capacity items.old }
+    ensures items { items.new.items ≡ items.old.items ++ items_of (known_items consumer.old) }
     ensures room { deque_capacity items.new ≡ deque_capacity items.old }
+    ensures len { deque_len items.new ≡ deque_len items.old + length (items_of (known_items consumer.old)) }
 {
     for _ in 0..consumer.cached_slots() {
-        items.push_back_reserved(consumer.pop_known());
+        let Batch { first, mut rest } = consumer.pop_known();
+        items.push_back_reserved(first);
+        move_queue(&mut rest, items);
     }
 }
 
-// Moves all items of the backlog to the back of a queue that has room for them.
-fn move_backlog(backlog: &mut VecDeque<Item>, items: &mut VecDeque<Item>)
-    requires { deque_len items.old + deque_len backlog.old ≤ deque_capacity items.old }
-    ensures { items.new.items ≡ items.old.items ++ backlog.old.items }
+// Moves all items of the first queue to the back of the second, which has room for them.
+fn move_queue(from: &mut VecDeque<Item>, items: &mut VecDeque<Item>)
+    requires { deque_len items.old + deque_len from.old ≤ deque_capacity items.old }
+    ensures items { items.new.items ≡ items.old.items ++ from.old.items }
+    ensures room { deque_capacity items.new ≡ deque_capacity items.old }
+    ensures len { deque_len items.new ≡ deque_len items.old + deque_len from.old }
 {
-    for _ in 0..backlog.len() {
-        let Some(item) = backlog.pop_front() else {
+    for _ in 0..from.len() {
+        let Some(item) = from.pop_front() else {
             unreachable!()
         };
         items.push_back_reserved(item);

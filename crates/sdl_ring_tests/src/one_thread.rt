@@ -67,6 +67,25 @@ fn the_backlog_is_left_after_the_ring(rt: HostRuntime) -> Result<(), Fail> {
     Ok(())
 }
 
+/// What waits for room goes into one slot, whose items come before the next slot's, and what is left of it before the ring's.
+#[test]
+fn a_slot_holds_what_waited_for_room(rt: HostRuntime) -> Result<(), Fail> {
+    let (mut feed, mut tap) = ring_open(rt.alloc(), 1)?;
+    put_some(&rt, &mut feed, 0, 5);
+    take_some(&rt, &mut tap, 0, 1);
+    assert!(rt; feed.flush());
+    put_some(&rt, &mut feed, 5, 7);
+    assert!(rt; !feed.flush());
+    take_some(&rt, &mut tap, 1, 2);
+    assert!(rt; feed.flush());
+    put_some(&rt, &mut feed, 7, 9);
+    let rejoined = ring_rejoin(feed, tap);
+    assert_eq!(rt; rejoined.len(), 7);
+    let queue = rejoined.into_serial().map_err(|(_, error)| error)?;
+    are_left(&rt, queue, 2, 9);
+    Ok(())
+}
+
 /// A ring of this size with one item more than it has room for: a flush moves it once there is room, and not before.
 fn one_too_many(rt: &impl Abort, alloc: Global, size: usize) -> Result<(), Fail>
     requires { (1 ≤ size) × (size ≤ 64) }

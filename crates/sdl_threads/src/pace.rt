@@ -29,7 +29,8 @@ impl Gate for OpenGate {
 const NAP_MICROS: u64 = 8_000;
 
 /// After how many steps that did something a worker wakes those that take what it put, unless it has nothing more to do before.
-const MOST_UNTOLD: u32 = 32;
+/// Where a step takes long, their sleep ends by itself before.
+const MOST_UNTOLD: u32 = 512;
 
 /// After how many steps that did something a worker wakes who waits for room where it takes: half a ring.
 const MOST_ROOM: u32 = 32;
