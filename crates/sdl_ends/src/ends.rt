@@ -110,8 +110,8 @@ impl Ends {
         }
     }
 
-    /// Moves what fits from the backlogs of its rings into these, and says whether no backlog is left. Takes no memory. What was
-    /// touched is counted from here on, unless something waited for room before.
+    /// Puts the backlogs of its rings into these, each where there is a free slot, and says whether no backlog is left. Takes no
+    /// memory. What was touched is counted from here on, unless something waited for room before.
     pub fn flush(&mut self) -> bool
         ensures put { (s : Station) → put_at self.new s ≡ put_at self.old s }
         ensures tap { self.new.tap ≡ self.old.tap }

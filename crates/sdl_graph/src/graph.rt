@@ -29,23 +29,15 @@ pub fn answer<G: Graph>(number: u32, offer: &Offer, frame: &Frame) -> Step
     kept(offer, frame, G::step(number, frame))
 }
 
-/// The same, and whether the graph's own step conforms.
-pub fn judged_answer<G: Graph>(number: u32, offer: &Offer, frame: &Frame) -> (Step, bool)
-    ensures kept { (own : _) × G.answers number frame.now own × IsKept offer.now frame.now own result.0 × (IsTrue result.1 ↔ Conforms offer.now own) }
-    ensures conforms { IsFrameOf offer.now frame.now → CanEnd offer.now → Conforms offer.now result.0 }
+/// Whether the step conforms to the offer. Where it does not, the step that does nothing is put in its place.
+pub fn judge(offer: &Offer, frame: &Frame, step: &mut Step) -> bool
+    ensures kept { IsKept offer.now frame.now step.old step.new }
+    ensures exact { IsTrue result ↔ Conforms offer.now step.old }
+    ensures conforms { IsFrameOf offer.now frame.now → CanEnd offer.now → Conforms offer.now step.new }
 {
-    judged(offer, frame, G::step(number, frame))
-}
-
-/// The step where it conforms to the offer, and else the step that does nothing; and whether it conforms.
-fn judged(offer: &Offer, frame: &Frame, own: Step) -> (Step, bool)
-    ensures kept { IsKept offer.now frame.now own result.0 }
-    ensures exact { IsTrue result.1 ↔ Conforms offer.now own }
-    ensures conforms { IsFrameOf offer.now frame.now → CanEnd offer.now → Conforms offer.now result.0 }
-{
-    if conforms(offer, &own) {
-        (own, true)
-    } else {
-        (stay(offer, frame), false)
+    let meets = conforms(offer, step);
+    if !meets {
+        *step = stay(offer, frame);
     }
+    meets
 }

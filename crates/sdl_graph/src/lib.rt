@@ -7,7 +7,7 @@ pub mod offers;
 pub mod reading;
 pub mod steps;
 
-pub use graph::{Graph, answer, judged_answer};
+pub use graph::{Graph, answer, judge};
 pub use offers::{OfferBuilder, no_offer};
 pub use reading::{
     boolean_parameter, boolean_variable, integer_parameter, integer_variable, pid_parameter,

@@ -80,13 +80,10 @@ impl StepBuilder {
         ensures fits { IsTrue result.fits ↔ (IsTrue self.fits × array_vec_len self.step.actions < 8) }
         ensures step { IsTrue result.fits → result.step ≡ record self.step { actions = record { items = self.step.actions.items ++ action ∷ [] } } }
     {
-        let StepBuilder { step, fits } = self;
-        let mut step = step;
-        let added = step.actions.try_push(action).is_ok();
-        StepBuilder {
-            step,
-            fits: fits && added,
-        }
+        let mut builder = self;
+        let added = builder.step.actions.try_push(action).is_ok();
+        builder.fits &= added;
+        builder
     }
 
     /// Then it outputs the signal with these parameters, at most 4, to `dest`, with this VIA. There are at most 8 actions.
@@ -102,8 +99,9 @@ impl StepBuilder {
                 self.act(Action::Output { signal, dest, via })
             }
             None => {
-                let StepBuilder { step, .. } = self;
-                StepBuilder { step, fits: false }
+                let mut builder = self;
+                builder.fits = false;
+                builder
             }
         }
     }
@@ -121,14 +119,13 @@ impl StepBuilder {
         ensures fits { IsTrue result.fits ↔ (IsTrue self.fits × place < array_vec_len self.step.vars) }
         ensures step { IsTrue result.fits → result.step ≡ record self.step { vars = record { items = slice_set self.step.vars.items place value } } }
     {
-        let StepBuilder { step, fits } = self;
-        let mut step = step;
-        if place < step.vars.len() {
-            step.vars[place] = value;
-            StepBuilder { step, fits }
+        let mut builder = self;
+        if place < builder.step.vars.len() {
+            builder.step.vars[place] = value;
         } else {
-            StepBuilder { step, fits: false }
+            builder.fits = false;
         }
+        builder
     }
 
     /// The step where all that was said of it found room, and else one that conforms to no offer.

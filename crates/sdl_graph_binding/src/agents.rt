@@ -5,7 +5,7 @@ ghost use Rattle.sdl_graph.specs.Answers.{IsKept};
 
 use crate::marks::Marks;
 use sdl_behaviour::{Agents, Frame, Offer, Step};
-use sdl_graph::{Graph, judged_answer};
+use sdl_graph::{Graph, judge};
 use std::marker::PhantomData;
 
 /// The agents of a graph. Of each step it is promised that it meets its transition's offer, as of every step of a stored
@@ -25,8 +25,8 @@ pub fn marked_answer<G: Graph>(number: u32, offer: &Offer, frame: &Frame, marks:
     ensures kept { (own : _) × G.answers number frame.now own × IsKept offer.now frame.now own result }
     ensures conforms { IsFrameOf offer.now frame.now → CanEnd offer.now → Conforms offer.now result }
 {
-    let (step, conforms) = judged_answer::<G>(number, offer, frame);
-    if !conforms {
+    let mut step = G::step(number, frame);
+    if !judge(offer, frame, &mut step) {
         marks.note(number);
     }
     step

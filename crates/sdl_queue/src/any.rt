@@ -60,7 +60,7 @@ impl AnyFeed {
         }
     }
 
-    /// Moves what fits from a ring's backlog into the ring, and says whether no backlog is left. Takes no memory.
+    /// Puts a ring's backlog into the ring, whole, where there is a free slot, and says whether no backlog is left. Takes no memory.
     pub fn flush(&mut self) -> bool
         ensures same { IsSameFeed self.old self.new }
         ensures put { self.new.put ≡ self.old.put }
