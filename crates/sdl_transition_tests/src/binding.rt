@@ -4,7 +4,6 @@ use super::outcomes::{Found, Outcome};
 use sdl_examples::{ECHO, RELAY};
 use sdl_signal::{GateId, SetId, Sort};
 use sdl_transition::{BindFault, Kind, Via};
-use std::test::Fail;
 
 const PING: RowDraft = RowDraft {
     state: 0,
@@ -27,6 +26,11 @@ const ECHO_DRAFT: Draft = Draft {
     rows: &[PING],
 };
 
+/// The behaviour of Echo's one set, and the same twice.
+const ONE: &[Draft] = &[ECHO_DRAFT];
+
+const TWO: &[Draft] = &[ECHO_DRAFT, ECHO_DRAFT];
+
 /// The start is transition 0, and the row for signal 0 transition 1.
 const FOUND: Found = Found {
     start: 0,
@@ -47,19 +51,17 @@ fn of_echo(fault: Option<BindFault>, behaviours: usize) -> Option<Outcome> {
 }
 
 #[test]
-fn binds_echo(rt: HostRuntime) -> Result<(), Fail> {
-    let outcome = bind_drafts(rt.alloc(), ECHO, [ECHO_DRAFT].as_slice());
-    assert_eq!(rt; outcome, of_echo(None, 1));
-    Ok(())
+fn binds_echo(rt: HostRuntime) {
+    let outcome = bind_drafts(rt.alloc(), ECHO, ONE);
+    assert!(rt; outcome == of_echo(None, 1));
 }
 
 #[test]
-fn wants_one_behaviour_for_each_set(rt: HostRuntime) -> Result<(), Fail> {
-    let none = bind_drafts(rt.alloc(), ECHO, [].as_slice());
-    assert_eq!(rt; none, of_echo(Some(BindFault::NoBehaviour(SetId(0))), 0));
-    let two = bind_drafts(rt.alloc(), ECHO, [ECHO_DRAFT, ECHO_DRAFT].as_slice());
-    assert_eq!(rt; two, of_echo(Some(BindFault::TwoBehaviours(SetId(0))), 2));
-    Ok(())
+fn wants_one_behaviour_for_each_set(rt: HostRuntime) {
+    let none = bind_drafts(rt.alloc(), ECHO, &[]);
+    assert!(rt; none == of_echo(Some(BindFault::NoBehaviour(SetId(0))), 0));
+    let two = bind_drafts(rt.alloc(), ECHO, TWO);
+    assert!(rt; two == of_echo(Some(BindFault::TwoBehaviours(SetId(0))), 2));
 }
 
 /// What Echo's behaviour uses, and a gate that is not its set's.
@@ -70,65 +72,65 @@ const WITH_A_GATE: &[(Kind, u32, &str)] = &[
     (Kind::Gate, 0, "line"),
 ];
 
+/// Drafts for Echo of which one rule does not hold, each with the fault that is named.
+const BROKEN: &[(Draft, BindFault)] = &[
+    (
+        Draft {
+            rows: &[RowDraft { sets: 2, ..PING }],
+            ..ECHO_DRAFT
+        },
+        BindFault::WrongName(SetId(0)),
+    ),
+    (
+        Draft {
+            rows: &[RowDraft { output: 0, ..PING }],
+            ..ECHO_DRAFT
+        },
+        BindFault::UndeclaredOutput(SetId(0)),
+    ),
+    (
+        Draft {
+            uses: WITH_A_GATE,
+            rows: &[RowDraft {
+                via: Via::Gate(GateId(0)),
+                ..PING
+            }],
+            ..ECHO_DRAFT
+        },
+        BindFault::UndeclaredGate(SetId(0)),
+    ),
+    (
+        Draft {
+            rows: &[RowDraft { state: 1, ..PING }],
+            ..ECHO_DRAFT
+        },
+        BindFault::UnknownState(SetId(0)),
+    ),
+    (
+        Draft {
+            rows: &[RowDraft {
+                sort: Sort::Boolean,
+                ..PING
+            }],
+            ..ECHO_DRAFT
+        },
+        BindFault::WrongSorts(SetId(0)),
+    ),
+    (
+        Draft {
+            rows: &[PING, PING],
+            ..ECHO_DRAFT
+        },
+        BindFault::TwoRows(SetId(0)),
+    ),
+];
+
 #[test]
-fn names_the_fault_of_a_row(rt: HostRuntime) -> Result<(), Fail> {
-    let set = SetId(0);
-    let drafts = [
-        (
-            Draft {
-                rows: &[RowDraft { sets: 2, ..PING }],
-                ..ECHO_DRAFT
-            },
-            BindFault::WrongName(set),
-        ),
-        (
-            Draft {
-                rows: &[RowDraft { output: 0, ..PING }],
-                ..ECHO_DRAFT
-            },
-            BindFault::UndeclaredOutput(set),
-        ),
-        (
-            Draft {
-                uses: WITH_A_GATE,
-                rows: &[RowDraft {
-                    via: Via::Gate(GateId(0)),
-                    ..PING
-                }],
-                ..ECHO_DRAFT
-            },
-            BindFault::UndeclaredGate(set),
-        ),
-        (
-            Draft {
-                rows: &[RowDraft { state: 1, ..PING }],
-                ..ECHO_DRAFT
-            },
-            BindFault::UnknownState(set),
-        ),
-        (
-            Draft {
-                rows: &[RowDraft {
-                    sort: Sort::Boolean,
-                    ..PING
-                }],
-                ..ECHO_DRAFT
-            },
-            BindFault::WrongSorts(set),
-        ),
-        (
-            Draft {
-                rows: &[PING, PING],
-                ..ECHO_DRAFT
-            },
-            BindFault::TwoRows(set),
-        ),
-    ];
-    for (draft, fault) in drafts {
-        let outcome = bind_drafts(rt.alloc(), ECHO, [draft].as_slice());
-        assert_eq!(rt; outcome, of_echo(Some(fault), 1));
+fn names_the_fault_of_a_row(rt: HostRuntime) {
+    for (draft, fault) in BROKEN {
+        let outcome = bind_drafts(rt.alloc(), ECHO, &[*draft]);
+        assert!(rt; outcome == of_echo(Some(*fault), 1), "{fault:?}");
     }
-    Ok(())
 }
 
 const PUT: RowDraft = RowDraft { sets: 3, ..PING };
@@ -171,6 +173,21 @@ const B: Draft = Draft {
     }],
 };
 
+/// The behaviours of Relay, and others of which one creates in another block.
+const ALL: &[Draft] = &[A, C, B];
+
+const CREATING: &[Draft] = &[
+    B,
+    Draft {
+        rows: &[RowDraft {
+            create: Some(SetId(2)),
+            ..PUT
+        }],
+        ..A
+    },
+    C,
+];
+
 fn of_relay(fault: Option<BindFault>) -> Option<Outcome> {
     Some(Outcome {
         fault,
@@ -182,32 +199,19 @@ fn of_relay(fault: Option<BindFault>) -> Option<Outcome> {
 }
 
 #[test]
-fn names_a_create_in_another_block(rt: HostRuntime) -> Result<(), Fail> {
-    let bound = bind_drafts(rt.alloc(), RELAY, [A, C, B].as_slice());
-    assert_eq!(rt; bound, of_relay(None));
-    let creating = Draft {
-        rows: &[RowDraft {
-            create: Some(SetId(2)),
-            ..PUT
-        }],
-        ..A
-    };
-    let refused = bind_drafts(rt.alloc(), RELAY, [B, creating, C].as_slice());
-    assert_eq!(rt;
-        refused,
-        of_relay(Some(BindFault::CreateElsewhere(SetId(0))))
-    );
-    Ok(())
+fn names_a_create_in_another_block(rt: HostRuntime) {
+    let bound = bind_drafts(rt.alloc(), RELAY, ALL);
+    assert!(rt; bound == of_relay(None));
+    let refused = bind_drafts(rt.alloc(), RELAY, CREATING);
+    assert!(rt; refused == of_relay(Some(BindFault::CreateElsewhere(SetId(0)))));
 }
 
 // Run it with each allocation refused in turn: a refused bind hands everything back, and binds it when it is tried again.
 #[test]
-fn binds_after_a_refusal(rt: HostRuntime) -> Result<(), Fail> {
-    let drafts = [A, C, B];
-    let outcome = match bind_drafts(rt.alloc(), RELAY, drafts.as_slice()) {
+fn binds_after_a_refusal(rt: HostRuntime) {
+    let outcome = match bind_drafts(rt.alloc(), RELAY, ALL) {
         Some(outcome) => Some(outcome),
-        None => bind_drafts(rt.alloc(), RELAY, drafts.as_slice()),
+        None => bind_drafts(rt.alloc(), RELAY, ALL),
     };
-    assert_eq!(rt; outcome, of_relay(None));
-    Ok(())
+    assert!(rt; outcome == of_relay(None));
 }

@@ -90,10 +90,10 @@ fn fill_rows(alloc: Global) -> Option<(usize, bool)> {
 
 #[test]
 fn a_behaviour_is_filled_with_uses(rt: HostRuntime) {
-    assert_eq!(rt; fill_uses(rt.alloc()), Some((MOST, true)));
+    assert!(rt; fill_uses(rt.alloc()) == Some((MOST, true)));
 }
 
 #[test]
 fn a_behaviour_is_filled_with_rows(rt: HostRuntime) {
-    assert_eq!(rt; fill_rows(rt.alloc()), Some((MOST, true)));
+    assert!(rt; fill_rows(rt.alloc()) == Some((MOST, true)));
 }

@@ -26,32 +26,37 @@ impl Runner for Numbers {
     }
 }
 
+/// Each system with the number of its sets and the numbers of its transitions.
+const NUMBERS: &[(System, u32, &[u32])] = &[
+    (System::Echo, 1, &[0, 1]),
+    (System::Relay, 3, &[0, 1, 0, 1, 0, 2]),
+    (System::Spawn, 2, &[0, 1, 2, 3, 0, 4, 5, 6, 7]),
+    (System::Ring, 2, &[0, 2, 1, 2]),
+];
+
 #[test]
 fn transitions_keep_their_numbers(rt: HostRuntime) -> Result<(), Fail> {
     let alloc = rt.alloc();
-    assert_eq!(rt; store_anything(alloc)?, 9);
-    for (system, sets, wanted) in [
-        (System::Echo, 1, [0, 1].as_slice()),
-        (System::Relay, 3, [0, 1, 0, 1, 0, 2].as_slice()),
-        (System::Spawn, 2, [0, 1, 2, 3, 0, 4, 5, 6, 7].as_slice()),
-        (System::Ring, 2, [0, 2, 1, 2].as_slice()),
-    ] {
-        let numbers = run(system, alloc, sets, Numbers { alloc })??;
-        assert_eq!(rt; numbers.as_slice(), wanted);
+    assert!(rt; store_anything(alloc)? == 9);
+    for (system, sets, wanted) in NUMBERS {
+        let numbers = run(*system, alloc, *sets, Numbers { alloc })??;
+        assert!(rt; numbers.as_slice() == *wanted);
     }
     Ok(())
 }
 
+const NAMES: &[(&str, Option<System>)] = &[
+    ("Echo", Some(System::Echo)),
+    ("Relay", Some(System::Relay)),
+    ("Spawn", Some(System::Spawn)),
+    ("Ring", Some(System::Ring)),
+    ("echo", None),
+    ("", None),
+];
+
 #[test]
 fn systems_go_by_their_names(rt: HostRuntime) {
-    for (name, system) in [
-        ("Echo", Some(System::Echo)),
-        ("Relay", Some(System::Relay)),
-        ("Spawn", Some(System::Spawn)),
-        ("Ring", Some(System::Ring)),
-        ("echo", None),
-        ("", None),
-    ] {
-        assert_eq!(rt; sdl_agents::system_named(name), system);
+    for (name, system) in NAMES {
+        assert!(rt; sdl_agents::system_named(name) == *system, "{name}");
     }
 }

@@ -11,7 +11,7 @@ use sdl_transition::{Behaviour, BindFault, BlockParts, Bound, Transition, Unboun
 use std::alloc::Global;
 
 /// What came of binding: the fault, and how many sets, routes and behaviours were handed back, or are bound.
-#[derive(Clone, Copy, Debug, PartialEq, Eq)]
+#[derive(Clone, Copy, PartialEq, Eq)]
 pub struct Outcome {
     pub fault: Option<BindFault>,
     pub sets: usize,
@@ -22,7 +22,7 @@ pub struct Outcome {
 
 /// The numbers of the start and of the rows in idle for the signals 0 and 1, and for a state and a signal that are not
 /// there, and how many variables there are.
-#[derive(Clone, Copy, Debug, PartialEq, Eq)]
+#[derive(Clone, Copy, PartialEq, Eq)]
 pub struct Found {
     pub start: u32,
     pub variables: usize,

@@ -2,7 +2,6 @@
 use super::drafts::{Draft, bind_drafts};
 use super::outcomes::{Found, Outcome};
 use sdl_transition::Kind;
-use std::test::Fail;
 
 const FILE: &str = "version = 1
 system = 'Sixteen'
@@ -63,7 +62,7 @@ const DRAFT: Draft = Draft {
     rows: &[],
 };
 
-const DRAFTS: [Draft; 16] = [
+const DRAFTS: &[Draft] = &[
     Draft {
         set: 0,
         uses: &[(Kind::Set, 0, "S0")],
@@ -147,8 +146,8 @@ const DRAFTS: [Draft; 16] = [
 ];
 
 #[test]
-fn binds_sixteen_blocks(rt: HostRuntime) -> Result<(), Fail> {
-    let outcome = bind_drafts(rt.alloc(), FILE, DRAFTS.as_slice());
+fn binds_sixteen_blocks(rt: HostRuntime) {
+    let outcome = bind_drafts(rt.alloc(), FILE, DRAFTS);
     let wanted = Outcome {
         fault: None,
         sets: 16,
@@ -162,6 +161,5 @@ fn binds_sixteen_blocks(rt: HostRuntime) -> Result<(), Fail> {
             outside: None,
         }),
     };
-    assert_eq!(rt; outcome, Some(wanted));
-    Ok(())
+    assert!(rt; outcome == Some(wanted));
 }

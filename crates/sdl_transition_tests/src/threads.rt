@@ -96,7 +96,7 @@ fn run_echoes<R: Threads>(
 #[test]
 fn two_threads_answer_what_each_was_sent(rt: HostRuntime) -> Result<(), Fail> {
     let (left, right) = run_echoes(&rt, rt.alloc(), (7, i64::MIN))?;
-    assert_eq!(rt; left.actions.as_slice(), [pong(7)].as_slice());
-    assert_eq!(rt; right.actions.as_slice(), [pong(i64::MIN)].as_slice());
+    assert!(rt; left.actions.as_slice() == [pong(7)].as_slice());
+    assert!(rt; right.actions.as_slice() == [pong(i64::MIN)].as_slice());
     Ok(())
 }
