@@ -62,7 +62,7 @@ fn take_some<R: Wait + Abort>(rt: &R, tap: &mut AnyTap, from: u64, to: u64)
     ensures { IsSameTap tap.old tap.new }
 {
     for number in from..to {
-        assert_eq!(rt; tap.take(rt), Some(item_of(0, number)));
+        assert!(rt; tap.take(rt) == Some(item_of(0, number)));
     }
 }
 
@@ -83,12 +83,12 @@ fn left_in<R: Wait>(rt: &R, rest: Rest) -> Result<SerialQueue, AllocError> {
 
 /// The items with these numbers are all that is left.
 fn are_left<R: Wait + Abort>(rt: &R, rest: Rest, from: u64, to: u64) -> Result<(), AllocError> {
-    assert_eq!(rt; rest.len() as u64, to.saturating_sub(from));
+    assert!(rt; rest.len() as u64 == to.saturating_sub(from));
     let mut queue = left_in(rt, rest)?;
     for number in from..to {
-        assert_eq!(rt; queue.take(), Some(item_of(0, number)));
+        assert!(rt; queue.take() == Some(item_of(0, number)));
     }
-    assert_eq!(rt; queue.take(), None);
+    assert!(rt; queue.take().is_none());
     Ok(())
 }
 
@@ -106,7 +106,7 @@ fn use_one<R: Wait + Abort>(rt: &R, one: One, is_ring: bool) -> Result<Rest, All
 {
     let (feeds, mut feed, mut tap) = one;
     put_some(rt, &mut feed, 0, FIRST);
-    assert_eq!(rt; feed.flush(), !is_ring);
+    assert!(rt; feed.flush() == !is_ring);
     take_some(rt, &mut tap, 0, 1);
     assert!(rt; feed.flush());
     take_some(rt, &mut tap, 1, 10);
@@ -144,7 +144,7 @@ fn a_ring_is_first_in_first_out_by_the_name_of_any(rt: HostRuntime) -> Result<()
 #[test]
 fn a_ring_has_64_slots(rt: HostRuntime) -> Result<(), Fail> {
     let (feeds, mut feed, mut tap) = open_ring(rt.alloc())?;
-    assert_eq!(rt; tap.take(&rt), None);
+    assert!(rt; tap.take(&rt).is_none());
     put_some(&rt, &mut feed, 0, ROOM);
     assert!(rt; feed.flush());
     put_some(&rt, &mut feed, ROOM, ROOM + 1);
@@ -167,14 +167,14 @@ fn put_by<R: Wait + Abort>(rt: &R, feeds: &mut Vec<AnyFeed>, feeder: u32, number
 #[test]
 fn three_feeders_of_any_queue_put_in_turn(rt: HostRuntime) -> Result<(), Fail> {
     let (mut feeds, mut tap) = any_queue(&rt, rt.alloc(), 3)?;
-    assert_eq!(rt; feeds.len(), 3);
+    assert!(rt; feeds.len() == 3);
     let puts = [(2, 0), (0, 0), (1, 0), (2, 1)];
     for (feeder, number) in puts {
         put_by(&rt, &mut feeds, feeder, number);
     }
     for (feeder, number) in puts {
-        assert_eq!(rt; tap.take(&rt), Some(item_of(feeder, number)));
+        assert!(rt; tap.take(&rt) == Some(item_of(feeder, number)));
     }
-    assert_eq!(rt; tap.take(&rt), None);
+    assert!(rt; tap.take(&rt).is_none());
     Ok(())
 }

@@ -60,14 +60,14 @@ fn put_round<R: Wait + Abort>(rt: &R, ends: &mut Ends, feeders: u32, number: u64
 /// The items of this number come next, that of each feeder once, in the order in which they were put.
 fn take_round<R: Wait + Abort>(rt: &R, ends: &mut Ends, feeders: u32, number: u64) {
     for feeder in 0..feeders {
-        assert_eq!(rt; ends.take(rt), Some(item_of(feeder, number)));
+        assert!(rt; ends.take(rt) == Some(item_of(feeder, number)));
     }
 }
 
 /// The items of this number are the next that are left.
 fn left_round(rt: &impl Abort, queue: &mut SerialQueue, feeders: u32, number: u64) {
     for feeder in 0..feeders {
-        assert_eq!(rt; queue.take(), Some(item_of(feeder, number)));
+        assert!(rt; queue.take() == Some(item_of(feeder, number)));
     }
 }
 
@@ -77,11 +77,11 @@ fn two_of_each_are_left<R: Wait + Abort>(
     rejoined: Rejoined,
     feeders: u32,
 ) -> Result<(), Fail> {
-    assert_eq!(rt; rejoined.len() as u64, feeders as u64 * 2);
+    assert!(rt; rejoined.len() as u64 == feeders as u64 * 2);
     let mut queue = rejoined.into_serial(rt).map_err(|(_, error)| error)?;
     left_round(rt, &mut queue, feeders, 1);
     left_round(rt, &mut queue, feeders, 2);
-    assert_eq!(rt; queue.take(), None);
+    assert!(rt; queue.take().is_none());
     Ok(())
 }
 

@@ -14,18 +14,18 @@ fn a_refused_call_succeeds_when_it_is_made_again(rt: HostRuntime) -> Result<(), 
     };
     let (feeds, first, second, mut tap) = opened?;
     let (first, put) = put_all(&rt, first, 0, ITEMS);
-    assert_eq!(rt; put, ITEMS);
-    assert_eq!(rt; tap.take(&rt), Some(item_of(0, 0)));
+    assert!(rt; put == ITEMS);
+    assert!(rt; tap.take(&rt) == Some(item_of(0, 0)));
     let rejoined = rejoin_two(&rt, feeds, first, second, tap)?;
-    assert_eq!(rt; rejoined.len() as u64, ITEMS - 1);
+    assert!(rt; rejoined.len() as u64 == ITEMS - 1);
     let serial = match rejoined.into_serial(&rt) {
         Ok(queue) => Ok(queue),
         Err((same, _)) => same.into_serial(&rt),
     };
     let mut queue = serial.map_err(|(_, error)| error)?;
     for number in 1..ITEMS {
-        assert_eq!(rt; queue.take(), Some(item_of(0, number)));
+        assert!(rt; queue.take() == Some(item_of(0, number)));
     }
-    assert_eq!(rt; queue.take(), None);
+    assert!(rt; queue.take().is_none());
     Ok(())
 }

@@ -85,10 +85,10 @@ fn two_threads_put_while_a_third_takes(rt: HostRuntime) -> Result<(), Fail> {
     let (feeds, first, second, tap) = open_two(&rt, rt.alloc())?;
     let taken = Vec::with_capacity(rt.alloc(), WANTED)?;
     let ((first, a), ((second, b), (tap, taken))) = worked(&rt, first, second, tap, taken);
-    assert_eq!(rt; (a, b), (ITEMS, ITEMS));
-    assert_eq!(rt; taken.len(), WANTED);
+    assert!(rt; (a, b) == (ITEMS, ITEMS));
+    assert!(rt; taken.len() == WANTED);
     let rejoined = rejoin_two(&rt, feeds, first, second, tap)?;
-    assert_eq!(rt; rejoined.len(), 1_500);
+    assert!(rt; rejoined.len() == 1_500);
     let left = rejoined.into_serial(&rt).map_err(|(_, error)| error)?;
     for worker in 0..2 {
         assert!(rt; all_in_order(worker, &taken, &left));
