@@ -93,17 +93,17 @@ fn make_call<S: Agents>(
 {
     match act {
         Act::Step(pick, expected) => {
-            assert_eq!(rt; step(worker, routes, board, *pick, *expected), *expected);
+            assert!(rt; step(worker, routes, board, *pick, *expected) == *expected);
             Ok(())
         }
         Act::Comes(token) => come(routes, board, token),
         Act::Finds(station, expected) => {
-            assert_eq!(rt; find(routes, board, *station), *expected);
+            assert!(rt; find(routes, board, *station) == *expected);
             Ok(())
         }
         Act::Counts(made, left, settled) => {
             let counts = (worker.made(), worker.left_in_ports(), worker.is_settled());
-            assert_eq!(rt; counts, (*made, *left, *settled));
+            assert!(rt; counts == (*made, *left, *settled));
             Ok(())
         }
     }

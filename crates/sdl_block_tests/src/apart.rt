@@ -152,14 +152,14 @@ fn pass_on<S: Agents + Drop, R: Wait + Abort>(
 {
     let mut worker = worker;
     let (mut own, mut before, mut behind) = ends;
-    assert_eq!(rt; step(rt, &mut worker, routes, &mut own), Stepped::Did);
-    assert_eq!(rt; leaves(rt, &mut behind), Some(token(0)));
-    assert_eq!(rt; step(rt, &mut worker, routes, &mut own), Stepped::Idle);
+    assert!(rt; step(rt, &mut worker, routes, &mut own) == Stepped::Did);
+    assert!(rt; leaves(rt, &mut behind) == Some(token(0)));
+    assert!(rt; step(rt, &mut worker, routes, &mut own) == Stepped::Idle);
     comes(rt, &mut before, token(1))?;
-    assert_eq!(rt; step(rt, &mut worker, routes, &mut own), Stepped::Did);
-    assert_eq!(rt; leaves(rt, &mut behind), Some(token(2)));
-    assert_eq!(rt; leaves(rt, &mut behind), None);
-    assert_eq!(rt; (worker.made(), worker.left_in_ports()), (2, 0));
+    assert!(rt; step(rt, &mut worker, routes, &mut own) == Stepped::Did);
+    assert!(rt; leaves(rt, &mut behind) == Some(token(2)));
+    assert!(rt; leaves(rt, &mut behind) == None);
+    assert!(rt; (worker.made(), worker.left_in_ports()) == (2, 0));
     Ok(())
 }
 

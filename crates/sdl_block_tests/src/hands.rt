@@ -84,10 +84,10 @@ fn in_order(rt: &impl Abort, alloc: Global) -> Result<(), Stop> {
     add(&routes, &mut hand, token(3, THERE))?;
     put_out(rt, &routes, &mut board, &mut hand)?;
     assert!(rt; hand.outgoing.is_empty());
-    assert_eq!(rt; take_from(&mut board, out_of_p()), Some(token(1, THERE)));
-    assert_eq!(rt; take_from(&mut board, out_of_p()), Some(token(3, THERE)));
-    assert_eq!(rt; take_from(&mut board, out_of_p()), None);
-    assert_eq!(rt; take_from(&mut board, out_of_q()), Some(token(2, BACK)));
+    assert!(rt; take_from(&mut board, out_of_p()) == Some(token(1, THERE)));
+    assert!(rt; take_from(&mut board, out_of_p()) == Some(token(3, THERE)));
+    assert!(rt; take_from(&mut board, out_of_p()) == None);
+    assert!(rt; take_from(&mut board, out_of_q()) == Some(token(2, BACK)));
     Ok(())
 }
 

@@ -77,9 +77,9 @@ fn use_worker<S: Agents + Drop>(
     act_all(rt, &mut worker, routes, board, plan.acts)?;
     let counted = (worker.made(), worker.left_in_ports());
     let (core, hand) = worker.into_parts();
-    assert_eq!(rt; (core.made(), core.left_in_ports()), counted);
-    assert_eq!(rt; core.block(), BlockId(0));
-    assert_eq!(rt; hand.kept.as_ref().map(token_of), plan.keeps);
-    assert_eq!(rt; hand.outgoing.len(), 0);
+    assert!(rt; (core.made(), core.left_in_ports()) == counted);
+    assert!(rt; core.block() == BlockId(0));
+    assert!(rt; hand.kept.as_ref().map(token_of) == plan.keeps);
+    assert!(rt; hand.outgoing.len() == 0);
     Ok(())
 }

@@ -48,11 +48,11 @@ fn are_in_order(rt: &impl Abort, route: u32, marks: &[Mark]) {
     let mut next: u64 = 0;
     for mark in marks {
         if mark.0 == route {
-            assert_eq!(rt; mark.2, next);
+            assert!(rt; mark.2 == next);
             next = next.saturating_add(1);
         }
     }
-    assert_eq!(rt; next, ITEMS);
+    assert!(rt; next == ITEMS);
 }
 
 /// Lets the three work, and looks at what was taken and then what is left.
@@ -60,14 +60,14 @@ fn cross<R: Threads + Wait + Sync + Abort>(rt: &R, alloc: Global) -> Result<(), 
     let left = work_at_once(rt, alloc, &Crossing)?;
     let mut marks = Vec::new(alloc);
     for task in left.tasks.as_slice() {
-        assert_eq!(rt; task.taken.len(), task.wanted);
+        assert!(rt; task.taken.len() == task.wanted);
         for mark in task.taken.as_slice() {
             marks.push(*mark)?;
         }
     }
-    assert_eq!(rt; marks.len(), WANTED);
+    assert!(rt; marks.len() == WANTED);
     for (station, rest) in left.rests {
-        assert_eq!(rt; rest.len(), if station == line(2) { 1_500 } else { 0 });
+        assert!(rt; rest.len() == if station == line(2) { 1_500 } else { 0 });
         add_left(rt, &mut marks, rest)?;
     }
     are_in_order(rt, 2, marks.as_slice());

@@ -49,7 +49,7 @@ fn bring<R: Wait + Abort>(rt: &R, relay: &mut Opened, channel: u32, times: u32) 
             Some(Forwarded::Held) => relay.forward(rt, &mut forwarder),
             step => step,
         };
-        assert_eq!(rt; step, Some(Forwarded::Moved));
+        assert!(rt; step == Some(Forwarded::Moved));
     }
     assert!(rt; forwarder.held().is_none());
 }
@@ -77,7 +77,7 @@ fn pass<R: Wait>(rt: &R, relay: &mut Opened, block: u32, times: u32) -> Result<(
 fn come<R: Wait + Abort>(rt: &R, relay: &mut Opened, expected: &[Mark]) {
     for mark in expected {
         let item = relay.take(rt, Worker::Environment);
-        assert_eq!(rt; item.as_ref().map(mark_of), Some(*mark));
+        assert!(rt; item.as_ref().map(mark_of) == Some(*mark));
     }
 }
 
@@ -154,7 +154,7 @@ fn each_is_in_place<R: Wait + Abort>(rt: &R, alloc: Global) -> Result<(), Stop> 
     bring(rt, &mut relay, 3, 3);
     come(rt, &mut relay, &[(4, 0, 0), (4, 0, 1)]);
     for (place, (station, rest)) in relay.rejoin(rt).into_iter().enumerate() {
-        assert_eq!(rt; station, station_at(place));
+        assert!(rt; station == station_at(place));
         are_left(rt, rest, left_at(place), place)?;
     }
     Ok(())

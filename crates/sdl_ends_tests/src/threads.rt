@@ -126,7 +126,7 @@ fn relay<R: Threads + Wait + Sync + Abort>(rt: &R, alloc: Global) -> Result<(), 
     let first = taken_by(tasks.as_slice(), 0);
     let second = taken_by(tasks.as_slice(), 1);
     let environment = taken_by(tasks.as_slice(), 2);
-    assert_eq!(rt; environment.len(), WANTED);
+    assert!(rt; environment.len() == WANTED);
     let nobody: &[Mark] = &[];
     let ways = [
         (0, nobody, first),

@@ -110,10 +110,10 @@ fn three_queues<R: Wait>(
 /// The list is that of all three stations, with all their items.
 fn are_complete(rt: &impl Abort, rests: &[(Station, Rest)]) {
     let expected = [(PATH, 40), (INLET, 0), (Station::Outlet, 2)];
-    assert_eq!(rt; rests.len(), expected.len());
+    assert!(rt; rests.len() == expected.len());
     for ((station, rest), (named, count)) in rests.iter().zip(&expected) {
-        assert_eq!(rt; station, named);
-        assert_eq!(rt; rest.len(), *count);
+        assert!(rt; station == named);
+        assert!(rt; rest.len() == *count);
     }
 }
 
@@ -138,7 +138,7 @@ fn adopt<R: Wait + Abort>(rt: &R, rests: Vec<(Station, Rest)>) -> Result<Board, 
 fn take_all(rt: &impl Abort, board: &mut Board, station: Station, from: u64, to: u64) {
     for number in from..to {
         let item = board.take(station);
-        assert_eq!(rt; item.map(|item| item.origin.number), Some(number));
+        assert!(rt; item.map(|item| item.origin.number) == Some(number));
     }
     assert!(rt; board.take(station).is_none());
 }
@@ -146,10 +146,10 @@ fn take_all(rt: &impl Abort, board: &mut Board, station: Station, from: u64, to:
 /// The board has the three stations, in order, and nothing is left at any.
 fn is_empty(rt: &impl Abort, board: Board) {
     let rests = board.into_rests();
-    assert_eq!(rt; rests.len(), 3);
+    assert!(rt; rests.len() == 3);
     for ((station, rest), named) in rests.iter().zip(&[PATH, INLET, Station::Outlet]) {
-        assert_eq!(rt; station, named);
-        assert_eq!(rt; rest.len(), 0);
+        assert!(rt; station == named);
+        assert!(rt; rest.len() == 0);
     }
 }
 

@@ -101,7 +101,7 @@ fn a_forwarder_of_relay_hands_on_through_its_own_ends(rt: HostRuntime) -> Result
     let (mut before, tap) = open_one(&rt, rt.alloc())?;
     let (feed, mut behind) = open_one(&rt, rt.alloc())?;
     let mut between = Between::new(rt.alloc(), routes, hop(2, false), tap, line(8, false), feed)?;
-    assert_eq!(rt; between.step(&rt), Forwarded::Idle);
+    assert!(rt; between.step(&rt) == Forwarded::Idle);
     for number in 0..ITEMS {
         assert!(rt;
             before
@@ -110,12 +110,9 @@ fn a_forwarder_of_relay_hands_on_through_its_own_ends(rt: HostRuntime) -> Result
         );
     }
     for number in 0..ITEMS {
-        assert_eq!(rt; between.step(&rt), Forwarded::Moved);
-        assert_eq!(rt;
-            behind.take(&rt).map(|item| item.origin.number),
-            Some(number)
-        );
+        assert!(rt; between.step(&rt) == Forwarded::Moved);
+        assert!(rt; behind.take(&rt).map(|item| item.origin.number) == Some(number));
     }
-    assert_eq!(rt; between.step(&rt), Forwarded::Idle);
+    assert!(rt; between.step(&rt) == Forwarded::Idle);
     Ok(())
 }

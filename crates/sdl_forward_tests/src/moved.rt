@@ -16,21 +16,21 @@ fn step_times(
     expected: Forwarded,
 ) {
     for _ in 0..times {
-        assert_eq!(rt; bench.step(forwarder), expected);
+        assert!(rt; bench.step(forwarder) == expected);
     }
 }
 
 /// Takes what waits at the station.
 fn take_all(rt: &impl Abort, bench: &mut Bench, station: Station, expected: &[Option<u64>]) {
     for one in expected {
-        assert_eq!(rt; bench.take(station), *one);
+        assert!(rt; bench.take(station) == *one);
     }
 }
 
 /// Nothing is left on the board.
 fn is_empty(rt: &impl Abort, board: Board) {
     for (_, rest) in board.into_rests() {
-        assert_eq!(rt; rest.len(), 0);
+        assert!(rt; rest.len() == 0);
     }
 }
 
@@ -52,7 +52,7 @@ fn forwarders_bring_items_along_their_routes_in_order(rt: HostRuntime) -> Result
     step_times(&rt, &mut echo, &mut first, 2, Forwarded::Moved);
     step_times(&rt, &mut echo, &mut second, 2, Forwarded::Moved);
     step_times(&rt, &mut echo, &mut second, 1, Forwarded::Idle);
-    assert_eq!(rt; held(&second), None);
+    assert!(rt; held(&second) == None);
     let inlet = Station::Inlet(BlockId(0));
     take_all(&rt, &mut echo, inlet, &[Some(0), Some(1), None]);
     take_all(&rt, &mut echo, line(0, false), &[Some(2)]);
@@ -67,9 +67,9 @@ fn stays_held(rt: &impl Abort, echo: &mut Bench, lost: u32) -> Result<(), Fail> 
     echo.put_behind(0, None, item_of(lost, 7))?;
     echo.put_behind(0, None, item_of(0, 8))?;
     step_times(rt, echo, &mut forwarder, 1, Forwarded::Held);
-    assert_eq!(rt; held(&forwarder), Some(7));
+    assert!(rt; held(&forwarder) == Some(7));
     step_times(rt, echo, &mut forwarder, 1, Forwarded::Held);
-    assert_eq!(rt; held(&forwarder), Some(7));
+    assert!(rt; held(&forwarder) == Some(7));
     take_all(rt, echo, line(0, false), &[Some(8)]);
     Ok(())
 }

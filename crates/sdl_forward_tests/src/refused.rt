@@ -21,7 +21,7 @@ fn put_all(bench: &mut Bench) -> Result<(), Fail> {
 fn bring(rt: &impl Abort, bench: &mut Bench, forwarder: &mut Forwarder, number: u64) -> Forwarded {
     match bench.step(forwarder) {
         Forwarded::Held => {
-            assert_eq!(rt; held(forwarder), Some(number));
+            assert!(rt; held(forwarder) == Some(number));
             bench.step(forwarder)
         }
         step => step,
@@ -31,14 +31,14 @@ fn bring(rt: &impl Abort, bench: &mut Bench, forwarder: &mut Forwarder, number: 
 /// Lets the forwarder bring the items on.
 fn bring_all(rt: &impl Abort, bench: &mut Bench, forwarder: &mut Forwarder) {
     for number in 0..ITEMS {
-        assert_eq!(rt; bring(rt, bench, forwarder, number), Forwarded::Moved);
+        assert!(rt; bring(rt, bench, forwarder, number) == Forwarded::Moved);
     }
 }
 
 /// Takes the items out of the inlet.
 fn take_all(rt: &impl Abort, bench: &mut Bench) {
     for number in 0..ITEMS {
-        assert_eq!(rt; bench.take(Station::Inlet(BlockId(0))), Some(number));
+        assert!(rt; bench.take(Station::Inlet(BlockId(0))) == Some(number));
     }
 }
 
@@ -49,8 +49,8 @@ fn a_refused_call_succeeds_when_it_is_made_again(rt: HostRuntime) -> Result<(), 
     let mut forwarder = Forwarder::new(hop(1, false));
     put_all(&mut echo)?;
     bring_all(&rt, &mut echo, &mut forwarder);
-    assert_eq!(rt; echo.step(&mut forwarder), Forwarded::Idle);
+    assert!(rt; echo.step(&mut forwarder) == Forwarded::Idle);
     take_all(&rt, &mut echo);
-    assert_eq!(rt; echo.take(Station::Inlet(BlockId(0))), None);
+    assert!(rt; echo.take(Station::Inlet(BlockId(0))) == None);
     Ok(())
 }

@@ -98,10 +98,10 @@ const SEEN: &[u8] = b"g at 0 0\ng at 2 2\ng at 15 15\ng at 14 20\ng at 14 20\n";
 
 /// All but the logs of a run of that.
 fn assert_round(rt: &impl Abort, ran: &Ran) {
-    assert_eq!(rt; ran.output.as_slice(), SEEN);
-    assert_eq!(rt; ran.broken, None);
-    assert_eq!(rt; ran.end, RunEnd::Quiet);
-    assert_eq!(rt; ran.fired, (25, 1));
+    assert!(rt; ran.output.as_slice() == SEEN);
+    assert!(rt; ran.broken == None);
+    assert!(rt; ran.end == RunEnd::Quiet);
+    assert!(rt; ran.fired == (25, 1));
 }
 
 /// Whether the log is stored or not, each of the 16 states is passed.
@@ -112,7 +112,7 @@ fn a_wheel_turns(rt: HostRuntime) -> Result<(), Fail> {
     assert!(rt; kept.stored > 26);
     let counted = run_wheel::<Unstored>(rt.alloc(), SOUND, ROUND)?;
     assert_round(&rt, &counted);
-    assert_eq!(rt; counted.stored, 0);
+    assert!(rt; counted.stored == 0);
     Ok(())
 }
 
@@ -123,8 +123,8 @@ fn a_wheel_halts(rt: HostRuntime) -> Result<(), Fail> {
         SOUND,
         b"g turn\ng back\ng look\ng halt\ng look\n",
     )?;
-    assert_eq!(rt; ran.output.as_slice(), b"g at 0 2\n".as_slice());
-    assert_eq!(rt; ran.fired, (4, 0));
+    assert!(rt; ran.output.as_slice() == b"g at 0 2\n".as_slice());
+    assert!(rt; ran.fired == (4, 0));
     Ok(())
 }
 
@@ -137,10 +137,10 @@ fn assert_marked(rt: &impl Abort, ran: &Ran) {
         first: BROKEN,
         count: 2,
     });
-    assert_eq!(rt; ran.output.as_slice(), b"g at 1 1\ng at 3 3\n".as_slice());
-    assert_eq!(rt; ran.broken, broken);
-    assert_eq!(rt; ran.end, RunEnd::Quiet);
-    assert_eq!(rt; ran.fired, (7, 0));
+    assert!(rt; ran.output.as_slice() == b"g at 1 1\ng at 3 3\n".as_slice());
+    assert!(rt; ran.broken == broken);
+    assert!(rt; ran.end == RunEnd::Quiet);
+    assert!(rt; ran.fired == (7, 0));
 }
 
 #[test]

@@ -51,7 +51,7 @@ fn stopping() -> Offer {
 
 #[test]
 fn an_offer_is_whole_or_none(rt: HostRuntime) -> Result<(), Fail> {
-    assert_eq!(rt; with_outputs(16).outputs.len(), 16);
+    assert!(rt; with_outputs(16).outputs.len() == 16);
     assert!(rt; !can_end(&with_outputs(17)));
     assert!(rt; can_end(&with_next_states(16)));
     assert!(rt; !can_end(&with_next_states(17)));
@@ -90,7 +90,7 @@ fn sorts_have_room_or_none(rt: HostRuntime) -> Result<(), Fail> {
 
 #[test]
 fn a_step_is_whole_or_breaks_its_offer(rt: HostRuntime) -> Result<(), Fail> {
-    assert_eq!(rt; with_actions(8).actions.len(), 8);
+    assert!(rt; with_actions(8).actions.len() == 8);
     assert!(rt; conforms(&stopping(), &with_actions(8)));
     assert!(rt; !conforms(&stopping(), &with_actions(9)));
     Ok(())

@@ -122,9 +122,9 @@ fn what_breaks_the_offer_is_replaced(rt: HostRuntime) -> Result<(), Fail> {
         .set_variable(1, Value::Integer(6))
         .build();
     let step = kept(&sample_offer(), &sample_frame(), broken);
-    assert_eq!(rt; step.actions.len(), 0);
-    assert_eq!(rt; step.vars.as_slice(), sample_frame().vars.as_slice());
-    assert_eq!(rt; step.next, Next::State(StateId(0)));
+    assert!(rt; step.actions.len() == 0);
+    assert!(rt; step.vars.as_slice() == sample_frame().vars.as_slice());
+    assert!(rt; step.next == Next::State(StateId(0)));
     Ok(())
 }
 
@@ -135,8 +135,8 @@ fn what_conforms_is_unchanged(rt: HostRuntime) -> Result<(), Fail> {
         &sample_frame(),
         going().create(SetId(1)).build(),
     );
-    assert_eq!(rt; step.actions.len(), 1);
-    assert_eq!(rt; step.next, Next::State(StateId(1)));
+    assert!(rt; step.actions.len() == 1);
+    assert!(rt; step.next == Next::State(StateId(1)));
     Ok(())
 }
 

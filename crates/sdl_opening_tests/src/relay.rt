@@ -60,12 +60,12 @@ fn station_at(place: u32) -> Station {
 
 /// Thirteen workers, no item, and an empty queue for each of the thirteen stations, in order.
 pub fn is_relay(rt: &impl Abort, opened: &(usize, u32, Vec<(Station, Rest)>)) {
-    assert_eq!(rt; opened.0, 13);
-    assert_eq!(rt; opened.1, 0);
-    assert_eq!(rt; opened.2.len(), 13);
+    assert!(rt; opened.0 == 13);
+    assert!(rt; opened.1 == 0);
+    assert!(rt; opened.2.len() == 13);
     for (place, (station, rest)) in opened.2.iter().enumerate() {
-        assert_eq!(rt; *station, station_at(place as u32));
-        assert_eq!(rt; rest.len(), 0);
+        assert!(rt; *station == station_at(place as u32));
+        assert!(rt; rest.len() == 0);
     }
 }
 

@@ -37,7 +37,7 @@ fn run_pipe(
 fn pipe_writes_what_it_read(rt: HostRuntime) -> Result<(), Fail> {
     let it = run_pipe(rt.alloc(), &mut reader_of(TWO_LINES), 100, 0)?;
     assert!(rt; it.ends == (InputEnd::Whole, OutputEnd::Whole));
-    assert_eq!(rt; it.written.as_slice(), TWO_LINES);
+    assert!(rt; it.written.as_slice() == TWO_LINES);
     Ok(())
 }
 
@@ -76,7 +76,7 @@ fn pipe_over_a_writer_that_fails(rt: HostRuntime) -> Result<(), Fail> {
     for count in 0..TWO_LINES.len() {
         let it = run_pipe(rt.alloc(), &mut reader_of(TWO_LINES), count, 0)?;
         assert!(rt; it.ends == (InputEnd::Whole, OutputEnd::WriteFault));
-        assert_eq!(rt; it.written.as_slice(), &TWO_LINES[..count]);
+        assert!(rt; it.written.as_slice() == &TWO_LINES[..count]);
     }
     Ok(())
 }
@@ -130,9 +130,9 @@ fn pipe_without_memory_writes_nothing(rt: HostRuntime) {
         &mut errors,
     );
     if status == WHOLE {
-        assert_eq!(rt; output.taken.as_slice(), TWO_LINES);
+        assert!(rt; output.taken.as_slice() == TWO_LINES);
     } else {
-        assert_eq!(rt; status, FAULTY);
+        assert!(rt; status == FAULTY);
         assert!(rt; output.taken.is_empty() || errors.taken.is_empty());
     }
 }

@@ -30,7 +30,7 @@ fn take_some(rt: &impl Abort, tap: &mut RingTap, from: u64, to: u64)
     ensures { tap.new.opening ≡ tap.old.opening }
 {
     for number in from..to {
-        assert_eq!(rt; tap.take(), Some(item_of(number)));
+        assert!(rt; tap.take() == Some(item_of(number)));
     }
 }
 
@@ -38,9 +38,9 @@ fn take_some(rt: &impl Abort, tap: &mut RingTap, from: u64, to: u64)
 fn are_left(rt: &impl Abort, queue: SerialQueue, from: u64, to: u64) {
     let mut queue = queue;
     for number in from..to {
-        assert_eq!(rt; queue.take(), Some(item_of(number)));
+        assert!(rt; queue.take() == Some(item_of(number)));
     }
-    assert_eq!(rt; queue.take(), None);
+    assert!(rt; queue.take() == None);
 }
 
 #[test]
@@ -50,7 +50,7 @@ fn a_flush_moves_what_waits_for_room(rt: HostRuntime) -> Result<(), Fail> {
     take_some(&rt, &mut tap, 0, 1);
     assert!(rt; feed.flush());
     take_some(&rt, &mut tap, 1, 3);
-    assert_eq!(rt; tap.take(), None);
+    assert!(rt; tap.take() == None);
     Ok(())
 }
 
@@ -61,7 +61,7 @@ fn the_backlog_is_left_after_the_ring(rt: HostRuntime) -> Result<(), Fail> {
     take_some(&rt, &mut tap, 0, 1);
     put_some(&rt, &mut feed, 4, 5);
     let rejoined = ring_rejoin(feed, tap);
-    assert_eq!(rt; rejoined.len(), 4);
+    assert!(rt; rejoined.len() == 4);
     let queue = rejoined.into_serial().map_err(|(_, error)| error)?;
     are_left(&rt, queue, 1, 5);
     Ok(())
@@ -80,7 +80,7 @@ fn a_slot_holds_what_waited_for_room(rt: HostRuntime) -> Result<(), Fail> {
     assert!(rt; feed.flush());
     put_some(&rt, &mut feed, 7, 9);
     let rejoined = ring_rejoin(feed, tap);
-    assert_eq!(rt; rejoined.len(), 7);
+    assert!(rt; rejoined.len() == 7);
     let queue = rejoined.into_serial().map_err(|(_, error)| error)?;
     are_left(&rt, queue, 2, 9);
     Ok(())
@@ -97,11 +97,11 @@ fn one_too_many(rt: &impl Abort, alloc: Global, size: usize) -> Result<(), Fail>
     put_some(rt, &mut feed, items, items + 1);
     assert!(rt; !feed.flush());
     take_some(rt, &mut tap, 0, items);
-    assert_eq!(rt; tap.take(), None);
+    assert!(rt; tap.take() == None);
     assert!(rt; feed.flush());
     take_some(rt, &mut tap, items, items + 1);
     let rejoined = ring_rejoin(feed, tap);
-    assert_eq!(rt; rejoined.len(), 0);
+    assert!(rt; rejoined.len() == 0);
     let queue = rejoined.into_serial().map_err(|(_, error)| error)?;
     are_left(rt, queue, 0, 0);
     Ok(())
@@ -128,7 +128,7 @@ fn a_refused_call_succeeds_when_it_is_made_again(rt: HostRuntime) -> Result<(), 
         }
     }
     let rejoined = ring_rejoin(feed, tap);
-    assert_eq!(rt; rejoined.len(), 12);
+    assert!(rt; rejoined.len() == 12);
     let serial = match rejoined.into_serial() {
         Ok(queue) => Ok(queue),
         Err((same, _)) => same.into_serial(),

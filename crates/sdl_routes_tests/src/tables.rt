@@ -49,7 +49,7 @@ fn described(alloc: Global, routes: &Routes) -> Result<String, AllocError> {
 fn are_described(rt: &impl Abort, alloc: Global, file: &str, expected: &str) -> Result<(), Fail> {
     let routes = routes_of(alloc, file)?;
     let text = described(alloc, &routes)?;
-    assert_eq!(rt; text.as_str(), expected);
+    assert!(rt; text.as_str() == expected);
     Ok(())
 }
 
@@ -70,7 +70,7 @@ fn lists_the_routes_of_the_built_in_systems(rt: HostRuntime) -> Result<(), Fail>
 /// The route of this number ends here.
 fn ends_at(rt: &impl Abort, routes: &Routes, number: u32, expected: EndPoint) {
     let end = routes.get(RouteId(number)).map(|route| route.end);
-    assert_eq!(rt; end, Some(expected));
+    assert!(rt; end == Some(expected));
 }
 
 /// The stations of the route of this number are these.
@@ -78,13 +78,13 @@ fn waits_at(rt: &impl Abort, routes: &Routes, number: u32, expected: &[Station])
     let stations = routes
         .get(RouteId(number))
         .map(|route| route.stations.as_slice());
-    assert_eq!(rt; stations, Some(expected));
+    assert!(rt; stations == Some(expected));
 }
 
 #[test]
 fn tells_ends_and_stations(rt: HostRuntime) -> Result<(), Fail> {
     let echo = routes_of(rt.alloc(), ECHO)?;
-    assert_eq!(rt; echo.len(), 2);
+    assert!(rt; echo.len() == 2);
     ends_at(&rt, &echo, 0, EndPoint::Set(SetId(0)));
     ends_at(&rt, &echo, 1, EndPoint::Environment(GateId(0)));
     let back = [
@@ -105,7 +105,7 @@ fn next_is(
     after: Option<Station>,
     expected: Option<Station>,
 ) {
-    assert_eq!(rt; routes.next(RouteId(number), after), expected);
+    assert!(rt; routes.next(RouteId(number), after) == expected);
 }
 
 #[test]
@@ -133,13 +133,13 @@ fn goes_straight_to_the_inlet_where_no_path_delays(rt: HostRuntime) -> Result<()
 
 /// The route is the one that was walked.
 fn is_walked(rt: &impl Abort, route: &Route, walk: &Walk) {
-    assert_eq!(rt; route.signal, walk.signal);
-    assert_eq!(rt; Some(route.hops.as_slice()), walk.hops.get(..walk.length));
+    assert!(rt; route.signal == walk.signal);
+    assert!(rt; Some(route.hops.as_slice()) == walk.hops.get(..walk.length));
 }
 
 /// The routes are those that were walked, in the same order.
 fn are_walked(rt: &impl Abort, routes: &Routes, walks: &[Walk]) {
-    assert_eq!(rt; routes.len(), walks.len());
+    assert!(rt; routes.len() == walks.len());
     for (number, walk) in walks.iter().enumerate() {
         let route = routes.get(RouteId(number as u32));
         assert!(rt; route.is_some());
@@ -169,7 +169,7 @@ fn lists_what_a_slow_walk_finds(rt: HostRuntime) -> Result<(), Fail> {
 /// The fault's text.
 fn shows(rt: &impl Abort, alloc: Global, fault: RouteFault, expected: &str) -> Result<(), Fail> {
     let text = fault.to_string(alloc)?;
-    assert_eq!(rt; text.as_str(), expected);
+    assert!(rt; text.as_str() == expected);
     Ok(())
 }
 

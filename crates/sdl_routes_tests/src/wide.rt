@@ -123,15 +123,15 @@ fn chooses_the_last(rt: &impl Abort, routes: &Routes) {
         goal: Goal::Set(SetId(0)),
         via: Via::Channel(ChannelId(15)),
     };
-    assert_eq!(rt; routes.choose(&last, 7), Some(RouteId(4095)));
+    assert!(rt; routes.choose(&last, 7) == Some(RouteId(4095)));
 }
 
 #[test]
 fn lists_4096_routes_and_no_more(rt: HostRuntime) -> Result<(), Fail> {
     let routes = wide_routes(rt.alloc(), 8)?;
-    assert_eq!(rt; routes.len(), 4096);
+    assert!(rt; routes.len() == 4096);
     chooses_the_last(&rt, &routes);
     let fault = wide_fault(rt.alloc(), 9)?;
-    assert_eq!(rt; fault, Some(RouteFault::TooMany));
+    assert!(rt; fault == Some(RouteFault::TooMany));
     Ok(())
 }

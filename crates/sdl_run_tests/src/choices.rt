@@ -82,12 +82,12 @@ fn entered(log: &[Event]) -> Option<Pid> {
 /// The run left what was chosen, and all else as in any of these runs.
 fn look(rt: &impl Abort, left: &Left, wanted: &Choice) {
     let route = RouteId(wanted.route);
-    assert_eq!(rt; route_read(left.env_put.as_slice()), Some(route));
-    assert_eq!(rt; left.logs.len(), 1);
+    assert!(rt; route_read(left.env_put.as_slice()) == Some(route));
+    assert!(rt; left.logs.len() == 1);
     let pid = Pid::Inst(SetId(0), wanted.serial);
-    assert_eq!(rt; entered(left.logs[0].as_slice()), Some(pid));
-    assert_eq!(rt; left.written.as_slice(), wanted.text);
-    assert_eq!(rt; left.end, RunEnd::Quiet);
+    assert!(rt; entered(left.logs[0].as_slice()) == Some(pid));
+    assert!(rt; left.written.as_slice() == wanted.text);
+    assert!(rt; left.end == RunEnd::Quiet);
     let ledger = Ledger {
         output: 2,
         entered: 2,
@@ -95,7 +95,7 @@ fn look(rt: &impl Abort, left: &Left, wanted: &Choice) {
         environment: 1,
         ..Ledger::default()
     };
-    assert_eq!(rt; left.ledger, ledger);
+    assert!(rt; left.ledger == ledger);
 }
 
 /// With these picks the run chooses this.

@@ -16,12 +16,12 @@ const WORKERS: usize = 9;
 
 /// Looks at what the run left: all that Ring leaves, or, where memory was refused, what balances.
 pub fn look(rt: &impl Abort, plan: &Plan, left: &Left) -> Result<(), Stop> {
-    assert_eq!(rt; left.written.len(), 0);
+    assert!(rt; left.written.len() == 0);
     balances(rt, &left.ledger);
     match left.end {
         RunEnd::Memory(worker) => assert!(rt; (worker as usize) < WORKERS),
         end => {
-            assert_eq!(rt; end, RunEnd::Spent(BlockId(0)));
+            assert!(rt; end == RunEnd::Spent(BlockId(0)));
             is_row(rt, plan.budget.saturating_sub(1), left)?;
         }
     }
@@ -37,7 +37,7 @@ fn balances(rt: &impl Abort, ledger: &Ledger) {
         ledger.gone,
         ledger.left,
     ];
-    assert_eq!(rt; ledger.output, sum(&ends));
+    assert!(rt; ledger.output == sum(&ends));
     let uses = [
         ledger.fired,
         ledger.implicit,
@@ -45,7 +45,7 @@ fn balances(rt: &impl Abort, ledger: &Ledger) {
         ledger.waiting,
         ledger.environment,
     ];
-    assert_eq!(rt; ledger.entered, sum(&uses));
+    assert!(rt; ledger.entered == sum(&uses));
 }
 
 /// The sum of these counts.
@@ -60,9 +60,9 @@ fn sum(counts: &[u64]) -> u64 {
 /// Each block made its start and this many turns more, on the tokens that entered. The token that follows is in the inlet of Q.
 fn is_row(rt: &impl Abort, turns: u32, left: &Left) -> Result<(), Stop> {
     let last = 2 * u64::from(turns);
-    assert_eq!(rt; left.logs.len(), 2);
+    assert!(rt; left.logs.len() == 2);
     for log in left.logs.iter() {
-        assert_eq!(rt; log.len() as u64, last + 1);
+        assert!(rt; log.len() as u64 == last + 1);
     }
     let ledger = Ledger {
         output: last + 1,
@@ -71,36 +71,33 @@ fn is_row(rt: &impl Abort, turns: u32, left: &Left) -> Result<(), Stop> {
         fired: last,
         ..Ledger::default()
     };
-    assert_eq!(rt; left.ledger, ledger);
-    assert_eq!(rt; left.env_put.len(), 0);
-    assert_eq!(rt; left.env_received.len(), 0);
-    assert_eq!(rt;
-        (left.input, left.output),
-        (InputEnd::Whole, OutputEnd::Whole)
-    );
+    assert!(rt; left.ledger == ledger);
+    assert!(rt; left.env_put.len() == 0);
+    assert!(rt; left.env_received.len() == 0);
+    assert!(rt; (left.input, left.output) == (InputEnd::Whole, OutputEnd::Whole));
     are_empty(rt, left.hands.as_slice());
     one_is_left(rt, left.rests.as_slice(), turns)
 }
 
 /// No worker holds anything.
 fn are_empty(rt: &impl Abort, hands: &[Hand]) {
-    assert_eq!(rt; hands.len(), WORKERS);
+    assert!(rt; hands.len() == WORKERS);
     for hand in hands {
-        assert_eq!(rt; hand.kept, None);
-        assert_eq!(rt; hand.outgoing.len(), 0);
+        assert!(rt; hand.kept == None);
+        assert!(rt; hand.outgoing.len() == 0);
     }
 }
 
 /// Only at the inlet of Q anything is left: X's output of this number.
 fn one_is_left(rt: &impl Abort, rests: &[(Station, Rest)], number: u32) -> Result<(), Stop> {
-    assert_eq!(rt; rests.len(), 8);
+    assert!(rt; rests.len() == 8);
     for (station, rest) in rests {
         if *station == Station::Inlet(BlockId(1)) {
-            assert_eq!(rt; rest.len(), 1);
+            assert!(rt; rest.len() == 1);
             let item = front(rest).ok_or("nothing left")?;
-            assert_eq!(rt; *item, token(number));
+            assert!(rt; *item == token(number));
         } else {
-            assert_eq!(rt; rest.len(), 0);
+            assert!(rt; rest.len() == 0);
         }
     }
     Ok(())

@@ -30,7 +30,7 @@ fn a_thousand_lines_are_answered(rt: HostRuntime) -> Result<(), Fail> {
     let left = run(rt.alloc(), 1001)?;
     let wanted = b"line pong 7\n".repeat(rt.alloc(), MANY)?;
     assert!(rt; left.written == wanted);
-    assert_eq!(rt; left.end, RunEnd::Quiet);
+    assert!(rt; left.end == RunEnd::Quiet);
     Ok(())
 }
 
@@ -42,20 +42,20 @@ fn all_wait_at_the_inlet(rt: &impl Abort, rests: &[(Station, Rest)]) {
         } else {
             0
         };
-        assert_eq!(rt; rest.len(), wanted);
+        assert!(rt; rest.len() == wanted);
     }
 }
 
 #[test]
 fn a_thousand_lines_wait_at_a_block_that_is_spent(rt: HostRuntime) -> Result<(), Fail> {
     let left = run(rt.alloc(), 1)?;
-    assert_eq!(rt; left.end, RunEnd::Spent(BlockId(0)));
+    assert!(rt; left.end == RunEnd::Spent(BlockId(0)));
     all_wait_at_the_inlet(&rt, left.rests.as_slice());
     let ledger = Ledger {
         output: MANY as u64,
         left: MANY as u64,
         ..Ledger::default()
     };
-    assert_eq!(rt; left.ledger, ledger);
+    assert!(rt; left.ledger == ledger);
     Ok(())
 }

@@ -29,19 +29,19 @@ fn run<T: Threads + Wait + Sync>(
 fn are_in_order(rt: &impl Abort, received: &[Item], count: u32) {
     let mut next = [0, 1];
     for (place, item) in received.iter().enumerate() {
-        assert_eq!(rt; item.route, received[0].route);
+        assert!(rt; item.route == received[0].route);
         let origin = Origin {
             worker: 1,
             number: place as u64,
         };
-        assert_eq!(rt; item.origin, origin);
+        assert!(rt; item.origin == origin);
         let number = number_of(item);
         let side = if number % 2 == 0 { 0 } else { 1 };
-        assert_eq!(rt; number, next[side]);
+        assert!(rt; number == next[side]);
         next[side] = number.wrapping_add(2);
     }
     let count = i64::from(count);
-    assert_eq!(rt; next, [count, count + 1]);
+    assert!(rt; next == [count, count + 1]);
 }
 
 /// The item of a line that was read, if it went out.
@@ -62,10 +62,10 @@ fn went_out(rt: &impl Abort, env_put: &[EnvOut], count: u32) {
             number: place as u64,
         };
         let sent = item_in(out).map(|item| (item.route, item.origin, number_of(item)));
-        assert_eq!(rt; sent, Some((RouteId(route), origin, next)));
+        assert!(rt; sent == Some((RouteId(route), origin, next)));
         next = next.wrapping_add(1);
     }
-    assert_eq!(rt; next, i64::from(count));
+    assert!(rt; next == i64::from(count));
 }
 
 /// Each route carried all that went out along it, in order, and nothing is left on the way. Half of it comes by way of A, and the
@@ -74,10 +74,10 @@ fn all_came(rt: &impl Abort, left: &Left, count: u32) {
     let half = Some(count as usize / 2);
     let wanted = [half, half, half, half, Some(count as usize)];
     match &left.logs {
-        Some(logs) => assert_eq!(rt; logs.carried.as_slice(), wanted.as_slice()),
+        Some(logs) => assert!(rt; logs.carried.as_slice() == wanted.as_slice()),
         None => assert!(rt; false),
     }
-    assert_eq!(rt; (left.held, left.resting), (0, 0));
+    assert!(rt; (left.held, left.resting) == (0, 0));
 }
 
 /// The number that the signal carries, and -1 where it carries something else.
@@ -97,7 +97,7 @@ fn balances(rt: &impl Abort, ledger: &Ledger) {
         ledger.gone,
         ledger.left,
     ];
-    assert_eq!(rt; ledger.output, sum(&ends));
+    assert!(rt; ledger.output == sum(&ends));
     let uses = [
         ledger.fired,
         ledger.implicit,
@@ -105,7 +105,7 @@ fn balances(rt: &impl Abort, ledger: &Ledger) {
         ledger.waiting,
         ledger.environment,
     ];
-    assert_eq!(rt; ledger.entered, sum(&uses));
+    assert!(rt; ledger.entered == sum(&uses));
 }
 
 /// The sum of these counts.
@@ -121,9 +121,9 @@ fn sum(counts: &[u64]) -> u64 {
 fn logs_look_like(rt: &impl Abort, left: &Left, serial: &Left) {
     match (&left.logs, &serial.logs) {
         (Some(logs), Some(others)) => {
-            assert_eq!(rt; (logs.runs, logs.runs_of_others), (2, 0));
-            assert_eq!(rt; logs.crossed, None);
-            assert_eq!(rt; logs.events, others.events);
+            assert!(rt; (logs.runs, logs.runs_of_others) == (2, 0));
+            assert!(rt; logs.crossed == None);
+            assert!(rt; logs.events == others.events);
         }
         _ => assert!(rt; false),
     }
@@ -131,12 +131,12 @@ fn logs_look_like(rt: &impl Abort, left: &Left, serial: &Left) {
 
 /// The run left what a run in turns leaves, in some order.
 fn looks_like(rt: &impl Abort, left: &Left, serial: &Left, count: u32) {
-    assert_eq!(rt; left.end, RunEnd::Quiet);
-    assert_eq!(rt; left.input, InputEnd::Whole);
-    assert_eq!(rt; left.output, OutputEnd::Whole);
+    assert!(rt; left.end == RunEnd::Quiet);
+    assert!(rt; left.input == InputEnd::Whole);
+    assert!(rt; left.output == OutputEnd::Whole);
     balances(rt, &left.ledger);
-    assert_eq!(rt; left.ledger, serial.ledger);
-    assert_eq!(rt; left.written.len(), serial.written.len());
+    assert!(rt; left.ledger == serial.ledger);
+    assert!(rt; left.written.len() == serial.written.len());
     went_out(rt, left.env_put.as_slice(), count);
     all_came(rt, left, count);
     logs_look_like(rt, left, serial);

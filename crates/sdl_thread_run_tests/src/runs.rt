@@ -17,9 +17,9 @@ fn two_blocks_make_their_first_step_at_once(rt: HostRuntime) -> Result<(), Fail>
     let meeting = Meeting::new();
     let calls = Arc::new(rt.alloc(), AtomicU64::new(0))?;
     let left = counted::run(&rt, rt.alloc(), &calls, &[], Some(&meeting), Logs::Stored)?;
-    assert_eq!(rt; meeting.met.load(SeqCst), 2);
-    assert_eq!(rt; left.end, RunEnd::Quiet);
-    assert_eq!(rt; left.ledger, Ledger::default());
+    assert!(rt; meeting.met.load(SeqCst) == 2);
+    assert!(rt; left.end == RunEnd::Quiet);
+    assert!(rt; left.ledger == Ledger::default());
     Ok(())
 }
 
@@ -41,10 +41,10 @@ fn threads_carry_signals_and_make_turns(rt: HostRuntime) -> Result<(), Fail> {
         Some(&holding),
         Logs::Stored,
     )?;
-    assert_eq!(rt; holding.met.load(SeqCst), 2);
+    assert!(rt; holding.met.load(SeqCst) == 2);
     let wanted = lines(rt.alloc(), ["sink out", "sink out"], 1..51)?;
-    assert_eq!(rt; left.written.as_slice(), wanted.as_slice());
-    assert_eq!(rt; left.end, RunEnd::Quiet);
+    assert!(rt; left.written.as_slice() == wanted.as_slice());
+    assert!(rt; left.end == RunEnd::Quiet);
     let ledger = Ledger {
         output: 150,
         entered: 150,
@@ -52,7 +52,7 @@ fn threads_carry_signals_and_make_turns(rt: HostRuntime) -> Result<(), Fail> {
         environment: 50,
         ..Ledger::default()
     };
-    assert_eq!(rt; left.ledger, ledger);
+    assert!(rt; left.ledger == ledger);
     Ok(())
 }
 
@@ -72,10 +72,10 @@ fn two_hundred_lines_come_in_their_order_behind_a_held_forwarder(
         Some(&held),
         Logs::Stored,
     )?;
-    assert_eq!(rt; held.met.load(SeqCst), 1);
+    assert!(rt; held.met.load(SeqCst) == 1);
     let wanted = lines(rt.alloc(), ["sink out", "sink out"], 1..201)?;
-    assert_eq!(rt; left.written.as_slice(), wanted.as_slice());
-    assert_eq!(rt; left.end, RunEnd::Quiet);
+    assert!(rt; left.written.as_slice() == wanted.as_slice());
+    assert!(rt; left.end == RunEnd::Quiet);
     Ok(())
 }
 
@@ -109,10 +109,10 @@ fn a_run_that_counts_its_logs_leaves_what_one_that_stores_them_does(
         ..Ledger::default()
     };
     for left in [&stored, &counted] {
-        assert_eq!(rt; left.written.as_slice(), wanted.as_slice());
-        assert_eq!(rt; left.ledger, ledger);
-        assert_eq!(rt; left.end, RunEnd::Quiet);
-        assert_eq!(rt; (left.env_put.len(), left.held, left.resting), (300, 0, 0));
+        assert!(rt; left.written.as_slice() == wanted.as_slice());
+        assert!(rt; left.ledger == ledger);
+        assert!(rt; left.end == RunEnd::Quiet);
+        assert!(rt; (left.env_put.len(), left.held, left.resting) == (300, 0, 0));
     }
     assert!(rt; stored.env_received == counted.env_received);
     Ok(())

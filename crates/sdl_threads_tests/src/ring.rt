@@ -162,11 +162,11 @@ fn passed(worker: &Returned<Passer>) -> Option<u64> {
 #[test]
 fn none_stops_before_all_are_at_rest(rt: HostRuntime) -> Result<(), Fail> {
     let (workers, fourth) = go_round(&rt, rt.alloc(), &OpenGate)?;
-    assert_eq!(rt; workers.len(), 3);
+    assert!(rt; workers.len() == 3);
     for worker in workers.as_slice() {
-        assert_eq!(rt; passed(worker), Some(100));
+        assert!(rt; passed(worker) == Some(100));
     }
-    assert_eq!(rt; passed(&fourth), Some(100));
+    assert!(rt; passed(&fourth) == Some(100));
     Ok(())
 }
 
@@ -200,7 +200,7 @@ fn all_workers_make_their_first_step_at_once(rt: HostRuntime) -> Result<(), Fail
         met: AtomicU64::new(0),
     };
     let (_workers, _fourth) = go_round(&rt, rt.alloc(), &meeting)?;
-    assert_eq!(rt; meeting.came.load(SeqCst), 4);
-    assert_eq!(rt; meeting.met.load(SeqCst), 4);
+    assert!(rt; meeting.came.load(SeqCst) == 4);
+    assert!(rt; meeting.met.load(SeqCst) == 4);
     Ok(())
 }

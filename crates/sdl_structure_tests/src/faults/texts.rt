@@ -7,7 +7,7 @@ use std::test::Fail;
 
 fn prints(rt: &impl Abort, alloc: Global, fault: FileFault, text: &str) -> Result<(), AllocError> {
     let printed = format!(in alloc; "{}", fault)?;
-    assert_eq!(rt; printed.as_str(), text);
+    assert!(rt; printed.as_str() == text);
     Ok(())
 }
 
