@@ -9,7 +9,7 @@ use std::process::Abort;
 use std::test::Fail;
 
 /// Errors of a reader that are no interruptions.
-const FAILURES: [ErrorKind; 4] = [
+const FAILURES: &[ErrorKind] = &[
     ErrorKind::Other,
     ErrorKind::WouldBlock,
     ErrorKind::TimedOut,
@@ -69,14 +69,14 @@ fn stays_at_a_fault(rt: &impl Abort, kind: ErrorKind) {
     for _ in 0..4 {
         assert!(rt; source.next(&mut input) == LineRead::Fault);
     }
-    assert_eq!(rt; input.asked, 2);
-    assert_eq!(rt; input.after.len(), 8);
+    assert!(rt; input.asked == 2);
+    assert!(rt; input.after.len() == 8);
 }
 
 #[test]
 fn a_source_stays_at_a_fault_where_the_reader_goes_on(rt: HostRuntime) {
     for kind in FAILURES {
-        stays_at_a_fault(&rt, kind);
+        stays_at_a_fault(&rt, *kind);
     }
 }
 
@@ -85,14 +85,14 @@ fn a_source_fails_where_nothing_was_read(rt: HostRuntime) {
     for kind in FAILURES {
         let mut input = FailsOnce {
             before: b"",
-            failure: Some(kind),
+            failure: Some(*kind),
             after: b"one\n",
             asked: 0,
         };
         let mut source = LineSource::new();
         assert!(rt; source.next(&mut input) == LineRead::Fault);
         assert!(rt; source.next(&mut input) == LineRead::Fault);
-        assert_eq!(rt; input.asked, 1);
+        assert!(rt; input.asked == 1);
     }
 }
 
@@ -126,7 +126,7 @@ fn a_line_that_is_cut_off_by_a_fault_is_not_carried_out(rt: HostRuntime) -> Resu
     };
     let names = ping_names(rt.alloc(), line, ping)?;
     for kind in FAILURES {
-        environment_stays(&rt, &names, kind);
+        environment_stays(&rt, &names, *kind);
     }
     Ok(())
 }
@@ -142,7 +142,7 @@ fn asked_once(rt: &impl Abort, bytes: &[u8], failure: Option<ErrorKind>) {
     let mut source = LineSource::new();
     assert!(rt; source.next(&mut input) == LineRead::Over);
     assert!(rt; source.next(&mut input) == LineRead::Over);
-    assert_eq!(rt; input.asked, 1);
+    assert!(rt; input.asked == 1);
 }
 
 #[test]
@@ -165,7 +165,7 @@ fn a_reader_is_asked_no_more_where_a_line_is_whole(rt: HostRuntime) {
     let mut source = LineSource::new();
     assert!(rt; is_line(source.next(&mut input), b"one"));
     assert!(rt; is_line(source.next(&mut input), b"two"));
-    assert_eq!(rt; input.asked, 1);
+    assert!(rt; input.asked == 1);
     assert!(rt; source.next(&mut input) == LineRead::Fault);
 }
 

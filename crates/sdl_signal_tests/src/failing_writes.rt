@@ -9,7 +9,7 @@ use std::process::Abort;
 
 /// What a writer answers once: an error that is no interruption, or, where none is given, that it took
 /// nothing.
-const FAILURES: [Option<ErrorKind>; 4] = [
+const FAILURES: &[Option<ErrorKind>] = &[
     None,
     Some(ErrorKind::Other),
     Some(ErrorKind::WouldBlock),
@@ -70,9 +70,9 @@ fn fails_at(place: usize, failure: Option<ErrorKind>) -> FailsOnce {
 fn a_line_stops_where_the_writer_fails_once(rt: HostRuntime) {
     for failure in FAILURES {
         for place in 0..5 {
-            let mut output = fails_at(place, failure);
+            let mut output = fails_at(place, *failure);
             assert!(rt; write_line(&mut output, b"line") == Written::Fault(place));
-            assert_eq!(rt; output.taken.as_slice(), &b"line\n"[..place]);
+            assert!(rt; output.taken.as_slice() == &b"line\n"[..place]);
         }
     }
 }
@@ -80,13 +80,13 @@ fn a_line_stops_where_the_writer_fails_once(rt: HostRuntime) {
 #[test]
 fn what_was_written_before_a_fault_stands(rt: HostRuntime) {
     for failure in FAILURES {
-        let mut output = fails_at(6, failure);
+        let mut output = fails_at(6, *failure);
         let mut sink = LineSink::new();
         assert!(rt; sink.write(&mut output, b"one") == Written::Whole);
         assert!(rt; sink.write(&mut output, b"two") == Written::Fault(2));
-        assert_eq!(rt; output.taken.as_slice(), b"one\ntw".as_slice());
+        assert!(rt; output.taken.as_slice() == b"one\ntw".as_slice());
         assert!(rt; sink.write(&mut output, b"six") == Written::Whole);
-        assert_eq!(rt; output.taken.as_slice(), b"one\ntwsix\n".as_slice());
+        assert!(rt; output.taken.as_slice() == b"one\ntwsix\n".as_slice());
     }
 }
 
@@ -124,7 +124,7 @@ fn write_interrupted(rt: &impl Abort, sink: &mut LineSink, lines: u32, each: u32
     for _ in 0..lines {
         assert!(rt; sink.write(&mut output, b"nine more") == Written::Whole);
     }
-    assert_eq!(rt; output.count / 10, lines);
+    assert!(rt; output.count / 10 == lines);
 }
 
 #[test]
@@ -139,7 +139,7 @@ fn interrupted_writes_are_counted_over_the_life_of_a_sink(rt: HostRuntime) {
             count: 0,
         };
         assert!(rt; sink.write(&mut output, b"nine more") == Written::Fault(0));
-        assert_eq!(rt; output.count, 0);
+        assert!(rt; output.count == 0);
     }
 }
 
@@ -151,5 +151,5 @@ fn one_interruption_too_many_stops_within_a_line(rt: HostRuntime) {
         count: 0,
     };
     assert!(rt; write_line(&mut output, b"nine more") == Written::Fault(3));
-    assert_eq!(rt; output.count, 3);
+    assert!(rt; output.count == 3);
 }
