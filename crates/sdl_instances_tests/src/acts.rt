@@ -14,7 +14,7 @@ use std::alloc::AllocError;
 use std::process::Abort;
 
 /// An item that arrives: by its route, with one parameter at most.
-#[derive(Clone, Copy, Debug)]
+#[derive(Clone, Copy)]
 pub struct Arriving {
     pub route: u32,
     pub signal: SignalId,
@@ -25,7 +25,7 @@ pub struct Arriving {
 }
 
 /// A call with its answer, or a look at the core.
-#[derive(Clone, Copy, Debug)]
+#[derive(Clone, Copy)]
 pub enum Act {
     /// A turn at the pick.
     Turn(u32, Saw),
@@ -83,8 +83,8 @@ pub fn arrive<S: Agents>(
     match core.arrive(routes, item, pick) {
         Ok(arrival) => Ok(arrival),
         Err((same, _)) => {
-            assert_eq!(rt; same, item_of(arriving));
-            assert_eq!(rt; counts(core), before);
+            assert!(rt; same == item_of(arriving));
+            assert!(rt; counts(core) == before);
             assert!(rt; core.can_arrive(routes, &same));
             Ok(core.arrive(routes, same, pick).map_err(|(_, error)| error)?)
         }
@@ -124,7 +124,7 @@ pub fn turn<S: Agents>(
     match turn_once(core, routes, pick) {
         Ok(turned) => Ok(turned),
         Err(_) => {
-            assert_eq!(rt; counts(core), before);
+            assert!(rt; counts(core) == before);
             Ok(turn_once(core, routes, pick)?)
         }
     }

@@ -29,7 +29,7 @@ fn ask_at<S: Agents>(
 {
     let ask = along(ASK, Some(Value::Integer(1)), Pid::Env, None);
     let arrival = arrive(rt, core, routes, &ask, pick)?;
-    assert_eq!(rt; arrival, Arrival::Entered(kid(serial)));
+    assert!(rt; arrival == Arrival::Entered(kid(serial)));
     Ok(())
 }
 
@@ -74,7 +74,7 @@ fn ignore_at<S: Agents>(
     let place = pick as usize % ready.len();
     let pid = kid(ready.remove(place));
     let shown = next_turn(rt, core, routes, pick)?;
-    assert_eq!(rt; (shown.pid, shown.on), (pid, On::Implicit(ASK)));
+    assert!(rt; (shown.pid, shown.on) == (pid, On::Implicit(ASK)));
     Ok(())
 }
 

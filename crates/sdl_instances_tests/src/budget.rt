@@ -7,10 +7,10 @@ use sdl_agents::ring;
 use sdl_agents::ring::TOK;
 use sdl_examples::RING;
 use sdl_signal::{Pid, SetId, Value};
-use std::test::Fail;
+use sdl_test_systems::Stop;
 
 #[test]
-fn the_budget_counts_turns(rt: HostRuntime) -> Result<(), Fail> {
+fn the_budget_counts_turns(rt: HostRuntime) -> Result<(), Stop> {
     let x = Pid::Inst(SetId(0), 1);
     let y = Pid::Inst(SetId(1), 1);
     let sends = |on: On, number: u64, stamp: u64| {
@@ -57,6 +57,5 @@ fn the_budget_counts_turns(rt: HostRuntime) -> Result<(), Fail> {
         plan: &plan,
         kept: (TOK, TOK),
     };
-    ring::run(rt.alloc(), 2, test)??;
-    Ok(())
+    ring::run(rt.alloc(), 2, test)?
 }

@@ -5,10 +5,10 @@ use super::shown::{On, Saw, Shown, quiet};
 use super::spawn::{ASK, DIE, MAKE, NOISE, QUERY, boss, kid};
 use sdl_instances::Arrival;
 use sdl_signal::{Pid, Value};
-use std::test::Fail;
+use sdl_test_systems::Stop;
 
 #[test]
-fn the_pick_chooses_the_ready_and_the_living(rt: HostRuntime) -> Result<(), Fail> {
+fn the_pick_chooses_the_ready_and_the_living(rt: HostRuntime) -> Result<(), Stop> {
     let ask = from_environment(ASK, Some(Value::Integer(5)));
     let acts = [
         Act::Arrive(ask, 3, Arrival::Entered(kid(2))),
@@ -21,8 +21,7 @@ fn the_pick_chooses_the_ready_and_the_living(rt: HostRuntime) -> Result<(), Fail
         ignores(9, 1),
         Act::Turn(1, Saw::Idle),
     ];
-    run_spawn(&rt, rt.alloc(), &acts)?;
-    Ok(())
+    run_spawn(&rt, rt.alloc(), &acts)
 }
 
 /// A turn at the pick in which the Kid lets `ask` go.
@@ -31,7 +30,7 @@ fn ignores(pick: u32, serial: u32) -> Act {
 }
 
 #[test]
-fn a_refused_create_leaves_no_offspring(rt: HostRuntime) -> Result<(), Fail> {
+fn a_refused_create_leaves_no_offspring(rt: HostRuntime) -> Result<(), Stop> {
     let refused = Shown {
         made: Some(Pid::Null),
         no_route: Some(1),
@@ -58,12 +57,11 @@ fn a_refused_create_leaves_no_offspring(rt: HostRuntime) -> Result<(), Fail> {
         implicit,
         Act::Knew(Pid::Null, Pid::Null, Pid::Env),
     ];
-    run_spawn(&rt, rt.alloc(), &acts)?;
-    Ok(())
+    run_spawn(&rt, rt.alloc(), &acts)
 }
 
 #[test]
-fn the_implicit_transition_sets_the_sender(rt: HostRuntime) -> Result<(), Fail> {
+fn the_implicit_transition_sets_the_sender(rt: HostRuntime) -> Result<(), Stop> {
     let query = Arriving {
         sender: kid(2),
         ..from_environment(QUERY, Some(Value::Integer(6)))
@@ -78,6 +76,5 @@ fn the_implicit_transition_sets_the_sender(rt: HostRuntime) -> Result<(), Fail> 
         Act::Turn(0, Saw::Turn(quiet(boss(), On::Implicit(QUERY)))),
         Act::Knew(Pid::Null, Pid::Null, kid(2)),
     ];
-    run_spawn(&rt, rt.alloc(), &acts)?;
-    Ok(())
+    run_spawn(&rt, rt.alloc(), &acts)
 }

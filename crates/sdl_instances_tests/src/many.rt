@@ -1,10 +1,10 @@
 //! Many instances.
 use super::plan::{Plan, Work};
 use super::spawn;
-use std::test::Fail;
+use sdl_test_systems::Stop;
 
 #[test]
-fn as_many_instances_as_a_set_may_have_come_and_go(rt: HostRuntime) -> Result<(), Fail> {
+fn as_many_instances_as_a_set_may_have_come_and_go(rt: HostRuntime) -> Result<(), Stop> {
     let alloc = rt.alloc();
     let file = spawn::file(alloc, 1, 1024)?;
     let plan = Plan {
@@ -12,6 +12,5 @@ fn as_many_instances_as_a_set_may_have_come_and_go(rt: HostRuntime) -> Result<()
         budget: 1_000_000,
         work: Work::Walk(1024, 6000),
     };
-    spawn::run(&rt, alloc, &plan)?;
-    Ok(())
+    spawn::run(&rt, alloc, &plan)
 }

@@ -85,7 +85,7 @@ fn use_core<S: Agents + Drop>(
     }
     let counted = (core.log().len(), core.left_in_ports());
     let (parts, log, left) = core.into_parts();
-    assert_eq!(rt; (log.len(), left), counted);
-    assert_eq!(rt; parts.block, BlockId(0));
+    assert!(rt; (log.len(), left) == counted);
+    assert!(rt; parts.block == BlockId(0));
     Ok(())
 }

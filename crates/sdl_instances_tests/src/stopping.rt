@@ -5,7 +5,7 @@ use super::shown::Saw;
 use super::spawn::{ASK, DIE, HELLO, MAKE, boss, kid};
 use sdl_instances::Cause;
 use sdl_signal::Value;
-use std::test::Fail;
+use sdl_test_systems::Stop;
 
 /// The Kid with the serial number 1 stops, and another is made.
 pub fn stop_and_make() -> [Act; 10] {
@@ -24,13 +24,12 @@ pub fn stop_and_make() -> [Act; 10] {
 }
 
 #[test]
-fn a_kid_stops_and_another_is_made(rt: HostRuntime) -> Result<(), Fail> {
-    run_spawn(&rt, rt.alloc(), &stop_and_make())?;
-    Ok(())
+fn a_kid_stops_and_another_is_made(rt: HostRuntime) -> Result<(), Stop> {
+    run_spawn(&rt, rt.alloc(), &stop_and_make())
 }
 
 #[test]
-fn a_stop_discards_what_is_in_the_port(rt: HostRuntime) -> Result<(), Fail> {
+fn a_stop_discards_what_is_in_the_port(rt: HostRuntime) -> Result<(), Stop> {
     let acts = [
         starts(0, boss()),
         starts(0, kid(1)),
@@ -43,12 +42,11 @@ fn a_stop_discards_what_is_in_the_port(rt: HostRuntime) -> Result<(), Fail> {
         dies(1, 3),
         Act::Counts(4, 0),
     ];
-    run_spawn(&rt, rt.alloc(), &acts)?;
-    Ok(())
+    run_spawn(&rt, rt.alloc(), &acts)
 }
 
 #[test]
-fn a_signal_for_an_empty_set_is_discarded(rt: HostRuntime) -> Result<(), Fail> {
+fn a_signal_for_an_empty_set_is_discarded(rt: HostRuntime) -> Result<(), Stop> {
     let ask = from_environment(ASK, Some(Value::Integer(5)));
     let acts = [
         starts(0, boss()),
@@ -60,6 +58,5 @@ fn a_signal_for_an_empty_set_is_discarded(rt: HostRuntime) -> Result<(), Fail> {
         dies(2, 0),
         is_discarded(ask, Cause::NoInstance),
     ];
-    run_spawn(&rt, rt.alloc(), &acts)?;
-    Ok(())
+    run_spawn(&rt, rt.alloc(), &acts)
 }

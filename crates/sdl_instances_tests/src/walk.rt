@@ -32,19 +32,19 @@ fn make_one<S: Agents>(
 {
     let make = along(MAKE, None, Pid::Env, None);
     let arrival = arrive(rt, core, routes, &make, known.pick())?;
-    assert_eq!(rt; arrival, Arrival::Entered(boss()));
+    assert!(rt; arrival == Arrival::Entered(boss()));
     let shown = next_turn(rt, core, routes, known.pick())?;
-    assert_eq!(rt; (shown.pid, shown.on), (boss(), On::Fire(MAKE)));
+    assert!(rt; (shown.pid, shown.on) == (boss(), On::Fire(MAKE)));
     if known.living.len() == most as usize {
-        assert_eq!(rt; shown.made, Some(Pid::Null));
+        assert!(rt; shown.made == Some(Pid::Null));
         return Ok(());
     }
     let serial = known.last.wrapping_add(1);
-    assert_eq!(rt; shown.made, Some(kid(serial)));
+    assert!(rt; shown.made == Some(kid(serial)));
     known.last = serial;
     known.living.push(serial)?;
     let start = next_turn(rt, core, routes, known.pick())?;
-    assert_eq!(rt; start, quiet(kid(serial), On::Start));
+    assert!(rt; start == quiet(kid(serial), On::Start));
     Ok(())
 }
 
@@ -68,15 +68,15 @@ fn stop_one<S: Agents>(
     let pid = kid(known.living.remove(place));
     let die = along(DIE, None, boss(), Some(pid));
     let arrival = arrive(rt, core, routes, &die, known.pick())?;
-    assert_eq!(rt; arrival, Arrival::Entered(pid));
+    assert!(rt; arrival == Arrival::Entered(pid));
     let dies = Shown {
         stopped: Some(0),
         ..quiet(pid, On::Fire(DIE))
     };
-    assert_eq!(rt; next_turn(rt, core, routes, known.pick())?, dies);
+    assert!(rt; next_turn(rt, core, routes, known.pick())? == dies);
     let hello = along(HELLO, None, boss(), Some(pid));
     let arrival = arrive(rt, core, routes, &hello, known.pick())?;
-    assert_eq!(rt; arrival, Arrival::Discarded(Cause::Gone));
+    assert!(rt; arrival == Arrival::Discarded(Cause::Gone));
     Ok(())
 }
 
@@ -96,14 +96,14 @@ fn ask_one<S: Agents>(
     let ask = along(ASK, Some(Value::Integer(1)), Pid::Env, None);
     let arrival = arrive(rt, core, routes, &ask, pick)?;
     if known.living.is_empty() {
-        assert_eq!(rt; arrival, Arrival::Discarded(Cause::NoInstance));
+        assert!(rt; arrival == Arrival::Discarded(Cause::NoInstance));
         return Ok(());
     }
     let place = pick as usize % known.living.len();
     let pid = kid(known.living[place]);
-    assert_eq!(rt; arrival, Arrival::Entered(pid));
+    assert!(rt; arrival == Arrival::Entered(pid));
     let shown = next_turn(rt, core, routes, known.pick())?;
-    assert_eq!(rt; (shown.pid, shown.on), (pid, On::Implicit(ASK)));
+    assert!(rt; (shown.pid, shown.on) == (pid, On::Implicit(ASK)));
     Ok(())
 }
 
