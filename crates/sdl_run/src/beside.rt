@@ -29,6 +29,7 @@ pub struct EnvironmentWithEnds {
 /// Lets all workers make their steps until they are told to stop. It answers the environment, and how it came back, beside
 /// the others as they came back.
 fn run_until_told<
+    'e,
     'i,
     'o,
     S: Agents + Send,
@@ -39,22 +40,23 @@ fn run_until_told<
     W: Write,
 >(
     rt: &T,
-    team: Team<AtWork<S, K>, EnvironmentThread<'i, 'o, R, W>>,
+    team: Team<AtWork<S, K>, EnvironmentThread<'e, 'i, 'o, R, W>>,
     structure: &Structure,
     routes: &Routes,
     gate: &G,
 ) -> (
     Vec<Returned<AtWork<S, K>>>,
-    EnvironmentThread<'i, 'o, R, W>,
+    EnvironmentThread<'e, 'i, 'o, R, W>,
     Returned<()>,
 )
     requires few { vec_len team.workers < 2 ^ 31 }
     requires sound { All (⟦<AtWork<S, K> as Work>⟧.keeps structure.now routes.now) team.workers.items }
-    requires sound_environment { KeepsEnvironment structure.now routes.now team.environment.environment.worker team.environment.environment.astray team.environment.ends (R.remaining team.environment.started_input.value) (R.remaining team.environment.input.now) (W.contents team.environment.started_output.value) (W.contents team.environment.output.now) }
+    requires sound_environment { KeepsEnvironment structure.now routes.now team.environment.environment.now.worker team.environment.environment.now.astray team.environment.ends (R.remaining team.environment.started_input.value) (R.remaining team.environment.input.now) (W.contents team.environment.started_output.value) (W.contents team.environment.output.now) }
     requires empty { team.done.items ≡ [] }
     requires room { vec_len team.workers ≤ vec_capacity team.done }
     ensures workers { AllZip (ComesFrom (⟦<AtWork<S, K> as Work>⟧.keeps structure.now routes.now) ⟦<AtWork<S, K> as Work>⟧.same) team.entry.workers.items result.0.items }
-    ensures keeps { KeepsEnvironment structure.now routes.now result.1.environment.worker result.1.environment.astray result.1.ends (R.remaining result.1.started_input.value) (R.remaining result.1.input.now) (W.contents result.1.started_output.value) (W.contents result.1.output.now) }
+    ensures keeps { KeepsEnvironment structure.now routes.now result.1.environment.now.worker result.1.environment.now.astray result.1.ends (R.remaining result.1.started_input.value) (R.remaining result.1.input.now) (W.contents result.1.started_output.value) (W.contents result.1.output.now) }
+    ensures environment { result.1.environment.ghost_name ≡ team.entry.environment.environment.ghost_name }
     ensures input { result.1.input.ghost_name ≡ team.entry.environment.input.ghost_name }
     ensures output { result.1.output.ghost_name ≡ team.entry.environment.output.ghost_name }
     ensures started_input { result.1.started_input ≡ team.entry.environment.started_input }
@@ -101,8 +103,9 @@ pub fn run_beside<
         number_of_environment,
         done,
     } = team;
+    let mut worker = worker;
     let environment = EnvironmentThread {
-        environment: worker,
+        environment: &mut worker,
         ends,
         input,
         output,
@@ -124,9 +127,10 @@ pub fn run_beside<
         started_input: _started_input,
         started_output: _started_output,
     } = environment;
+    take_back(environment);
     take_back(input);
     take_back(output);
-    (done, environment, ends, way)
+    (done, worker, ends, way)
 }
 
 /// Does nothing, but that what becomes of a reference that was lent is known where it is lent.

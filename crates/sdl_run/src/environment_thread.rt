@@ -13,8 +13,9 @@ use std::sync::Wait;
 
 /// The environment with its ends, what it reads from, and what it writes to.
 #[derive(Drop)]
-pub struct EnvironmentThread<'i, 'o, I, O> {
-    pub environment: EnvApart,
+pub struct EnvironmentThread<'e, 'i, 'o, I, O> {
+    /// Lent, since it has a buffer of its own, and the recursion over the workers hands this on for each of them.
+    pub environment: &'e mut EnvApart,
     pub ends: Ends,
     pub input: &'i mut I,
     pub output: &'o mut O,
@@ -24,20 +25,20 @@ pub struct EnvironmentThread<'i, 'o, I, O> {
     pub started_output: Snapshot<O>,
 }
 
-impl<'i, 'o, I: Read, O: Write> Work for EnvironmentThread<'i, 'o, I, O> {
+impl<'e, 'i, 'o, I: Read, O: Write> Work for EnvironmentThread<'e, 'i, 'o, I, O> {
     ghost use Rattle.std.specs.Prelude.{◌≡◌, refl};
     ghost use Rattle.std.proofs.Common.{◌∙◌};
     ghost use Rattle.sdl_run.specs.Environment.{KeepsEnvironment};
     ghost use Rattle.sdl_ends.specs.Ends.{IsSameEnds};
 
-    ghost keeps = { λ s rows w. KeepsEnvironment s rows w.environment.worker w.environment.astray w.ends (I.remaining w.started_input.value) (I.remaining w.input.now) (O.contents w.started_output.value) (O.contents w.output.now) };
+    ghost keeps = { λ s rows w. KeepsEnvironment s rows w.environment.now.worker w.environment.now.astray w.ends (I.remaining w.started_input.value) (I.remaining w.input.now) (O.contents w.started_output.value) (O.contents w.output.now) };
 
     // the references are the ones given, and the ends are the same
-    ghost same = { λ u v. (v.input.ghost_name ≡ u.input.ghost_name) × (v.output.ghost_name ≡ u.output.ghost_name) × (v.started_input ≡ u.started_input) × (v.started_output ≡ u.started_output) × IsSameEnds u.ends v.ends };
+    ghost same = { λ u v. (v.environment.ghost_name ≡ u.environment.ghost_name) × (v.input.ghost_name ≡ u.input.ghost_name) × (v.output.ghost_name ≡ u.output.ghost_name) × (v.started_input ≡ u.started_input) × (v.started_output ≡ u.started_output) × IsSameEnds u.ends v.ends };
 
-    ghost itself = { λ w. (refl, refl, refl, refl, record { feeds = refl; tap = refl }) };
+    ghost itself = { λ w. (refl, refl, refl, refl, refl, record { feeds = refl; tap = refl }) };
 
-    ghost and_then = { λ u v w p q. (q.0 ∙ p.0, q.1 ∙ p.1, q.2 ∙ p.2, q.3 ∙ p.3, record { feeds = q.4.feeds ∙ p.4.feeds; tap = q.4.tap ∙ p.4.tap }) };
+    ghost and_then = { λ u v w p q. (q.0 ∙ p.0, q.1 ∙ p.1, q.2 ∙ p.2, q.3 ∙ p.3, q.4 ∙ p.4, record { feeds = q.5.feeds ∙ p.5.feeds; tap = q.5.tap ∙ p.5.tap }) };
 
     fn flush(&mut self) -> bool {
         self.ends.flush()

@@ -4,13 +4,13 @@ use Rattle.sdl_run.proofs.environment_thread.EnvironmentThreadWork.step.Goals as
 
 pub returns-then-is_ready-clause-keeps : goal.returns-then-is_ready-clause-keeps
 returns-then-is_ready-clause-keeps g c =
-    goes_over c.args.structure.now c.args.routes.now c.args.self.now.environment.worker c.args.self.now.environment.astray c.args.self.now.ends _ _ _ _ c.requires
+    goes_over c.args.structure.now c.args.routes.now c.args.self.now.environment.now.worker c.args.self.now.environment.now.astray c.args.self.now.ends _ _ _ _ c.requires
     c.step.new.self.worker c.step.new.self.astray c.step.new.ends _ _ c.step.ensures.number c.step.ensures.keeps c.step.ensures.reading c.step.ensures.writing
 
 pub returns-then-not-may_ask-clause-keeps : goal.returns-then-not-may_ask-clause-keeps
 returns-then-not-may_ask-clause-keeps g c =
     let taken = c.receive-received in
-    goes_over c.args.structure.now c.args.routes.now c.args.self.now.environment.worker c.args.self.now.environment.astray c.args.self.now.ends _ _ _ _ c.requires
+    goes_over c.args.structure.now c.args.routes.now c.args.self.now.environment.now.worker c.args.self.now.environment.now.astray c.args.self.now.ends _ _ _ _ c.requires
     taken.new.self.worker taken.new.self.astray taken.new.ends _ _ taken.ensures.number taken.ensures.keeps (λ start. taken.ensures.reading start _) taken.ensures.writing
 
 pub returns-clause-keeps : goal.returns-clause-keeps
@@ -19,7 +19,7 @@ returns-clause-keeps g c =
     let rows = c.args.routes.now in
     let taken = c.receive-received in
     let kept =
-    goes_over s rows c.args.self.now.environment.worker c.args.self.now.environment.astray c.args.self.now.ends _ (g.I.Read.remaining c.args.self.now.input.now) _ _ c.requires
+    goes_over s rows c.args.self.now.environment.now.worker c.args.self.now.environment.now.astray c.args.self.now.ends _ (g.I.Read.remaining c.args.self.now.input.now) _ _ c.requires
     taken.new.self.worker taken.new.self.astray taken.new.ends (g.I.Read.remaining c.args.self.now.input.now) (g.O.Write.contents taken.new.output) taken.ensures.number taken.ensures.keeps (λ start. taken.ensures.reading start _) taken.ensures.writing in
     goes_over s rows taken.new.self.worker taken.new.self.astray taken.new.ends _ _ _ _ kept
     c.step-2.new.self.worker c.step-2.new.self.astray c.step-2.new.ends _ _ c.step-2.ensures.number c.step-2.ensures.keeps c.step-2.ensures.reading c.step-2.ensures.writing
