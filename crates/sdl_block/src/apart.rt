@@ -40,6 +40,7 @@ impl<S: Agents, K: Keeps> BlockWorker<S, K> {
     }
 
     /// A step, which says whether it did anything.
+    #[inline(always)]
     fn try_step_apart<R: Wait>(
         &mut self,
         rt: &R,
@@ -65,6 +66,7 @@ impl<S: Agents, K: Keeps> BlockWorker<S, K> {
     }
 
     /// Lets one item arrive, unless the budget is used, and says whether one did. An item that is refused is kept.
+    #[inline(always)]
     fn let_one_arrive_apart<R: Wait>(
         &mut self,
         rt: &R,
@@ -87,6 +89,7 @@ impl<S: Agents, K: Keeps> BlockWorker<S, K> {
     }
 
     /// Takes the kept item, or else one of the inlet.
+    #[inline(always)]
     fn take_one_apart<R: Wait>(&mut self, rt: &R, ends: &mut Ends) -> Option<Item>
         ensures taken { TakesThrough (worker_of self.old) ends.old result ends.new }
         ensures emptied { worker_of self.new ≡ record (worker_of self.old) { kept = None } }

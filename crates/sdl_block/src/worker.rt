@@ -63,6 +63,7 @@ impl<S: Agents, K: Keeps> BlockWorker<S, K> {
     }
 
     /// A step, which says whether it did anything.
+    #[inline(always)]
     fn try_step(&mut self, routes: &Routes, board: &mut Board, pick: u32) -> Result<bool, Refused>
         requires parts { CanFire S.may (behaviours_of self.old) }
         requires sound { IsSound S.may (system_around self.old routes.now) (worker_of self.old).core }
@@ -83,6 +84,7 @@ impl<S: Agents, K: Keeps> BlockWorker<S, K> {
     }
 
     /// Lets one item arrive, unless the budget is used, and says whether one did. An item that is refused is kept.
+    #[inline(always)]
     fn let_one_arrive(
         &mut self,
         routes: &Routes,
@@ -113,6 +115,7 @@ impl<S: Agents, K: Keeps> BlockWorker<S, K> {
     }
 
     /// Lets the item arrive. One that is refused is kept.
+    #[inline(always)]
     pub(crate) fn admit_or_keep(
         &mut self,
         routes: &Routes,
@@ -133,6 +136,7 @@ impl<S: Agents, K: Keeps> BlockWorker<S, K> {
     }
 
     /// Takes the kept item, or else the front of the inlet.
+    #[inline(always)]
     fn take_one(&mut self, board: &mut Board) -> Option<Item>
         ensures taken { TakesFrom (worker_of self.old) board.old result board.new }
         ensures emptied { worker_of self.new ≡ record (worker_of self.old) { kept = None } }
@@ -145,6 +149,7 @@ impl<S: Agents, K: Keeps> BlockWorker<S, K> {
     }
 
     /// Lets the item arrive. A refusal hands it back and changes nothing.
+    #[inline(always)]
     fn admit(&mut self, routes: &Routes, item: Item, pick: u32) -> Result<(), Item>
         requires sound { IsSound S.may (system_around self.old routes.now) (worker_of self.old).core }
         ensures arrived { MatchResult result
@@ -163,6 +168,7 @@ impl<S: Agents, K: Keeps> BlockWorker<S, K> {
 
     /// Makes a turn, which puts what it sends into the hand, which is empty. It says whether an instance was ready, and the
     /// budget not used.
+    #[inline(always)]
     pub(crate) fn make_turn(&mut self, routes: &Routes, pick: u32) -> Result<bool, Refused>
         requires parts { CanFire S.may (behaviours_of self.old) }
         requires sound { IsSound S.may (system_around self.old routes.now) (worker_of self.old).core }

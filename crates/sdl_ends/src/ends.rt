@@ -67,6 +67,7 @@ impl Ends {
 
     /// Takes the item at the front of the worker's station. `None` where it was empty at some moment of the call, and for a
     /// worker that takes from none. Takes no memory. May wait for other threads.
+    #[inline(always)]
     pub fn take<R: Wait>(&mut self, rt: &R) -> Option<Item>
         ensures taken { MatchOption result (taken_by self.new ≡ taken_by self.old) (λ item. taken_by self.new ≡ taken_by self.old ++ item ∷ []) }
         ensures feeds { self.new.feeds ≡ self.old.feeds }
@@ -91,6 +92,7 @@ impl Ends {
 
     /// Puts the item at the station, where the worker has a feed. `Err` hands it back where memory was refused; nothing is put
     /// then. May wait for other threads.
+    #[inline(always)]
     pub fn put<R: Wait>(&mut self, rt: &R, station: Station, item: Item) -> Result<(), Item>
         requires { HasFeed self.old station }
         ensures put { MatchResult result
@@ -112,6 +114,7 @@ impl Ends {
 
     /// Puts the backlogs of its rings into these, each where there is a free slot, and says whether no backlog is left. Takes no
     /// memory. What was touched is counted from here on, unless something waited for room before.
+    #[inline(always)]
     pub fn flush(&mut self) -> bool
         ensures put { (s : Station) → put_at self.new s ≡ put_at self.old s }
         ensures tap { self.new.tap ≡ self.old.tap }
@@ -155,6 +158,7 @@ fn flush_all(feeds: &mut Vec<(Station, Option<AnyFeed>)>) -> bool
 }
 
 /// Flushes the feed, where there is one, and says whether no backlog is left.
+#[inline(always)]
 fn flush_one(feed: &mut Option<AnyFeed>) -> bool
     ensures flushed { IsFlushed feed.old feed.new }
     ensures empty { IsTrue result ↔ IsClear feed.new }

@@ -82,6 +82,7 @@ impl EnvWorker {
     /// A step. It puts out what is in hand. Unless its reading has ended, it reads one line and outputs its signal, with the
     /// line's gate as the source. It then takes one item from the outlet and writes its line, unless a write failed before.
     /// A refusal ends the step, and the next one goes on there. `pick` chooses among the routes.
+    #[inline(always)]
     pub fn step_serial<R: Read, W: Write>(
         &mut self,
         structure: &Structure,
@@ -142,6 +143,7 @@ impl EnvWorker {
     }
 
     /// Puts out what is in hand, and says whether there was anything.
+    #[inline(always)]
     fn put_out(&mut self, routes: &Routes, board: &mut Board) -> Result<bool, Refused>
         requires routed { AreRouted routes.now self.old.outgoing }
         requires board { IsBoardOf routes.now board.old }
@@ -153,6 +155,7 @@ impl EnvWorker {
     }
 
     /// Reads a line, unless the reading has ended, and outputs its signal. It says whether the reading went on.
+    #[inline(always)]
     pub(crate) fn read_one<R: Read>(
         &mut self,
         names: &Names,
@@ -190,6 +193,7 @@ impl EnvWorker {
     }
 
     /// Takes an item from the outlet, and writes its line. It says whether there was one.
+    #[inline(always)]
     fn receive_one<W: Write>(
         &mut self,
         names: &Names,

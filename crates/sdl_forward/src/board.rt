@@ -66,6 +66,7 @@ impl Board {
 
     /// Puts the item at the back of the station, which is one of the board's. Where memory is refused, the item comes back and
     /// the board is as it was.
+    #[inline(always)]
     pub fn put(&mut self, station: Station, item: Item) -> Result<(), (Item, AllocError)>
         requires { Contains (stations_of self.old) station }
         ensures put { MatchResult result
@@ -86,6 +87,7 @@ impl Board {
 
     /// Takes the item at the front of the station. `None` exactly where no item waits there, as where the board has no such
     /// station. It takes no memory.
+    #[inline(always)]
     pub fn take(&mut self, station: Station) -> Option<Item>
         ensures take { MatchOption result
             ((waiting self.old station ≡ []) × (self.new ≡ self.old))

@@ -42,6 +42,7 @@ impl Busy {
     }
 
     /// Notes whether something may wait at the station, where it is a path.
+    #[inline(always)]
     pub(crate) fn note(&mut self, station: Station, some: bool)
         ensures { (h : Hop) → IsClear self.new h → (Line h ≡ station → some ≡ false) × (Line h ≢ station → IsClear self.old h) }
     {
@@ -55,6 +56,7 @@ impl Busy {
         }
     }
 
+    #[inline(always)]
     fn mark(&mut self, hop: Hop)
         ensures { (h : Hop) → IsClear self.new h → IsClear self.old h × (h ≢ hop) }
     {
@@ -69,6 +71,7 @@ impl Busy {
     }
 
     /// Takes the mark off, where the path has one of its own.
+    #[inline(always)]
     fn clear(&mut self, hop: Hop)
         ensures { (h : Hop) → h ≢ hop → IsClear self.new h → IsClear self.old h }
     {

@@ -59,6 +59,7 @@ impl Forwarder {
     }
 
     /// Takes the item that it holds, or else the front of its path.
+    #[inline(always)]
     fn take(&mut self, board: &mut Board) -> Option<Item>
         ensures taken { MatchOption result
             (Rests self.old board.old self.new board.new)
@@ -73,6 +74,7 @@ impl Forwarder {
     }
 
     /// The station behind its path on the item's route.
+    #[inline(always)]
     pub(crate) fn next(&self, routes: &Routes, item: &Item) -> Option<Station>
         ensures next { next_station routes.now (Line self.now.hop) item.now ≡ result }
         ensures table { IsTable routes.now }
@@ -89,6 +91,7 @@ impl Forwarder {
 
     /// Puts the item that it holds, or else the front of its path, at the next station of the item's route. It is `Held` where
     /// memory was refused for that, and where there is no next station; then the item stays held.
+    #[inline(always)]
     pub fn step_serial(&mut self, routes: &Routes, board: &mut Board) -> Forwarded
         requires { IsBoardOf routes.now board.old }
         ensures step { Forwards routes.now self.old board.old result self.new board.new }

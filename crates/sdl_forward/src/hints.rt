@@ -39,6 +39,7 @@ impl Hints {
     }
 
     /// The place of an entry of the station. `None` where there is none.
+    #[inline(always)]
     pub(crate) fn find<T>(&self, entries: &[(Station, T)], station: Station) -> Option<usize>
         ensures { MatchOption result (Contains (stations_of entries.now) station → ⊥) (λ place. slice_get (stations_of entries.now) place ≡ Some station) }
     {
@@ -54,6 +55,7 @@ impl Hints {
         None
     }
 
+    #[inline(always)]
     fn get(&self, station: Station) -> usize {
         let hint = match station {
             Station::Line(hop) => self.lines.get(number_of(hop)),

@@ -14,6 +14,7 @@ use std::sync::Wait;
 impl Hand {
     /// Puts the outgoing items through the worker's ends, from the front, each at the first station of its route, and says
     /// whether there was one. A refusal leaves that item and those behind it in hand. May wait for other threads.
+    #[inline(always)]
     pub fn put_out_apart<R: Wait>(
         &mut self,
         rt: &R,
@@ -34,6 +35,7 @@ impl Hand {
     }
 
     /// Puts the front one of the outgoing items at the first station of its route. A refusal puts nothing.
+    #[inline(always)]
     fn put_front_apart<R: Wait>(
         &mut self,
         rt: &R,
@@ -61,6 +63,7 @@ impl Hand {
 }
 
 /// Puts the item at the first station of its route. A refusal hands it back, and nothing is put.
+#[inline(always)]
 fn put_first_apart<R: Wait>(
     rt: &R,
     routes: &Routes,

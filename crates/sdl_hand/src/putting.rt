@@ -12,6 +12,7 @@ use sdl_signal::Item;
 impl Hand {
     /// Puts the outgoing items, from the front, each at the first station of its route, and says whether there was one.
     /// A refusal leaves that item and those behind it in hand.
+    #[inline(always)]
     pub fn put_out(&mut self, routes: &Routes, board: &mut Board) -> Result<bool, Refused>
         requires routed { AreRouted routes.now self.old.outgoing.items }
         requires board { IsBoardOf routes.now board.old }
@@ -28,6 +29,7 @@ impl Hand {
     }
 
     /// Puts the front one of the outgoing items at the first station of its route. A refusal changes nothing.
+    #[inline(always)]
     fn put_front(&mut self, routes: &Routes, board: &mut Board) -> Result<(), Refused>
         requires some { 0 < length self.old.outgoing.items }
         requires few { length self.old.outgoing.items ≤ 8 }
@@ -50,6 +52,7 @@ impl Hand {
 }
 
 /// Puts the item at the first station of its route. A refusal hands it back, and the board is as it was.
+#[inline(always)]
 fn put_first(routes: &Routes, board: &mut Board, item: Item) -> Result<(), Item>
     requires routed { IsRouted routes.now item }
     requires board { IsBoardOf routes.now board.old }

@@ -84,6 +84,7 @@ pub fn act_all<S: Agents>(
 }
 
 /// Adds the items that were sent, in order.
+#[inline(always)]
 pub fn add_sent(done: &[Done], sent: &mut ArrayVec<Item, 8>)
     requires { length sent.old.items + length done.now ≤ 8 }
     ensures { sent.new.items ≡ sent.old.items ++ flat_map sent_by done.now }

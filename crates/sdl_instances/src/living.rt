@@ -27,6 +27,7 @@ pub struct Living {
 }
 
 /// What the next transition of the instance is shown, as the instance `pid`.
+#[inline(always)]
 fn next_frame(pid: Pid, instance: &Instance) -> Frame
     ensures { result ≡ next_frame pid instance.now }
 {
@@ -50,6 +51,7 @@ fn next_frame(pid: Pid, instance: &Instance) -> Frame
 
 impl Living {
     /// Takes room for as many instances as a turn can create. A refusal changes no instance.
+    #[inline(always)]
     pub fn make_room(&mut self) -> Result<(), AllocError>
         ensures same { state_of self.new ≡ state_of self.old }
         ensures room { OnOk result (8 ≤ creatable_of self.new) }
@@ -67,6 +69,7 @@ impl Living {
     }
 
     /// What the next transition of the instance at this place is shown.
+    #[inline(always)]
     pub fn frame(&self, place: usize) -> Frame
         requires { place < length (state_of self.now).living }
         ensures { (p : Pid) (r : Record) → StandsAt (state_of self.now) place p r → result ≡ next_frame p r }
@@ -76,6 +79,7 @@ impl Living {
     }
 
     /// Carries out an output of the instance at this place.
+    #[inline(always)]
     pub fn output(
         &self,
         routes: &Routes,
@@ -94,6 +98,7 @@ impl Living {
     }
 
     /// Takes the signal at the front of its port from the instance at this place, whose SENDER it sets.
+    #[inline(always)]
     pub fn consume(&mut self, place: usize) -> Item
         requires within { place < length (state_of self.old).living }
         requires front { (p : Pid) (r : Record) → StandsAt (state_of self.old) place p r → 0 < length r.port }
@@ -150,6 +155,7 @@ impl Living {
 
     /// Ends a transition of the instance at this place: it goes on in a state with these variables, or it stops. After a
     /// stop the answer is the number of signals that were in its port.
+    #[inline(always)]
     pub fn finish(&mut self, place: usize, vars: &ArrayVec<Value, 8>, next: Next) -> Option<u64>
         requires within { place < length (state_of self.old).living }
         ensures { (p : Pid) (r : Record) → StandsAt (state_of self.old) place p r → FinishesAt place p r vars.now.items next result (state_of self.old) (state_of self.new) }

@@ -116,6 +116,7 @@ fn goal_of(pid: Pid, instance: &Instance, dest: Dest) -> Goal
 
 /// Carries out an output of the instance: the item on its way along the fitting route at the mark's pick, or that none
 /// fits.
+#[inline(always)]
 pub fn output(
     routes: &Routes,
     pid: Pid,

@@ -105,6 +105,7 @@ fn end_of(routes: &Routes, route: RouteId) -> SetId
 
 impl<K: Keeps> Table<K> {
     /// Puts the item into the port of the instance at this place. A refusal changes nothing.
+    #[inline(always)]
     fn enter(&mut self, place: usize, item: Item) -> Result<Pid, (Item, AllocError)>
         requires stamp { item.stamp < 2 ^ 64 - 1 }
         requires within { place < length self.old.core.state.living }
@@ -148,6 +149,7 @@ impl<K: Keeps> Table<K> {
     ghost use Rattle.sdl_instances.specs.Calls.{LookFinds};
 
     /// Lets an item arrive: it enters the port of a living instance that it admits, or is discarded where there is none. A refusal changes nothing.
+    #[inline(always)]
     pub fn arrive(
         &mut self,
         routes: &Routes,

@@ -45,6 +45,7 @@ impl Instance {
     }
 
     /// Puts an item at the back of the port. A refusal changes nothing.
+    #[inline(always)]
     pub fn receive(&mut self, item: Item) -> Result<(), AllocError>
         ensures ok { OnOk result (self.new ≡ record self.old { port = self.old.port ++ item ∷ [] }) }
         ensures err { OnErr result (self.new ≡ self.old) }

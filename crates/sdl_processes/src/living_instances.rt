@@ -54,6 +54,7 @@ impl Instances {
     }
 
     /// Takes room for as many instances as a turn can create, of so many sets. A refusal changes no instance.
+    #[inline(always)]
     pub fn make_room(&mut self, alloc: Global, sets: usize) -> Result<(), AllocError>
         ensures same { self.new.entries ≡ self.old.entries }
         ensures room { OnOk result (8 ≤ self.new.creatable) }
@@ -122,6 +123,7 @@ impl Instances {
     }
 
     /// Puts an item at the back of the port of the instance at this place. A refusal changes nothing.
+    #[inline(always)]
     pub fn receive(&mut self, place: usize, item: Item) -> Result<Pid, AllocError>
         requires { place < length self.old.entries }
         ensures ok { IfOk result (λ p. (r : Record) × (slice_get self.old.entries place ≡ Some (p, r)) × (self.new.entries ≡ slice_set self.old.entries place (p, record r { port = r.port ++ item ∷ [] }))) }
@@ -167,6 +169,7 @@ impl Instances {
     }
 
     /// Lets the instance at this place go on in the state with these variables.
+    #[inline(always)]
     pub fn proceed(&mut self, place: usize, state: StateId, vars: &ArrayVec<Value, 8>)
         requires { place < length self.old.entries }
         ensures { (p : Pid) (r : Record) → slice_get self.old.entries place ≡ Some (p, r) → self.new.entries ≡ slice_set self.old.entries place (p, record r { state = Some state; vars = vars.now.items }) }

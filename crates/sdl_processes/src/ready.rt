@@ -24,6 +24,7 @@ pub struct ReadyCounts {
 }
 
 /// Adds zeros until there are so many numbers. A refusal adds none.
+#[inline(always)]
 fn extend(counts: &mut Vec<usize>, len: usize) -> Result<(), AllocError>
     ensures same { (n : ℕ) → sum (take n counts.new.items) ≡ sum (take n counts.old.items) }
     ensures grows { length counts.old.items ≤ length counts.new.items }

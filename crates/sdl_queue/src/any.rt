@@ -47,6 +47,7 @@ impl Model for AnyFeed {
 impl AnyFeed {
     /// Puts the item. `Err` hands it back where memory was refused; nothing is put then. May wait for other threads, but at a
     /// ring.
+    #[inline(always)]
     pub fn put<R: Wait>(&mut self, rt: &R, item: Item) -> Result<(), Item>
         ensures same { IsSameFeed self.old self.new }
         ensures put { MatchResult result (λ _. self.new.put ≡ self.old.put ++ item ∷ []) (λ back. (back ≡ item) × (self.new.put ≡ self.old.put)) }
@@ -61,6 +62,7 @@ impl AnyFeed {
     }
 
     /// Puts a ring's backlog into the ring, whole, where there is a free slot, and says whether no backlog is left. Takes no memory.
+    #[inline(always)]
     pub fn flush(&mut self) -> bool
         ensures same { IsSameFeed self.old self.new }
         ensures put { self.new.put ≡ self.old.put }
@@ -97,6 +99,7 @@ impl Model for AnyTap {
 impl AnyTap {
     /// Takes the item at the front. `None` only where there was none at some moment of the call. Takes no memory. May wait for
     /// other threads, but at a ring.
+    #[inline(always)]
     pub fn take<R: Wait>(&mut self, rt: &R) -> Option<Item>
         ensures same { IsSameTap self.old self.new }
         ensures taken { MatchOption result (self.new.taken ≡ self.old.taken) (λ x. (t : Tagged) × (t.item ≡ x) × (self.new.taken ≡ self.old.taken ++ t ∷ [])) }

@@ -47,6 +47,7 @@ impl Model for RingFeed {
 impl RingFeed {
     /// Puts the item: into the ring, or into the backlog where the ring is full or the backlog is not empty. Where memory
     /// is refused, the item comes back and nothing is put.
+    #[inline(always)]
     pub fn put(&mut self, item: Item) -> Result<(), (Item, AllocError)>
         ensures same { self.new.opening ≡ self.old.opening }
         ensures put { MatchResult result (λ _. self.new.put ≡ self.old.put ++ item ∷ []) (λ back. (back.0 ≡ item) × (self.new.put ≡ self.old.put)) }
@@ -74,6 +75,7 @@ impl RingFeed {
 
     /// Moves the backlog into the ring, as a whole, where a slot is free, and says whether the backlog is empty. Takes no
     /// memory.
+    #[inline(always)]
     pub fn flush(&mut self) -> bool
         ensures same { self.new.opening ≡ self.old.opening }
         ensures put { self.new.put ≡ self.old.put }
@@ -123,6 +125,7 @@ impl Model for RingTap {
 impl RingTap {
     /// Takes the item at the front of the ring. `None` only where the ring was empty at some moment of the call. Takes no
     /// memory.
+    #[inline(always)]
     pub fn take(&mut self) -> Option<Item>
         ensures same { self.new.opening ≡ self.old.opening }
         ensures taken { MatchOption result ((self.new.taken ≡ self.old.taken) × (self.new.seen ≡ [])) (λ item. self.new.taken ≡ self.old.taken ++ item ∷ []) }

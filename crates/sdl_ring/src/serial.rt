@@ -40,6 +40,7 @@ impl SerialQueue {
     }
 
     /// Puts the item at the back. Where memory is refused, the item comes back and the queue is as it was.
+    #[inline(always)]
     pub fn put(&mut self, item: Item) -> Result<(), (Item, AllocError)>
         ensures { MatchResult result (λ _. self.new ≡ self.old ++ item ∷ []) (λ back. (back.0 ≡ item) × (self.new ≡ self.old)) }
     {
@@ -55,6 +56,7 @@ impl SerialQueue {
     }
 
     /// Takes the item at the front.
+    #[inline(always)]
     pub fn take(&mut self) -> Option<Item>
         ensures { MatchOption result ((self.old ≡ []) × (self.new ≡ [])) (λ item. self.old ≡ item ∷ self.new) }
     {

@@ -103,6 +103,7 @@ impl Index {
     }
 
     /// The entry with this wish.
+    #[inline(always)]
     pub fn entry_of(&self, wish: &Wish) -> Option<&Entry>
         ensures found { IfSome (option_copied result) (λ e. (e.wish ≡ wish.now) × Contains (list_at (list_at self.now.groups.items (group_place wish.now.source wish.now.signal)) (goal_place wish.now.goal)) e) }
         ensures none { IfNone (option_copied result) (HasEntry (list_at (list_at self.now.groups.items (group_place wish.now.source wish.now.signal)) (goal_place wish.now.goal)) wish.now → ⊥) }

@@ -80,6 +80,7 @@ impl Routes {
 
     /// The first station of the route for `None`, else the station behind the one given. `None` behind the last station,
     /// for a station that is not the route's, and for a route that is not in the table.
+    #[inline(always)]
     pub fn next(&self, route: RouteId, after: Option<Station>) -> Option<Station>
         ensures known { IfSome (slice_get self.now route.0) (λ row. FollowsIn row.route.stations.items after result) }
         ensures unknown { length self.now ≤ route.0 → result ≡ None }
@@ -92,6 +93,7 @@ impl Routes {
     }
 
     /// With n routes that fit the wish, in their order, the one at `pick` modulo n. `None` exactly where none fits.
+    #[inline(always)]
     pub fn choose(&self, wish: &Wish, pick: u32) -> Option<RouteId>
         ensures choice { IsChoice self.now wish.now pick result }
         ensures table { IsTable self.now }

@@ -72,6 +72,7 @@ fn append_values(line: &mut ArrayVec<u8, 256>, names: &Names, values: &[Value])
 
 /// The line of a signal at a gate of the system, without a newline and without a TO part: the gate, the signal and
 /// each parameter, with one space between. It has at most 241 bytes. No memory is taken.
+#[inline(always)]
 pub fn line_of(names: &Names, gate: GateId, signal: &Signal) -> ArrayVec<u8, 256>
     requires { IsSome (line_text names.now (record { gate = gate; signal = signal.now; to = None })) }
     ensures text { line_text names.now (record { gate = gate; signal = signal.now; to = None }) ≡ Some result.items }
