@@ -1,4 +1,5 @@
 //! The texts of the faults of a graph.
+use crate::numbering::Numbered;
 use sdl_file_commands::faults::write_bind_fault;
 use sdl_file_commands::sdl_command::errors::{without_memory, write_error};
 use sdl_graph_binding::{Design, GraphFault};
@@ -8,13 +9,16 @@ use std::io::Write;
 pub fn write_graph_fault<E: Write>(errors: &mut E, design: &Design, fault: GraphFault) {
     match fault {
         GraphFault::NoOffer(number) => {
-            write_error(errors, format_args!("G1 NoOffer transition {number}"))
+            let transition = Numbered { design, number };
+            write_error(errors, format_args!("G1 NoOffer transition {transition}"))
         }
         GraphFault::NoEnd(number) => {
-            write_error(errors, format_args!("G2 NoEnd transition {number}"))
+            let transition = Numbered { design, number };
+            write_error(errors, format_args!("G2 NoEnd transition {transition}"))
         }
         GraphFault::NoTrigger(number) => {
-            write_error(errors, format_args!("G3 NoTrigger transition {number}"))
+            let transition = Numbered { design, number };
+            write_error(errors, format_args!("G3 NoTrigger transition {transition}"))
         }
         GraphFault::NoSet(place) => write_error(
             errors,
@@ -42,7 +46,7 @@ pub fn write_graph_fault<E: Write>(errors: &mut E, design: &Design, fault: Graph
 }
 
 /// The name that the design says at the place.
-fn set_name<'a>(design: &Design<'a>, place: usize) -> &'a str {
+pub fn set_name<'a>(design: &Design<'a>, place: usize) -> &'a str {
     match design.sets.get(place) {
         Some(set) => set.name,
         None => "",

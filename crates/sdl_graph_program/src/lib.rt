@@ -4,6 +4,7 @@
 
 pub mod commands;
 mod faults;
+pub mod numbering;
 pub mod runs;
 
 pub use commands::{Prepared, prepare, prepare_file};

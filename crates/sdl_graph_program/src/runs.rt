@@ -6,6 +6,7 @@ ghost use Rattle.sdl_graph_program.specs.Outcomes.{HasRunGraphOrNot};
 
 use crate::commands::Prepared;
 use crate::faults::write_graph_fault;
+use crate::numbering::Numbered;
 use sdl_file_commands::in_threads::run_bound_in_threads;
 use sdl_file_commands::running::Settings;
 use sdl_file_commands::sdl_command::errors::write_error;
@@ -59,7 +60,7 @@ pub fn run_prepared<G: Send, T: Threads + Wait + Sync, R: Read, W: Write, E: Wri
     };
     let (transitions, marks) = stored.into_parts();
     match bind_graph(alloc, checked, routes, design, transitions) {
-        Ok(bound) => run_marked(rt, settings, bound, &marks, input, output, errors),
+        Ok(bound) => run_marked(rt, settings, bound, design, &marks, input, output, errors),
         Err(fault) => refused(errors, design, fault),
     }
 }
@@ -69,6 +70,7 @@ fn run_marked<G: Send, T: Threads + Wait + Sync, R: Read, W: Write, E: Write>(
     rt: &T,
     settings: Settings,
     bound: Bound<GraphAgents<G>>,
+    design: &Design,
     marks: &Marks,
     input: &mut R,
     output: &mut W,
@@ -83,20 +85,29 @@ fn run_marked<G: Send, T: Threads + Wait + Sync, R: Read, W: Write, E: Write>(
     if status == REFUSED {
         return REFUSED;
     }
-    report_broken(status, marks.broken(), errors)
+    report_broken(status, design, marks.broken(), errors)
 }
 
 /// Writes which transition broke its offer first, and how many answers did, where one did, and answers the exit status.
-fn report_broken<E: Write>(status: u8, broken: Option<Broken>, errors: &mut E) -> u8
+fn report_broken<E: Write>(
+    status: u8,
+    design: &Design,
+    broken: Option<Broken>,
+    errors: &mut E,
+) -> u8
     ensures which { MatchOption broken (result ≡ status) (λ b. result ≡ 4) }
     ensures either { (result ≡ status) ⊎ (result ≡ 4) }
 {
     match broken {
         None => status,
         Some(Broken { first, count }) => {
+            let transition = Numbered {
+                design,
+                number: first,
+            };
             write_error(
                 errors,
-                format_args!("broken offer transition {first} answers {count}"),
+                format_args!("broken offer transition {transition} answers {count}"),
             );
             BROKEN
         }

@@ -1,15 +1,71 @@
 //! The texts of a design's own faults.
-use super::echo::DESIGN;
+use super::echo::{DESIGN, SET};
+use sdl_graph_program::numbering::{Numbered, numbered_in};
 use sdl_graph_program::sdl_graph_binding::sdl_transition::BindFault;
-use sdl_graph_program::{GraphFault, SetId, refused};
+use sdl_graph_program::{Design, GraphFault, SetDesign, SetId, refused};
 use std::test::Fail;
+
+const NO_TRANSITION: SetDesign = SetDesign {
+    name: "F",
+    states: &[],
+    variables: &[],
+    transitions: 0,
+};
+
+const THREE_TRANSITIONS: SetDesign = SetDesign {
+    name: "Flash",
+    states: &[],
+    variables: &[],
+    transitions: 3,
+};
+
+const THREE_SETS: &[SetDesign] = &[SET, NO_TRANSITION, THREE_TRANSITIONS];
+
+#[test]
+fn transitions_are_counted_through_all_sets(rt: HostRuntime) {
+    for (number, place) in [
+        (0, Some((0, 0))),
+        (1, Some((0, 1))),
+        (2, Some((2, 0))),
+        (3, Some((2, 1))),
+        (4, Some((2, 2))),
+        (5, None),
+    ] {
+        assert!(rt; numbered_in(THREE_SETS, number) == place);
+    }
+}
+
+#[test]
+fn a_transition_is_printed_with_its_set_and_row(rt: HostRuntime) -> Result<(), Fail> {
+    let design = Design {
+        uses: &[],
+        sets: THREE_SETS,
+    };
+    for (number, wanted) in [
+        (1, "1 (E row 1)"),
+        (2, "2 (Flash start)"),
+        (4, "4 (Flash row 2)"),
+        (5, "5"),
+    ] {
+        let numbered = Numbered {
+            design: &design,
+            number,
+        };
+        let text = format!(in rt.alloc(); "{numbered}")?;
+        assert!(rt; text.as_str() == wanted);
+    }
+    Ok(())
+}
 
 #[test]
 fn each_fault_has_its_text(rt: HostRuntime) -> Result<(), Fail> {
     for (fault, wanted) in [
-        (GraphFault::NoOffer(3), "G1 NoOffer transition 3\n"),
-        (GraphFault::NoEnd(4), "G2 NoEnd transition 4\n"),
-        (GraphFault::NoTrigger(5), "G3 NoTrigger transition 5\n"),
+        (
+            GraphFault::NoOffer(0),
+            "G1 NoOffer transition 0 (E start)\n",
+        ),
+        (GraphFault::NoEnd(1), "G2 NoEnd transition 1 (E row 1)\n"),
+        (GraphFault::NoTrigger(2), "G3 NoTrigger transition 2\n"),
         (GraphFault::NoSet(0), "G4 NoSet E\n"),
         (GraphFault::BadStates(0), "G5 BadStates E\n"),
         (GraphFault::ManyVariables(0), "G6 ManyVariables E\n"),
