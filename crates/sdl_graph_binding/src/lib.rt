@@ -21,4 +21,4 @@ pub use sdl_routes;
 pub use sdl_signal;
 pub use sdl_transition;
 pub use sets::{Design, SetDesign, Use};
-pub use stored::{Stored, ending_offer};
+pub use stored::{Answering, Stored, ending_offer};

@@ -1,22 +1,38 @@
 //! The stored transitions of a graph.
-ghost use Rattle.std.specs.Prelude.{◌≡◌, [], ◌∷◌, ◌++◌, map, IfOk, IfErr, OnOk, OnErr};
+ghost use Rattle.std.specs.Prelude.{◌≡◌, ◌⊎◌, true, false, [], ◌∷◌, ◌++◌, map, IfSome, IfOk, IfErr, IsOk, IsErr, Err, MatchOption, MatchResult};
 ghost use Rattle.sdl_behaviour.specs.Offers.{IsFrameOf, Conforms};
 ghost use Rattle.sdl_conformance.specs.Stay.{CanEnd};
+ghost use Rattle.sdl_graph.specs.Answers.{IsKept};
 ghost use Rattle.sdl_graph_binding.specs.Transitions.{IsOfferFault};
+ghost use Rattle.sdl_graph_binding.specs.declared.faults.GraphFault.TheVariants.{Memory};
 
-use crate::agents::GraphAgents;
+use crate::agents::{GraphAgents, marked_answer};
 use crate::faults::GraphFault;
 use crate::marks::Marks;
-use sdl_behaviour::{Offer, Run, Transition};
-use sdl_conformance::can_end;
+use sdl_behaviour::{Frame, Offer, Run, Step, Transition};
+use sdl_conformance::{can_end, copied_offer};
 use sdl_graph::Graph;
 use std::alloc::Global;
+use std::marker::PhantomData;
 
-/// The transitions of a graph so far, by number, with the marks that they share.
+/// The transitions of a graph so far, by number, with the marks that they share; or the first fault that was met. After a
+/// fault none is kept any more, and what is stored is refused when it is run.
 #[derive(Drop)]
 pub struct Stored<G> {
     transitions: Vec<Transition<GraphAgents<G>>>,
+    /// The marks, or the first fault.
+    marks: Result<Marks, GraphFault>,
+    /// A transition was begun and is not kept yet.
+    begun: bool,
+}
+
+/// What answers the frames of one transition of a graph: its number, its offer, which can end, and its share of the marks.
+#[derive(Drop)]
+pub struct Answering<G> {
+    number: u32,
+    offer: Offer,
     marks: Marks,
+    graph: PhantomData<G>,
 }
 
 /// The graph's offer for the number, where there is one, and it can stop or go on.
@@ -34,40 +50,116 @@ pub fn ending_offer<G: Graph>(number: u32) -> Result<Offer, GraphFault>
     }
 }
 
-impl<G> Stored<G> {
-    /// No transitions.
-    pub fn new(alloc: Global) -> Result<Stored<G>, GraphFault>
-        ensures { IfOk result (λ s. s.transitions.items ≡ []) }
+impl<G: Graph> Answering<G> {
+    /// The transition's offer.
+    pub fn offer(&self) -> Offer
+        ensures { result ≡ self.now.offer }
     {
-        Ok(Stored {
-            transitions: Vec::new(alloc),
-            marks: Marks::new(alloc)?,
-        })
+        copied_offer(&self.offer)
     }
 
-    /// A share of the marks, for one transition.
-    pub fn marks(&self) -> Result<Marks, GraphFault> {
-        Ok(self.marks.share()?)
-    }
-
-    /// Keeps what the transition of the number does, with its offer.
-    pub fn keep(&mut self, number: u32, offer: Offer, run: Run) -> Result<(), GraphFault>
-        requires callable { (f : _) → IsFrameOf offer f.now → Run.pre run f }
-        requires conforms { (f : _) (step : _) → IsFrameOf offer f.now → Run.post run f step → Conforms offer step }
-        ensures kept { OnOk result (map (λ t. t.number) self.new.transitions.items ≡ map (λ t. t.number) self.old.transitions.items ++ number ∷ []) }
-        ensures same { OnErr result (self.new.transitions.items ≡ self.old.transitions.items) }
+    /// `marked_answer` of the transition.
+    pub fn answer(&self, frame: &Frame) -> Step
+        ensures kept { (own : _) × G.answers self.now.number frame.now own × IsKept self.now.offer frame.now own result }
+        ensures conforms { IsFrameOf self.now.offer frame.now → CanEnd self.now.offer → Conforms self.now.offer result }
     {
-        match self.transitions.push(Transition::store(number, offer, run)) {
-            Ok(()) => Ok(()),
-            Err(_) => Err(GraphFault::Memory),
+        marked_answer::<G>(self.number, &self.offer, frame, &self.marks)
+    }
+}
+
+impl<G: Graph> Stored<G> {
+    /// What answers the frames of the transition of this number, which is to be kept next. None after a fault, and where this is
+    /// one: the graph has no offer of the number that can end, memory is refused, or the transition before was not kept, as its
+    /// closure found no memory.
+    pub fn answering(&mut self, number: u32) -> Option<Answering<G>>
+        ensures offered { IfSome result (λ own. (own.number ≡ number) × CanEnd own.offer) }
+        ensures begun { MatchOption result (IsErr self.new.marks) (λ _. IsOk self.new.marks × (self.new.begun ≡ true)) }
+        ensures fault { IfErr self.new.marks (λ fault. MatchResult self.old.marks (λ _. (fault ≡ Memory) ⊎ IsOfferFault number fault) (λ first. fault ≡ first)) }
+        ensures same { self.new.transitions ≡ self.old.transitions }
+    {
+        match self.begin(number) {
+            Ok(own) => {
+                self.begun = true;
+                Some(own)
+            }
+            Err(fault) => {
+                self.marks = Err(fault);
+                None
+            }
         }
     }
 
-    /// The transitions, and the marks.
-    pub fn into_parts(self) -> (Vec<Transition<GraphAgents<G>>>, Marks)
-        ensures transitions { result.0 ≡ self.transitions }
+    /// What answers the frames of the transition of this number, or the first fault.
+    fn begin(&self, number: u32) -> Result<Answering<G>, GraphFault>
+        ensures offered { IfOk result (λ own. (own.number ≡ number) × CanEnd own.offer × IsOk self.now.marks) }
+        ensures fault { IfErr result (λ fault. MatchResult self.now.marks (λ _. (fault ≡ Memory) ⊎ IsOfferFault number fault) (λ first. fault ≡ first)) }
     {
-        let Stored { transitions, marks } = self;
-        (transitions, marks)
+        let shared = match &self.marks {
+            Ok(shared) => shared,
+            Err(fault) => return Err(*fault),
+        };
+        if self.begun {
+            return Err(GraphFault::Memory);
+        }
+        let offer = ending_offer::<G>(number)?;
+        Ok(Answering {
+            number,
+            offer,
+            marks: shared.share()?,
+            graph: PhantomData,
+        })
+    }
+}
+
+impl<G> Stored<G> {
+    /// No transitions.
+    pub fn new(alloc: Global) -> Stored<G>
+        ensures none { result.transitions.items ≡ [] }
+        ensures begun { result.begun ≡ false }
+    {
+        let marks = match Marks::new(alloc) {
+            Ok(marks) => Ok(marks),
+            Err(_) => Err(GraphFault::Memory),
+        };
+        Stored {
+            transitions: Vec::new(alloc),
+            marks,
+            begun: false,
+        }
+    }
+
+    /// Keeps what the transition of the number does, with its offer. Where memory is refused, that is the fault, unless there is
+    /// one.
+    pub fn keep(&mut self, number: u32, offer: Offer, run: Run)
+        requires callable { (f : _) → IsFrameOf offer f.now → Run.pre run f }
+        requires conforms { (f : _) (step : _) → IsFrameOf offer f.now → Run.post run f step → Conforms offer step }
+        ensures kept { IfOk self.new.marks (λ _. map (λ t. t.number) self.new.transitions.items ≡ map (λ t. t.number) self.old.transitions.items ++ number ∷ []) }
+        ensures fault { IfErr self.new.marks (λ fault. MatchResult self.old.marks (λ _. fault ≡ Memory) (λ first. fault ≡ first)) }
+        ensures before { IfErr self.old.marks (λ _. IsErr self.new.marks) }
+        ensures begun { self.new.begun ≡ false }
+    {
+        self.begun = false;
+        let pushed = self.transitions.push(Transition::store(number, offer, run));
+        if pushed.is_err() && self.marks.is_ok() {
+            self.marks = Err(GraphFault::Memory);
+        }
+    }
+
+    /// The transitions, and the marks; or the first fault, which is that memory was refused where the transition that was begun
+    /// last was not kept.
+    pub fn into_parts(self) -> Result<(Vec<Transition<GraphAgents<G>>>, Marks), GraphFault>
+        ensures transitions { IfOk result (λ parts. (parts.0 ≡ self.transitions) × IsOk self.marks × (self.begun ≡ false)) }
+        ensures fault { IfErr result (λ fault. MatchResult self.marks (λ _. (fault ≡ Memory) × (self.begun ≡ true)) (λ first. fault ≡ first)) }
+    {
+        let Stored {
+            transitions,
+            marks,
+            begun,
+        } = self;
+        let marks = marks?;
+        if begun {
+            return Err(GraphFault::Memory);
+        }
+        Ok((transitions, marks))
     }
 }

@@ -1,12 +1,10 @@
 //! The transitions of the pair, stored and bound.
 use super::pair::Pair;
 use sdl_graph_binding::sdl_behaviour::{Behaviour, Frame, Run};
-use sdl_graph_binding::sdl_conformance::copied_offer;
-use sdl_graph_binding::{
-    Design, GraphAgents, GraphFault, Stored, bind_graph, ending_offer, marked_answer,
-};
+use sdl_graph_binding::{Design, GraphAgents, GraphFault, Stored, bind_graph};
 use sdl_test_systems::{Stop, routes_of};
 use std::alloc::{AllocError, AllocFailed, Global};
+use std::test::Fail;
 
 /// A set of a bound system: its number, the numbers of its start transition and of its first row, and how many rows,
 /// states and variables it has.
@@ -74,18 +72,19 @@ pub fn bind_pair(
     numbers: &[u32],
 ) -> Result<Vec<BoundSet>, Unfit> {
     let (checked, routes) = routes_of(alloc, text)?;
-    let mut stored: Stored<Pair> = Stored::new(alloc)?;
+    let mut stored: Stored<Pair> = Stored::new(alloc);
     for number in numbers.iter().copied() {
-        let offer = ending_offer::<Pair>(number)?;
-        let own = copied_offer(&offer);
-        let marks = stored.marks()?;
-        let run: Run = Box::new(
-            alloc,
-            move |frame: &Frame| marked_answer::<Pair>(number, &own, frame, &marks),
-        )?;
-        stored.keep(number, offer, run)?;
+        let Some(own) = stored.answering(number) else {
+            break;
+        };
+        let offer = own.offer();
+        let run: Run = match Box::new(alloc, move |frame: &Frame| own.answer(frame)) {
+            Ok(run) => run,
+            Err(_) => break,
+        };
+        stored.keep(number, offer, run);
     }
-    let (transitions, _marks) = stored.into_parts();
+    let (transitions, _marks) = stored.into_parts()?;
     let bound = bind_graph(alloc, checked, routes, design, transitions)?;
     let (_checked, _routes, blocks) = bound.into_blocks();
     let mut sets = Vec::new(alloc);
@@ -95,4 +94,26 @@ pub fn bind_pair(
         }
     }
     Ok(sets)
+}
+
+/// After a fault nothing is stored, and the first fault is the one that is named: the pair has no offer of the number 5, and one
+/// of the number 4 that can't end.
+#[test]
+fn the_first_fault_stays(rt: HostRuntime) -> Result<(), Fail> {
+    let mut stored: Stored<Pair> = Stored::new(rt.alloc());
+    assert!(rt; stored.answering(5).is_none());
+    assert!(rt; stored.answering(4).is_none());
+    assert!(rt; stored.answering(0).is_none());
+    assert!(rt; matches!(stored.into_parts(), Err(GraphFault::NoOffer(5))));
+    Ok(())
+}
+
+/// A transition whose closure found no memory is not kept.
+#[test]
+fn what_is_not_kept_is_a_refusal_of_memory(rt: HostRuntime) -> Result<(), Fail> {
+    let mut stored: Stored<Pair> = Stored::new(rt.alloc());
+    assert!(rt; stored.answering(0).is_some());
+    assert!(rt; stored.answering(1).is_none());
+    assert!(rt; matches!(stored.into_parts(), Err(GraphFault::Memory)));
+    Ok(())
 }

@@ -14,7 +14,6 @@ pub use sdl_file_commands::sdl_command::status::REFUSED;
 pub use sdl_file_commands::streams::{Input, Output, shared_buffer};
 pub use sdl_graph_binding;
 pub use sdl_graph_binding::sdl_behaviour::{Dest, Frame, Kind, Offer, Run, Step, Via};
-pub use sdl_graph_binding::sdl_conformance::copied_offer;
 pub use sdl_graph_binding::sdl_graph::{
     Graph, OfferBuilder, StepBuilder, boolean_parameter, boolean_variable, integer_parameter,
     integer_variable, no_offer, no_step, pid_parameter, pid_variable,
@@ -22,6 +21,4 @@ pub use sdl_graph_binding::sdl_graph::{
 pub use sdl_graph_binding::sdl_signal::{
     ChannelId, GateId, Pid, SetId, SignalId, Sort, StateId, Value,
 };
-pub use sdl_graph_binding::{
-    Design, GraphFault, SetDesign, Stored, Use, ending_offer, marked_answer,
-};
+pub use sdl_graph_binding::{Answering, Design, GraphFault, SetDesign, Stored, Use};

@@ -29,8 +29,8 @@ pub fn refused<E: Write>(errors: &mut E, design: &Design, fault: GraphFault) -> 
     REFUSED
 }
 
-/// Binds the stored transitions to the structure and runs the agents, and answers the exit status: the first refusal, or how
-/// the run ended. Where a transition broke its offer, a line of standard error names the first, with the number of
+/// Binds the stored transitions to the structure and runs the agents, and answers the exit status: the first refusal, also of
+/// what was to be stored, or how the run ended. Where a transition broke its offer, a line of standard error names the first, with the number of
 /// answers that broke theirs. The logs are stored where a trace was asked for, and else counted alone.
 #[tactic(auto, unfolding(sdl_file_commands::specs::Running::CanRun))]
 pub fn run_prepared<G: Send, T: Threads + Wait + Sync, R: Read, W: Write, E: Write>(
@@ -58,7 +58,10 @@ pub fn run_prepared<G: Send, T: Threads + Wait + Sync, R: Read, W: Write, E: Wri
         options,
         schedule: &[],
     };
-    let (transitions, marks) = stored.into_parts();
+    let (transitions, marks) = match stored.into_parts() {
+        Ok(parts) => parts,
+        Err(fault) => return refused(errors, design, fault),
+    };
     match bind_graph(alloc, checked, routes, design, transitions) {
         Ok(bound) => run_marked(rt, settings, bound, design, &marks, input, output, errors),
         Err(fault) => refused(errors, design, fault),

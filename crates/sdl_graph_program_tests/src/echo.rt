@@ -2,9 +2,9 @@
 ghost use Rattle.sdl_graph_program.specs.Running.{CanRun};
 
 use sdl_graph_program::{
-    Design, Dest, Frame, Graph, GraphFault, Kind, Offer, OfferBuilder, Prepared, Run, SetDesign,
-    SignalId, Sort, StateId, Step, StepBuilder, Stored, Value, Via, copied_offer, ending_offer,
-    integer_parameter, marked_answer, no_offer, no_step, run_prepared,
+    Design, Dest, Frame, Graph, Kind, Offer, OfferBuilder, Prepared, Run, SetDesign, SignalId,
+    Sort, StateId, Step, StepBuilder, Stored, Value, Via, integer_parameter, no_offer, no_step,
+    run_prepared,
 };
 use std::alloc::Global;
 use std::sync::Wait;
@@ -98,20 +98,21 @@ pub fn run_echo<T: Threads + Wait + Sync>(
     design: &Design,
     start: u32,
     lines: &[u8],
-) -> Result<Ran, GraphFault>
+) -> Ran
     requires { CanRun prepared.checked prepared.routes }
 {
-    let mut stored: Stored<Echo> = Stored::new(alloc)?;
+    let mut stored: Stored<Echo> = Stored::new(alloc);
     for place in 0..2 {
         let number = start.saturating_add(place);
-        let offer = ending_offer::<Echo>(number)?;
-        let own = copied_offer(&offer);
-        let marks = stored.marks()?;
-        let run: Run = Box::new(
-            alloc,
-            move |frame: &Frame| marked_answer::<Echo>(number, &own, frame, &marks),
-        )?;
-        stored.keep(number, offer, run)?;
+        let Some(own) = stored.answering(number) else {
+            break;
+        };
+        let offer = own.offer();
+        let run: Run = match Box::new(alloc, move |frame: &Frame| own.answer(frame)) {
+            Ok(run) => run,
+            Err(_) => break,
+        };
+        stored.keep(number, offer, run);
     }
     let mut input = lines;
     let mut output = Vec::new(alloc);
@@ -125,9 +126,9 @@ pub fn run_echo<T: Threads + Wait + Sync>(
         &mut output,
         &mut errors,
     );
-    Ok(Ran {
+    Ran {
         status,
         output,
         errors,
-    })
+    }
 }

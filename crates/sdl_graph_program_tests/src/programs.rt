@@ -85,7 +85,7 @@ fn a_graph_runs(rt: HostRuntime) -> Result<(), Fail> {
     let (prepared, _, _) = prepare_echo(rt.alloc(), options_of(Command::Run, true));
     match prepared {
         Ok(prepared) => {
-            let ran = run_echo(&rt, rt.alloc(), prepared, &DESIGN, SOUND, PINGS)?;
+            let ran = run_echo(&rt, rt.alloc(), prepared, &DESIGN, SOUND, PINGS);
             assert!(rt; ran.status == 0);
             assert!(rt; ran.output.as_slice() == BOOKS);
             assert!(rt; ran.errors.is_empty());
@@ -101,7 +101,7 @@ fn a_broken_offer_gives_status_4(rt: HostRuntime) -> Result<(), Fail> {
     let (prepared, _, _) = prepare_echo(rt.alloc(), options_of(Command::Run, false));
     match prepared {
         Ok(prepared) => {
-            let ran = run_echo(&rt, rt.alloc(), prepared, &DESIGN, MUTE, PINGS)?;
+            let ran = run_echo(&rt, rt.alloc(), prepared, &DESIGN, MUTE, PINGS);
             assert!(rt; ran.status == BROKEN);
             assert!(rt; ran.status == 4);
             assert!(rt; ran.output.is_empty());
@@ -126,7 +126,7 @@ fn a_broken_offer_stands_above_a_fault(rt: HostRuntime) -> Result<(), Fail> {
                 &DESIGN,
                 MUTE,
                 b"line ping 7\nline\n",
-            )?;
+            );
             assert!(rt; ran.status == 4);
             let lines =
                 b"input line 2: L3 Missing\nbroken offer transition 3 answers 1\n".as_slice();
@@ -147,10 +147,26 @@ fn a_design_that_does_not_fit_is_refused(rt: HostRuntime) -> Result<(), Fail> {
     let (prepared, _, _) = prepare_echo(rt.alloc(), options_of(Command::Run, false));
     match prepared {
         Ok(prepared) => {
-            let ran = run_echo(&rt, rt.alloc(), prepared, &design, SOUND, PINGS)?;
+            let ran = run_echo(&rt, rt.alloc(), prepared, &design, SOUND, PINGS);
             assert!(rt; ran.status == 1);
             assert!(rt; ran.output.is_empty());
             assert!(rt; ran.errors.as_slice() == b"G4 NoSet F\n".as_slice());
+        }
+        Err(_) => assert!(rt; false),
+    }
+    Ok(())
+}
+
+/// Echo has four numbers, 0 to 3, so a start of the number 4 is not stored, and nothing is run.
+#[test]
+fn a_number_without_an_offer_is_refused(rt: HostRuntime) -> Result<(), Fail> {
+    let (prepared, _, _) = prepare_echo(rt.alloc(), options_of(Command::Run, false));
+    match prepared {
+        Ok(prepared) => {
+            let ran = run_echo(&rt, rt.alloc(), prepared, &DESIGN, 4, PINGS);
+            assert!(rt; ran.status == 1);
+            assert!(rt; ran.output.is_empty());
+            assert!(rt; ran.errors.as_slice() == b"G1 NoOffer transition 4\n".as_slice());
         }
         Err(_) => assert!(rt; false),
     }

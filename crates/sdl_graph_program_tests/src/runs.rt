@@ -4,10 +4,9 @@ ghost use Rattle.sdl_graph_run.specs.sdl_graph_binding.sdl_transition.Bound.{IsB
 use super::wheel::{BROKEN, DESIGN, FAULTY, SOUND, TRANSITIONS, WHEEL, Wheel};
 use sdl_graph_run::run_graph;
 use sdl_graph_run::sdl_graph_binding::sdl_behaviour::{Frame, Run};
-use sdl_graph_run::sdl_graph_binding::sdl_conformance::copied_offer;
 use sdl_graph_run::sdl_graph_binding::sdl_transition::Bound;
 use sdl_graph_run::sdl_graph_binding::{
-    Broken, GraphAgents, GraphFault, Marks, Stored, bind_graph, ending_offer, marked_answer,
+    Broken, GraphAgents, GraphFault, Marks, Stored, bind_graph,
 };
 use sdl_graph_run::sdl_run::sdl_log::{Event, Keeps, Unstored};
 use sdl_graph_run::sdl_run::{RunEnd, StartFault};
@@ -72,19 +71,20 @@ fn run_wheel<K: Keeps>(alloc: Global, start: u32, lines: &[u8]) -> Result<Ran, G
     let Ok((checked, routes)) = routes_of(alloc, WHEEL) else {
         return Err(GraphFault::Memory);
     };
-    let mut stored: Stored<Wheel> = Stored::new(alloc)?;
+    let mut stored: Stored<Wheel> = Stored::new(alloc);
     for place in 0..TRANSITIONS {
         let number = start.saturating_add(place);
-        let offer = ending_offer::<Wheel>(number)?;
-        let own = copied_offer(&offer);
-        let marks = stored.marks()?;
-        let run: Run = Box::new(
-            alloc,
-            move |frame: &Frame| marked_answer::<Wheel>(number, &own, frame, &marks),
-        )?;
-        stored.keep(number, offer, run)?;
+        let Some(own) = stored.answering(number) else {
+            break;
+        };
+        let offer = own.offer();
+        let run: Run = match Box::new(alloc, move |frame: &Frame| own.answer(frame)) {
+            Ok(run) => run,
+            Err(_) => break,
+        };
+        stored.keep(number, offer, run);
     }
-    let (transitions, marks) = stored.into_parts();
+    let (transitions, marks) = stored.into_parts()?;
     let bound = bind_graph(alloc, checked, routes, &DESIGN, transitions)?;
     run_bound::<K>(alloc, bound, &marks, lines)
 }

@@ -4,4 +4,4 @@ use Rattle.sdl_graph_program.proofs.runs.run_prepared.Goals as goal
 
 pub run_marked-requires-clause-budget : goal.run_marked-requires-clause-budget
 unfolding CanRun
-run_marked-requires-clause-budget g c κs outlives = subst HasBudget (sym c.in-Ok.ensures.structure) c.requires.0
+run_marked-requires-clause-budget g c κs outlives = subst HasBudget (sym c.in-Ok-bind_graph.ensures.structure) c.requires.0
