@@ -1,14 +1,18 @@
 -- How the transitions of a graph are counted through, over all its sets. (This project's own.)
-use Rattle.std.specs.Prelude.{◌≡◌, ℕ, zero, suc, ◌-◌, ◌<◌, ◌≤◌, List, [], ◌∷◌}
+use Rattle.std.specs.Prelude.{◌≡◌, ℕ, ◌+◌, ◌<◌, ◌≤◌, List, [], ◌∷◌, take, slice_get, IsSomeAnd}
 use Rattle.sdl_graph_binding.specs.declared.sets.SetDesign.{SetDesign}
 
--- The transition of this number is, of the set at this place, the one of its own number, of which 0 is the start.
-abbrev pub IsNumberedIn : List SetDesign → ℕ → ℕ → ℕ → Type 0
-IsNumberedIn [] number place own = ⊥
-IsNumberedIn (set ∷ more) number zero own = (own ≡ number) × (number < set.transitions)
-IsNumberedIn (set ∷ more) number (suc place) own = (set.transitions ≤ number) × IsNumberedIn more (number - set.transitions) place own
+-- how many transitions these sets have together
+abbrev pub transitions_of : List SetDesign → ℕ
+transitions_of [] = 0
+transitions_of (set ∷ more) = set.transitions + transitions_of more
+
+-- The transition of this number is, of the set at this place, the one of its own number, of which 0 is the start: it comes behind
+-- all transitions of the sets before.
+pub record IsNumberedIn (sets : List SetDesign) (number place own : ℕ) : Type 0 where
+  pub behind : number ≡ transitions_of (take place sets) + own
+  pub within : IsSomeAnd (slice_get sets place) (λ set. own < set.transitions)
 
 -- no set has a transition of this number
 abbrev pub IsPastAll : List SetDesign → ℕ → Type 0
-IsPastAll [] number = Unit {0}
-IsPastAll (set ∷ more) number = (set.transitions ≤ number) × IsPastAll more (number - set.transitions)
+IsPastAll sets number = transitions_of sets ≤ number
