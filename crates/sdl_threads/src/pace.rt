@@ -41,6 +41,12 @@ const MOST_NAPS: u32 = 10;
 
 const MOST_LISTENED: u32 = 4_096;
 
+/// How often a worker yields, once the pauses of `Backoff` are over, before it sleeps.
+const MOST_YIELDS: u32 = 25;
+
+/// The processors are crowded where twice in a row fewer pauses than these lay between two in which a sleep ended by itself.
+const FEW_PAUSES: u32 = 16;
+
 /// How far a worker has come to rest.
 #[derive(Drop)]
 struct Idling {
@@ -54,7 +60,14 @@ struct Idling {
     untold_steps: u32,
     /// How many of its steps did something since somebody waits for room where it takes.
     room_steps: u32,
+    /// Its pauses since it last got up.
     pause: Backoff,
+    /// How often it has yielded, once those were over, since it last did something.
+    yields: u32,
+    /// How many pauses it made since the last one in which a sleep ended by itself.
+    short_pauses: u32,
+    /// There were few before that one.
+    doubts: bool,
     /// How often it has slept since it last did something.
     naps: u32,
     /// How many steps it made since it last might ask.
@@ -70,6 +83,9 @@ impl Idling {
             untold_steps: 0,
             room_steps: 0,
             pause: Backoff::new(),
+            yields: 0,
+            short_pauses: 0,
+            doubts: false,
             naps: 0,
             listened: 0,
         }
@@ -95,8 +111,9 @@ impl Idling {
         if !self.awake {
             told.gets_up(self.mark);
             self.awake = true;
+            self.pause.reset();
         }
-        self.pause.reset();
+        self.yields = 0;
         self.naps = 0;
         self.untold_steps = self.untold_steps.saturating_add(1);
         if self.untold_steps >= MOST_UNTOLD {
@@ -130,7 +147,7 @@ impl Idling {
     fn waits<R: Wait>(&mut self, rt: &R, told: &Told) {
         told.wakes_each(self.untold);
         self.gives_room(told);
-        if self.pauses_on() {
+        if self.pauses_on(told) {
             return;
         }
         if self.nods_off(told) {
@@ -145,7 +162,7 @@ impl Idling {
     fn listens<R: Wait>(&mut self, rt: &R, told: &Told) {
         self.tells(told);
         self.gives_room(told);
-        if !self.pauses_on() && !self.nods_off(told) {
+        if !self.pauses_on(told) && !self.nods_off(told) {
             told.listens(self.mark);
             told.sleeps(rt, self.mark, LISTENING, NAP_MICROS);
             self.naps = self.naps.saturating_add(1);
@@ -156,7 +173,7 @@ impl Idling {
     fn rests<R: Wait>(&mut self, rt: &R, told: &Told) {
         self.tells(told);
         self.gives_room(told);
-        if !self.pauses_on() && !self.nods_off(told) {
+        if !self.pauses_on(told) && !self.nods_off(told) {
             told.falls_asleep(self.mark);
             told.sleeps(rt, self.mark, ASLEEP, NAP_MICROS);
         }
@@ -168,13 +185,36 @@ impl Idling {
         told.nods_off(self.mark)
     }
 
-    /// Spins, and then yields, unless it did so often enough.
-    fn pauses_on(&mut self) -> bool {
-        if self.pause.is_completed() {
+    /// Spins, and then yields, unless it did so often enough or the processors are crowded. There a yield takes as long as others
+    /// like, and who sleeps has his turn as soon as he is woken.
+    fn pauses_on(&mut self, told: &Told) -> bool {
+        let naps = told.naps();
+        if told.is_crowded(naps) {
             return false;
         }
+        if self.pause.is_completed() {
+            if self.yields >= MOST_YIELDS {
+                return false;
+            }
+            self.yields += 1;
+        }
         self.pause.snooze();
+        if told.naps() == naps {
+            self.short_pauses = self.short_pauses.saturating_add(1);
+        } else {
+            self.judges(told, naps);
+        }
         true
+    }
+
+    /// A sleep ended by itself during a pause, which began after so many.
+    fn judges(&mut self, told: &Told, naps: u64) {
+        let few = self.short_pauses < FEW_PAUSES;
+        if few && self.doubts {
+            told.finds_crowd(naps);
+        }
+        self.doubts = few;
+        self.short_pauses = 0;
     }
 }
 

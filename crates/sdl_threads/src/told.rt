@@ -25,6 +25,9 @@ const SLEEPS: u32 = ASLEEP;
 /// The count of those at rest while there are none. It lies above zero, as a worker may be woken before it is counted.
 const NONE_RESTS: u64 = 4_294_967_296;
 
+/// For how many sleeps of each worker at rest no worker pauses, once one found the processors crowded: a fifth of a second.
+const CROWDED_NAPS: u64 = 24;
+
 /// What the threads tell each other. These are hints, and no claim rests on them: however they come, a worker comes back with
 /// what its steps keep.
 ///
@@ -43,6 +46,10 @@ pub(crate) struct Told {
     listener: AtomicU64,
     /// 1 once all are to stop.
     stop: AtomicU64,
+    /// How many sleeps ended by themselves. While a worker sleeps that nobody wakes, this is a clock.
+    naps: CachePadded<AtomicU64>,
+    /// The number of such ends until which no worker pauses, as others want the processors, or as there was no clock yet.
+    crowded: CachePadded<AtomicU64>,
     /// Each worker's word, by the mark of the station where it takes.
     words: [CachePadded<AtomicU64>; MARKS],
     /// For each mark of a station, the mark of the worker that waits for room there, and one more. 0 where none does.
@@ -58,6 +65,8 @@ impl Told {
             resting: AtomicU64::new(NONE_RESTS),
             listener: AtomicU64::new(0),
             stop: AtomicU64::new(0),
+            naps: CachePadded::new(AtomicU64::new(0)),
+            crowded: CachePadded::new(AtomicU64::new(1)),
             words: from_fn(|_| CachePadded::new(AtomicU64::new(AWAKE as u64))),
             rooms: from_fn(|_| CachePadded::new(AtomicU64::new(0))),
             turned_away: AtomicU64::new(0),
@@ -204,8 +213,28 @@ impl Told {
 
     /// Sleeps while the worker with this mark is in this state, at most for this time.
     pub(crate) fn sleeps<R: Wait>(&self, rt: &R, mark: u32, state: u32, micros: u64) {
-        self.word(mark)
-            .park_timeout(rt, state, Duration::from_micros(micros));
+        let word = self.word(mark);
+        word.park_timeout(rt, state, Duration::from_micros(micros));
+        if word.load(SeqCst) == state as u64 {
+            self.naps.fetch_add(1, SeqCst);
+        }
+    }
+
+    /// How many sleeps ended by themselves so far.
+    pub(crate) fn naps(&self) -> u64 {
+        self.naps.load(SeqCst)
+    }
+
+    /// Whether others want the processors, after this many sleeps that ended by themselves.
+    pub(crate) fn is_crowded(&self, naps: u64) -> bool {
+        naps < self.crowded.load(SeqCst)
+    }
+
+    /// Others want the processors, after this many sleeps that ended by themselves.
+    pub(crate) fn finds_crowd(&self, naps: u64) {
+        let resting = self.resting.load(SeqCst).saturating_sub(NONE_RESTS);
+        let stretch = CROWDED_NAPS.saturating_mul(resting.saturating_add(1));
+        self.crowded.store(naps.saturating_add(stretch), SeqCst);
     }
 
     /// The worker of this number is called on this thread, as its own could not start.
