@@ -4,4 +4,5 @@ pub use Rattle.sdl_hand.specs.Apart
 pub mod Workers
 pub mod Phases
 pub mod Rounds
+pub mod Picks
 pub mod PhasesApart

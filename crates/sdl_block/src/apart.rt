@@ -8,6 +8,7 @@ ghost use Rattle.sdl_hand.specs.Apart.{StepsApart, IsPuttingOut};
 ghost use Rattle.sdl_hand.specs.Puts as puts;
 ghost use Rattle.sdl_block.specs.Phases.{PutsFirst, IsEmptyAfter};
 ghost use Rattle.sdl_block.specs.PhasesApart.{TakesThrough, LetsInApart, StepsToApart, IsOneRoundApart};
+ghost use Rattle.sdl_block.specs.Picks.{LetsInAt, StepsAt};
 ghost use Rattle.sdl_block.specs.Workers.{worker_of, behaviours_of, system_around};
 
 use crate::worker::BlockWorker;
@@ -27,6 +28,7 @@ impl<S: Agents, K: Keeps> BlockWorker<S, K> {
     pub fn step<R: Wait>(&mut self, rt: &R, routes: &Routes, ends: &mut Ends, pick: u32) -> Stepped
         requires parts { CanFire S.may (behaviours_of self.old) }
         requires keeps { IsPuttingOut S.may (system_around self.old routes.now) (worker_of self.old) ends.old }
+        ensures pick { StepsAt S.may (system_around self.old routes.now) pick (worker_of self.old).core (worker_of self.new).core }
         ensures step { StepsApart S.may (system_around self.old routes.now) (worker_of self.old) ends.old result (worker_of self.new) ends.new }
         ensures first { PutsFirst (worker_of self.old) (worker_of self.new) }
         ensures round { IsOneRoundApart (worker_of self.old) ends.old result (worker_of self.new) ends.new }
@@ -50,6 +52,7 @@ impl<S: Agents, K: Keeps> BlockWorker<S, K> {
     ) -> Result<bool, Refused>
         requires parts { CanFire S.may (behaviours_of self.old) }
         requires keeps { IsPuttingOut S.may (system_around self.old routes.now) (worker_of self.old) ends.old }
+        ensures pick { StepsAt S.may (system_around self.old routes.now) pick (worker_of self.old).core (worker_of self.new).core }
         ensures step { StepsToApart S.may (system_around self.old routes.now) (worker_of self.old) ends.old result (worker_of self.new) ends.new }
         ensures first { PutsFirst (worker_of self.old) (worker_of self.new) }
         ensures round { IsOneRoundApart (worker_of self.old) ends.old (puts.answer_of result) (worker_of self.new) ends.new }
@@ -75,6 +78,7 @@ impl<S: Agents, K: Keeps> BlockWorker<S, K> {
         pick: u32,
     ) -> Result<bool, Refused>
         requires sound { IsSound S.may (system_around self.old routes.now) (worker_of self.old).core }
+        ensures pick { LetsInAt routes.now pick (worker_of self.old).core (worker_of self.new).core }
         ensures arrived { LetsInApart S.may (system_around self.old routes.now) (worker_of self.old) ends.old result (worker_of self.new) ends.new }
         ensures parts { behaviours_of self.new ≡ behaviours_of self.old }
         ensures ends { IsSameEnds ends.old ends.new }

@@ -1,5 +1,5 @@
 //! A block at work.
-ghost use Rattle.std.specs.Prelude.{◌≡◌, [], All, IsTrue, ◌↔◌, MatchResult, false, ⊤};
+ghost use Rattle.std.specs.Prelude.{◌≡◌, [], All, IsTrue, ◌↔◌, IfOk, MatchResult, false, ⊤};
 ghost use Rattle.sdl_signal.specs.declared.values.Pid.{Pid};
 ghost use Rattle.sdl_forward.specs.Boards.{IsBoardOf};
 ghost use Rattle.sdl_instances.specs.Core.{IsSound, IsLegalIn, IsReady};
@@ -7,6 +7,7 @@ ghost use Rattle.sdl_instances.specs.CoreOf.{core_of, parts_of, CanFire};
 ghost use Rattle.sdl_instances.specs.Run.{turns, waiting};
 ghost use Rattle.sdl_hand.specs.Work.{with_core, StepsAs};
 ghost use Rattle.sdl_block.specs.Phases.{TakesFrom, LetsArrive, ArrivesOrStays, LetsIn, TriesTurn, StepsTo, PutsFirst, IsEmptyAfter};
+ghost use Rattle.sdl_block.specs.Picks.{ArrivesAt, LetsInAt, TriesTurnAt, StepsAt};
 ghost use Rattle.sdl_block.specs.Rounds.{IsOneRound};
 ghost use Rattle.sdl_hand.specs.Puts as puts;
 ghost use Rattle.sdl_block.specs.Workers.{worker_of, behaviours_of, system_around};
@@ -49,6 +50,7 @@ impl<S: Agents, K: Keeps> BlockWorker<S, K> {
         requires sound { IsSound S.may (system_around self.old routes.now) (worker_of self.old).core }
         requires legal { All (IsLegalIn (system_around self.old routes.now)) (worker_of self.old).outgoing }
         requires board { IsBoardOf routes.now board.old }
+        ensures pick { StepsAt S.may (system_around self.old routes.now) pick (worker_of self.old).core (worker_of self.new).core }
         ensures step { StepsAs S.may (system_around self.old routes.now) (worker_of self.old) board.old result (worker_of self.new) board.new }
         ensures first { PutsFirst (worker_of self.old) (worker_of self.new) }
         ensures round { IsOneRound routes.now (worker_of self.old) board.old result (worker_of self.new) board.new }
@@ -69,6 +71,7 @@ impl<S: Agents, K: Keeps> BlockWorker<S, K> {
         requires sound { IsSound S.may (system_around self.old routes.now) (worker_of self.old).core }
         requires legal { All (IsLegalIn (system_around self.old routes.now)) (worker_of self.old).outgoing }
         requires board { IsBoardOf routes.now board.old }
+        ensures pick { StepsAt S.may (system_around self.old routes.now) pick (worker_of self.old).core (worker_of self.new).core }
         ensures step { StepsTo S.may (system_around self.old routes.now) (worker_of self.old) board.old result (worker_of self.new) board.new }
         ensures first { PutsFirst (worker_of self.old) (worker_of self.new) }
         ensures round { IsOneRound routes.now (worker_of self.old) board.old (puts.answer_of result) (worker_of self.new) board.new }
@@ -92,6 +95,7 @@ impl<S: Agents, K: Keeps> BlockWorker<S, K> {
         pick: u32,
     ) -> Result<bool, Refused>
         requires sound { IsSound S.may (system_around self.old routes.now) (worker_of self.old).core }
+        ensures pick { LetsInAt routes.now pick (worker_of self.old).core (worker_of self.new).core }
         ensures arrived { LetsIn S.may (system_around self.old routes.now) (worker_of self.old) board.old result (worker_of self.new) board.new }
         ensures parts { behaviours_of self.new ≡ behaviours_of self.old }
     {
@@ -123,6 +127,7 @@ impl<S: Agents, K: Keeps> BlockWorker<S, K> {
         pick: u32,
     ) -> Result<bool, Refused>
         requires sound { IsSound S.may (system_around self.old routes.now) (worker_of self.old).core }
+        ensures pick { LetsInAt routes.now pick (worker_of self.old).core (worker_of self.new).core }
         ensures arrived { ArrivesOrStays S.may (system_around self.old routes.now) (worker_of self.old) item result (worker_of self.new) }
         ensures parts { behaviours_of self.new ≡ behaviours_of self.old }
     {
@@ -152,6 +157,7 @@ impl<S: Agents, K: Keeps> BlockWorker<S, K> {
     #[inline(always)]
     fn admit(&mut self, routes: &Routes, item: Item, pick: u32) -> Result<(), Item>
         requires sound { IsSound S.may (system_around self.old routes.now) (worker_of self.old).core }
+        ensures pick { IfOk result (λ _. ArrivesAt routes.now pick (worker_of self.old).core (worker_of self.new).core) }
         ensures arrived { MatchResult result
             (λ _. LetsArrive S.may (system_around self.old routes.now) (worker_of self.old) item (worker_of self.new))
             (λ back. (back ≡ item) × (worker_of self.new ≡ worker_of self.old)) }
@@ -173,6 +179,7 @@ impl<S: Agents, K: Keeps> BlockWorker<S, K> {
         requires parts { CanFire S.may (behaviours_of self.old) }
         requires sound { IsSound S.may (system_around self.old routes.now) (worker_of self.old).core }
         requires hand { (worker_of self.old).outgoing ≡ [] }
+        ensures pick { TriesTurnAt S.may (system_around self.old routes.now) pick (worker_of self.old).core (worker_of self.new).core }
         ensures turn { TriesTurn S.may (system_around self.old routes.now) (worker_of self.old) result (worker_of self.new) }
         ensures parts { behaviours_of self.new ≡ behaviours_of self.old }
     {

@@ -1,4 +1,5 @@
 pub mod EnvPhases
 pub mod EnvSteps
+pub mod EnvPicks
 pub mod EnvApart
 pub mod EnvPhasesApart

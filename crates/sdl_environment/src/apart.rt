@@ -11,6 +11,7 @@ ghost use Rattle.sdl_hand.specs.Puts.{AreRouted};
 ghost use Rattle.sdl_hand.specs.PutsApart.{HaveWaysOut, PutsOutApart};
 ghost use Rattle.sdl_outcome.specs.EnvironmentWork.{IsEnvSound, HasReadSoFar, HasWrittenSoFar};
 ghost use Rattle.sdl_environment.specs.EnvSteps.{ReadsNext};
+ghost use Rattle.sdl_environment.specs.EnvPicks.{ReadsAt};
 ghost use Rattle.sdl_environment.specs.EnvApart.{EnvStepsApart, IsEnvPuttingOut, HasGateWays};
 ghost use Rattle.sdl_environment.specs.EnvPhasesApart.{SendsTo, SentOn, ReceivesApart, TakesOne, EnvStepsToApart};
 
@@ -71,6 +72,7 @@ impl EnvApart {
         requires routes { AreRoutesOf routed.structure.now routed.routes.now }
         requires keeps { IsEnvPuttingOut routed.structure.now routed.routes.now self.old.worker.number self.old.worker self.old.astray ends.old }
         ensures step { EnvStepsApart routed.entry.structure.now routed.entry.routes.now self.old.worker.number self.old.worker self.old.astray ends.old result self.new.worker self.new.astray ends.new }
+        ensures pick { ReadsAt routed.entry.routes.now pick self.old.worker self.new.worker }
         // What it does where nothing is astray and no refusal ends it, and where an item is astray.
         ensures hand { result ≢ Memory → self.new.worker.outgoing ≡ [] }
         ensures read { result ≢ Memory → ReadsNext self.old.worker self.new.worker }
@@ -146,6 +148,7 @@ impl EnvApart {
         requires sound { IsEnvSound routed.structure.now routed.routes.now self.old.worker.number self.old.worker }
         requires ways { HasGateWays routed.routes.now ends.old }
         ensures step { EnvStepsToApart routed.entry.structure.now routed.entry.routes.now self.old.worker.number self.old.worker None ends.old result self.new.worker self.new.astray ends.new }
+        ensures pick { ReadsAt routed.entry.routes.now pick self.old.worker self.new.worker }
         ensures on { IfOk result (λ did. SentOn self.old.worker self.new.worker × (self.new.astray ≡ None)) }
         ensures reading { (start : Option (List ℕ)) → HasReadSoFar routed.entry.structure.now routed.entry.routes.now self.old.worker.number start (R.remaining input.old) self.old.worker
             → HasReadSoFar routed.entry.structure.now routed.entry.routes.now self.old.worker.number start (R.remaining input.new) self.new.worker }
@@ -179,6 +182,7 @@ impl EnvWorker {
         requires sound { IsEnvSound structure.now routes.now self.old.number self.old }
         requires ways { HasGateWays routes.now ends.old }
         ensures sends { SendsTo structure.now routes.now self.old.number self.old ends.old result self.new ends.new }
+        ensures pick { ReadsAt routes.now pick self.old self.new }
         ensures on { IfOk result (λ did. SentOn self.old self.new) }
         ensures reading { (start : Option (List ℕ)) → HasReadSoFar structure.now routes.now self.old.number start (R.remaining input.old) self.old
             → HasReadSoFar structure.now routes.now self.old.number start (R.remaining input.new) self.new }

@@ -12,6 +12,7 @@ ghost use Rattle.sdl_hand.specs.declared.hand.Stepped.TheVariants.{Memory};
 ghost use Rattle.sdl_hand.specs.Puts.{AreRouted, PutsOut};
 ghost use Rattle.sdl_outcome.specs.EnvironmentWork.{IsEnvFresh, IsEnvSound, IsLegalItem, GoesOut, EnvStepsAs, HasReadSoFar, HasWrittenSoFar};
 ghost use Rattle.sdl_environment.specs.EnvPhases.{IsWritable, HasReadBy, HasWrittenBy, Reads, Receives, EnvStepsTo};
+ghost use Rattle.sdl_environment.specs.EnvPicks.{ReadsAt};
 ghost use Rattle.sdl_environment.specs.EnvSteps.{ReadsNext, TakesNext, StepsOn};
 
 use crate::outputs::{output_of, send};
@@ -98,6 +99,7 @@ impl EnvWorker {
         requires board { IsBoardOf routes.now board.old }
         requires outlet { All (λ i. IsLegalItem structure.now routes.now self.old.number i × GoesOut routes.now i) (waiting board.old Outlet) }
         ensures step { EnvStepsAs structure.now routes.now self.old.number self.old board.old result self.new board.new }
+        ensures pick { ReadsAt routes.now pick self.old self.new }
         // What it does where no refusal ends it.
         ensures hand { result ≢ Memory → self.new.outgoing ≡ [] }
         ensures read { result ≢ Memory → ReadsNext self.old self.new }
@@ -127,6 +129,7 @@ impl EnvWorker {
         requires board { IsBoardOf routes.now board.old }
         requires outlet { All (λ i. IsLegalItem structure.now routes.now self.old.number i × GoesOut routes.now i) (waiting board.old Outlet) }
         ensures step { EnvStepsTo structure.now routes.now self.old.number self.old board.old result self.new board.new }
+        ensures pick { ReadsAt routes.now pick self.old self.new }
         ensures on { IfOk result (λ did. StepsOn self.old self.new board.new) }
         ensures reading { (start : Option (List ℕ)) → HasReadSoFar structure.now routes.now self.old.number start (R.remaining input.old) self.old
             → HasReadSoFar structure.now routes.now self.old.number start (R.remaining input.new) self.new }
@@ -165,6 +168,7 @@ impl EnvWorker {
     ) -> Result<bool, Refused>
         requires hand { self.old.outgoing ≡ [] }
         ensures read { Reads names.now routes.now self.old result self.new }
+        ensures pick { ReadsAt routes.now pick self.old self.new }
         ensures reading { (start : Option (List ℕ)) → HasReadBy names.now routes.now self.old.number start (R.remaining input.old) self.old
             → HasReadBy names.now routes.now self.old.number start (R.remaining input.new) self.new }
     {

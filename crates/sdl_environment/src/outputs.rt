@@ -1,6 +1,7 @@
 //! The outputs of the environment: what becomes of the lines that were read.
 ghost use Rattle.std.specs.Prelude.{◌≡◌, ◌<◌, ◌++◌, length};
 ghost use Rattle.sdl_outcome.specs.EnvironmentWork.{IsOutputOf, sent_of, goal_to};
+ghost use Rattle.sdl_environment.specs.EnvPicks.{IsRoutedAt};
 
 use sdl_hand::Hand;
 use sdl_instances::copies::copied_item;
@@ -34,7 +35,8 @@ fn goal_to(to: Option<Pid>) -> Goal
 
 /// The output of a line: along the fitting route at this pick, or none fits.
 pub fn output_of(routes: &Routes, pick: u32, origin: Origin, line: EnvLine) -> EnvOut
-    ensures { IsOutputOf routes.now origin.worker origin.number line result }
+    ensures output { IsOutputOf routes.now origin.worker origin.number line result }
+    ensures routed { IsRoutedAt routes.now pick line result }
 {
     let wish = Wish {
         source: Source::Gate(line.gate),

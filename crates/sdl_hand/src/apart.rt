@@ -1,5 +1,5 @@
 //! Putting out what is in hand where each queue has ends of its own.
-ghost use Rattle.std.specs.Prelude.{◌≡◌, ◌<◌, ◌≤◌, ◌∷◌, [], length, MatchResult};
+ghost use Rattle.std.specs.Prelude.{◌≡◌, ◌≢◌, ◌<◌, ◌≤◌, ◌∷◌, [], length, IfErr, MatchResult};
 ghost use Rattle.sdl_signal.specs.declared.values.Item.{Item};
 ghost use Rattle.sdl_ends.specs.Ends.{IsSameEnds};
 ghost use Rattle.sdl_hand.specs.Puts.{AreRouted, IsRouted};
@@ -24,6 +24,7 @@ impl Hand {
         requires routed { AreRouted routes.now self.old.outgoing.items }
         requires ways { HaveWaysOut routes.now ends.old self.old.outgoing.items }
         ensures put { PutsOutApart routes.now self.old.outgoing.items ends.old result self.new.outgoing.items ends.new }
+        ensures refused { IfErr result (λ _. self.new.outgoing.items ≢ []) }
         ensures kept { self.new.kept ≡ self.old.kept }
         ensures ends { IsSameEnds ends.old ends.new }
     {

@@ -1,5 +1,5 @@
 //! Putting out what is in hand.
-ghost use Rattle.std.specs.Prelude.{◌≡◌, ◌<◌, ◌≤◌, ◌∷◌, [], length, MatchResult};
+ghost use Rattle.std.specs.Prelude.{◌≡◌, ◌≢◌, ◌<◌, ◌≤◌, ◌∷◌, [], length, IfErr, MatchResult};
 ghost use Rattle.sdl_signal.specs.declared.values.Item.{Item};
 ghost use Rattle.sdl_forward.specs.Boards.{IsBoardOf};
 ghost use Rattle.sdl_hand.specs.Puts.{AreRouted, IsRouted, Puts, PutsOut};
@@ -17,6 +17,7 @@ impl Hand {
         requires routed { AreRouted routes.now self.old.outgoing.items }
         requires board { IsBoardOf routes.now board.old }
         ensures put { PutsOut routes.now self.old.outgoing.items board.old result self.new.outgoing.items board.new }
+        ensures refused { IfErr result (λ _. self.new.outgoing.items ≢ []) }
         ensures kept { self.new.kept ≡ self.old.kept }
         ensures routed { AreRouted routes.now self.new.outgoing.items }
         ensures board { IsBoardOf routes.now board.new }

@@ -1,8 +1,9 @@
-use Rattle.std.proofs.Common.{Ok, ap, subst, sym}
+use Rattle.std.proofs.Common.{Ok, ap, inl, refl, subst, sym}
 use Rattle.sdl_transition.specs.Rules.{block_rules}
 use Rattle.sdl_instances.specs.Machine.{System}
 use Rattle.sdl_instances.specs.Core.{IsSound}
 use Rattle.sdl_block.specs.Phases.{TriesTurn}
+use Rattle.sdl_block.specs.Picks.{TriesTurnAt}
 use Rattle.sdl_block.specs.Workers.{worker_of, system_around}
 use Rattle.sdl_block.proofs.Going.{routed}
 use Rattle.sdl_block.proofs.Keeps.{hand_legal, hand_ways, keeps_going}
@@ -280,3 +281,32 @@ returns-clause-round g c =
     c.in_ok-arrived.arrived (worker_of c.let_one_arrive_apart.new.self) c.let_one_arrive_apart.new.ends c.in_ok-arrived.ensures.arrived
     _ c.in_ok-turned.turned (worker_of c.make_turn.new.self) c.in_ok-turned.ensures.turn
     _ c.in_ok-put_out_apart.field-0 c.put_out_apart-2.new.self.kept c.put_out_apart-2.new.self.outgoing.items c.put_out_apart-2.new.ends c.in_ok-put_out_apart.ensures.put
+
+pub returns-in_err-put-clause-pick : goal.returns-in_err-put-clause-pick
+returns-in_err-put-clause-pick g c = record { between = (worker_of c.args.self.now).core; arrival = inl refl; turn = inl refl }
+
+pub returns-in_err-put_out_apart-clause-pick : goal.returns-in_err-put_out_apart-clause-pick
+returns-in_err-put_out_apart-clause-pick g c =
+    let may = g.S.Agents.may in
+    let sys = system_around c.args.self.now c.args.routes.now in
+    let keeps = keeps_then may sys (worker_of c.args.self.now) c.args.ends.now c.in_ok-put.put c.put_out_apart.new.self.kept c.put_out_apart.new.self.outgoing.items c.put_out_apart.new.ends c.in_ok-put.ensures.put c.in_ok-put.ensures.kept c.requires.keeps.sound
+    c.in_ok-arrived.arrived (worker_of c.let_one_arrive_apart.new.self) c.let_one_arrive_apart.new.ends c.in_ok-arrived.ensures.arrived in
+    let same = same_system (worker_of c.args.self.now).core (worker_of c.let_one_arrive_apart.new.self).core c.args.routes.now _ _ keeps (ap (λ p. block_rules p) c.let_one_arrive_apart.ensures.parts) in
+    record {
+      between = (worker_of c.let_one_arrive_apart.new.self).core;
+      arrival = c.in_ok-arrived.ensures.pick;
+      turn = subst (λ (s : System). TriesTurnAt may s c.args.pick (worker_of c.let_one_arrive_apart.new.self).core (worker_of c.make_turn.new.self).core) same c.in_ok-turned.ensures.pick;
+    }
+
+pub returns-clause-pick : goal.returns-clause-pick
+returns-clause-pick g c =
+    let may = g.S.Agents.may in
+    let sys = system_around c.args.self.now c.args.routes.now in
+    let keeps = keeps_then may sys (worker_of c.args.self.now) c.args.ends.now c.in_ok-put.put c.put_out_apart.new.self.kept c.put_out_apart.new.self.outgoing.items c.put_out_apart.new.ends c.in_ok-put.ensures.put c.in_ok-put.ensures.kept c.requires.keeps.sound
+    c.in_ok-arrived.arrived (worker_of c.let_one_arrive_apart.new.self) c.let_one_arrive_apart.new.ends c.in_ok-arrived.ensures.arrived in
+    let same = same_system (worker_of c.args.self.now).core (worker_of c.let_one_arrive_apart.new.self).core c.args.routes.now _ _ keeps (ap (λ p. block_rules p) c.let_one_arrive_apart.ensures.parts) in
+    record {
+      between = (worker_of c.let_one_arrive_apart.new.self).core;
+      arrival = c.in_ok-arrived.ensures.pick;
+      turn = subst (λ (s : System). TriesTurnAt may s c.args.pick (worker_of c.let_one_arrive_apart.new.self).core (worker_of c.make_turn.new.self).core) same c.in_ok-turned.ensures.pick;
+    }

@@ -21,7 +21,7 @@ returns-in-Line-clause-reading g c = λ start read.
     let count : c.len.result ≡ length old.put = omega (arith, c.len.ensures, c.reserve.new.self.ok.0, ap length items) in
     let number : c.self.inside.number ≡ old.number = ap (λ (w : EnvWorking). w.number) c.self.view_is in
     let one : IsOutputOf routes old.number (length old.put) line out =
-    subst (λ (n : ℕ). IsOutputOf routes old.number n line out) count (subst (λ (w : ℕ). IsOutputOf routes w c.len.result line out) number c.output_of-out.ensures) in
+    subst (λ (n : ℕ). IsOutputOf routes old.number n line out) count (subst (λ (w : ℕ). IsOutputOf routes w c.len.result line out) number c.output_of-out.ensures.output) in
     read_line_more names routes old.number start (g.R.Read.remaining c.args.input.now) (g.R.Read.remaining c.next.new.input) old new line out
     (sym (ap (λ (w : EnvWorking). w.ended) c.self.view_is) ∙ none) none put one
     (λ carried so_far. c.in-Line.ensures.reading start carried (subst (λ (r : Reading). HasCarried names start (g.R.Read.remaining c.args.input.now) r carried) (sym reading) so_far)) read
