@@ -10,7 +10,7 @@ use std::marker::Model;
 pub const RETRIES: u32 = 1_000;
 
 /// How many bytes are asked of a reader at once, at most.
-const BLOCK: usize = 65_536;
+const BLOCK: usize = 131_072;
 
 /// What a read of a block came to.
 #[derive(Clone, Copy, Debug, PartialEq, Eq)]
@@ -59,7 +59,7 @@ impl Model for Ahead {
 
     ghost view = { λ a. slice_range a.block a.start a.end };
 
-    ghost invariant = { λ a. (a.start ≤ a.end) × (a.end ≤ 65536) };
+    ghost invariant = { λ a. (a.start ≤ a.end) × (a.end ≤ 131072) };
 }
 
 impl Ahead {
