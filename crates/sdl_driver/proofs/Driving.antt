@@ -19,11 +19,13 @@ use Rattle.sdl_block.specs.declared.worker.BlockWorker.{BlockWorker}
 use Rattle.sdl_hand.specs.declared.hand.Stepped.{Stepped}
 use Rattle.sdl_hand.specs.Work.{Working, StepsAs}
 use Rattle.sdl_block.specs.Workers.{worker_of, behaviours_of, system_around}
+use Rattle.sdl_block.specs.Picks.{StepsAt}
 use Rattle.sdl_opening.specs.declared.worker.Worker.TheVariants.{Block}
 use Rattle.sdl_driver.specs.declared.driver.Driver.{Driver}
 use Rattle.sdl_outcome.specs.Plan.{MayTravel, system_at}
 use Rattle.sdl_order.specs.Driver.{BlockSteps}
 use Rattle.sdl_driver.specs.Drivers.{site_of, plan_of, IsDriving}
+use Rattle.sdl_driver.specs.Runs.{BlockStepsAt}
 use Rattle.sdl_outcome.proofs.Lists.{map_set}
 use Rattle.sdl_order.proofs.Starts.{block}
 use Rattle.sdl_order.proofs.BlockStep.{of_block_was}
@@ -80,6 +82,11 @@ module _ {S K I : Type 0} {F : I → Type 0} {g : _} (may : ℕ → Frame → St
           environment = refl;
           forwarders = refl;
         }
+
+    pub block_step_at : (pick : ℕ) → StepsAs may (system_around w d.routes) (worker_of w) d.board answer (worker_of v) board → StepsAt may (system_around w d.routes) pick (worker_of w).core (worker_of v).core
+        → BlockStepsAt may (plan_of d) n pick answer (site_of d) (record { blocks = map worker_of (slice_set d.blocks.items n v); environment = d.environment; forwarders = d.forwarders.items; board = board })
+    unfolding block_step
+    block_step_at pick step chosen = (block_step step, subst (λ (s : System). StepsAt may s pick (worker_of w).core (worker_of v).core) (sym system_here) chosen)
 
     pub same_behaviours : behaviours_of v ≡ behaviours_of w → map behaviours_of (slice_set d.blocks.items n v) ≡ map behaviours_of d.blocks.items
     same_behaviours same = map_set behaviours_of d.blocks.items n w v in_list same

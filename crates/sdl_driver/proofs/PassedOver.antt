@@ -17,13 +17,13 @@ use Rattle.sdl_outcome.proofs.Lists.{get_set, get_set_other, set_same}
 use Rattle.sdl_order.specs.Driver.{Site, IsAtWork, ForwarderSteps}
 use Rattle.sdl_driver.specs.declared.driver.Driver.{Driver}
 use Rattle.sdl_driver.specs.Drivers.{site_of, plan_of, IsSameSystem, AllFree, IsIdleAt, HasGone, stepped_by}
-use Rattle.sdl_driver.specs.Runs.{numbers_below, WorkerSteps, StepsThrough}
+use Rattle.sdl_driver.specs.Runs.{workers_below, WorkerSteps, StepsThrough}
 use Rattle.sdl_driver.proofs.Running.{round_on, worker_by}
 
 -- a forwarder that holds nothing, and at whose path nothing waits, could do nothing
 module _ (may : ℕ → Frame → Step → Type 0) (plan : Plan) (site : Site) (board : IsBoardOf plan.routes site.board) (n k : ℕ) (f : Forwarding)
     (at : slice_get site.forwarders k ≡ Some f) (held : f.held ≡ None) (empty : waiting site.board (Line f.hop) ≡ []) where
-  pub passed_steps : n ≡ blocks_in plan + 1 + k → WorkerSteps may plan n Idle site site
+  pub passed_steps : n ≡ blocks_in plan + 1 + k → WorkerSteps may plan n 0 Idle site site
   passed_steps place = inr (inr (
     k,
     forwarded.Idle,
@@ -68,28 +68,28 @@ module _ (may : ℕ → Frame → Step → Type 0) (plan : Plan) (n : ℕ) (answ
         | inr other ↦ free j f (sym (get_set_other old.forwarders k j steps.is other) ∙ there)
       ]
 
-  pub free_still : WorkerSteps may plan n answer old new → AllFree new
-  free_still (inl steps) j f at = free j f (subst (λ (fs : List Forwarding). slice_get fs j ≡ Some f) steps.forwarders at)
-  free_still (inr (inl (place, steps))) j f at = free j f (subst (λ (fs : List Forwarding). slice_get fs j ≡ Some f) steps.forwarders at)
+  pub free_still : WorkerSteps may plan n 0 answer old new → AllFree new
+  free_still (inl (steps, chosen)) j f at = free j f (subst (λ (fs : List Forwarding). slice_get fs j ≡ Some f) steps.forwarders at)
+  free_still (inr (inl (place, steps, chosen))) j f at = free j f (subst (λ (fs : List Forwarding). slice_get fs j ≡ Some f) steps.forwarders at)
   free_still (inr (inr (k, did, place, is, steps))) j f at = forwarder_free k did is steps j f at
 
 -- a round that passes over workers which could do nothing
 module _ (may : ℕ → Frame → Step → Type 0) (plan : Plan) (start now : Site) (a : ℕ) where
-  pass_more : (d : ℕ) → ((n : ℕ) → a ≤ n → n < a + d → WorkerSteps may plan n Idle now now) → StepsThrough may plan (numbers_below a) None start now
-      → StepsThrough may plan (numbers_below (a + d)) None start now
+  pass_more : (d : ℕ) → ((n : ℕ) → a ≤ n → n < a + d → WorkerSteps may plan n 0 Idle now now) → StepsThrough may plan (workers_below a) None start now
+      → StepsThrough may plan (workers_below (a + d)) None start now
   pass_more zero each before =
       let here : a ≡ a + zero = omega arith in
-      subst (λ (m : ℕ). StepsThrough may plan (numbers_below m) None start now) here before
+      subst (λ (m : ℕ). StepsThrough may plan (workers_below m) None start now) here before
   pass_more (suc d) each before =
       let further : a + d + 1 ≡ a + suc d = omega arith in
-      subst (λ (m : ℕ). StepsThrough may plan (numbers_below m) None start now) further
+      subst (λ (m : ℕ). StepsThrough may plan (workers_below m) None start now) further
       (round_on may plan (a + d) Idle start now now (pass_more d (λ n from below. each n from (omega (arith, below))) before) (λ e. cc) (each (a + d) (omega arith) (omega arith)))
 
   module _ (b : ℕ) (from : a ≤ b) where
-    pub pass_steps : ((n : ℕ) → a ≤ n → n < b → WorkerSteps may plan n Idle now now) → StepsThrough may plan (numbers_below a) None start now → StepsThrough may plan (numbers_below b) None start now
+    pub pass_steps : ((n : ℕ) → a ≤ n → n < b → WorkerSteps may plan n 0 Idle now now) → StepsThrough may plan (workers_below a) None start now → StepsThrough may plan (workers_below b) None start now
     pass_steps each before =
         let end : a + (b - a) ≡ b = omega arith in
-        subst (λ (m : ℕ). StepsThrough may plan (numbers_below m) None start now) end (pass_more (b - a) (λ n lower below. each n lower (omega (arith, end, below))) before)
+        subst (λ (m : ℕ). StepsThrough may plan (workers_below m) None start now) end (pass_more (b - a) (λ n lower below. each n lower (omega (arith, end, below))) before)
 
     pub pass_gone : (did : Bool) → ((n : ℕ) → a ≤ n → n < b → IsIdleAt now n) → HasGone plan start now did a → HasGone plan start now did b
     pass_gone did each gone = record {
@@ -112,7 +112,7 @@ found_at (x ∷ xs) (suc k) less = found_at xs k (omega arith)
 -- of forwarders, none of which holds an item, those at whose paths nothing waits
 pub passed_over : (may : ℕ → Frame → Step → Type 0) (plan : Plan) (site : Site) → IsAtWork may plan site → AllFree site → (first from next : ℕ) → first ≡ length site.blocks + 1 → next ≤ length site.forwarders
     → ((k : ℕ) (f : Forwarding) → from ≤ k → k < next → slice_get site.forwarders k ≡ Some f → waiting site.board (Line f.hop) ≡ [])
-    → (n : ℕ) → first + from ≤ n → n < first + next → WorkerSteps may plan n Idle site site × IsIdleAt site n
+    → (n : ℕ) → first + from ≤ n → n < first + next → WorkerSteps may plan n 0 Idle site site × IsIdleAt site n
 passed_over may plan site work free first from next is within empty n lower below =
     let at = found_at site.forwarders (n - first) (omega (arith, lower, below, within)) in
     let none = empty (n - first) at.0 (omega (arith, lower)) (omega (arith, lower, below)) at.1 in (
@@ -122,9 +122,9 @@ passed_over may plan site work free first from next is within empty n lower belo
 
 -- a step of a round, and then workers that are passed over
 module _ {S K I : Type 0} {F : I → Type 0} {g : _} (may : ℕ → Frame → Step → Type 0) (start next : Driver S K I F g) (same : IsSameSystem start next) (a b : ℕ) (from : a ≤ b)
-    (each : (n : ℕ) → a ≤ n → n < b → WorkerSteps may (plan_of next) n Idle (site_of next) (site_of next) × IsIdleAt (site_of next) n) where
-  pub steps_past : StepsThrough may (plan_of start) (numbers_below a) None (site_of start) (site_of next) → StepsThrough may (plan_of start) (numbers_below b) None (site_of start) (site_of next)
-  steps_past = pass_steps may (plan_of start) (site_of start) (site_of next) a b from (λ n lower below. worker_by may start next same n Idle (site_of next) (site_of next) (each n lower below).0)
+    (each : (n : ℕ) → a ≤ n → n < b → WorkerSteps may (plan_of next) n 0 Idle (site_of next) (site_of next) × IsIdleAt (site_of next) n) where
+  pub steps_past : StepsThrough may (plan_of start) (workers_below a) None (site_of start) (site_of next) → StepsThrough may (plan_of start) (workers_below b) None (site_of start) (site_of next)
+  steps_past = pass_steps may (plan_of start) (site_of start) (site_of next) a b from (λ n lower below. worker_by may start next same n 0 Idle (site_of next) (site_of next) (each n lower below).0)
 
   pub gone_past : (did : Bool) → HasGone (plan_of start) (site_of start) (site_of next) did a → HasGone (plan_of start) (site_of start) (site_of next) did b
   gone_past did = pass_gone may (plan_of start) (site_of start) (site_of next) a b from did (λ n lower below. (each n lower below).1)

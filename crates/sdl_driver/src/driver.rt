@@ -2,8 +2,9 @@
 ghost use Rattle.std.specs.Prelude.{◌≡◌, ◌<◌, ◌≤◌, None, true, length, MatchOption};
 ghost use Rattle.sdl_outcome.specs.Plan.{workers_of};
 ghost use Rattle.sdl_order.specs.Driver.{BlockSteps, EnvironmentSteps, ForwarderSteps, IsIdle};
+ghost use Rattle.sdl_environment.specs.EnvPicks.{ReadsAt};
 ghost use Rattle.sdl_driver.specs.Drivers.{site_of, plan_of, IsDriving, IsSameSystem, ReadsOver, WritesOver, AllFree, StepAnswers, RoundAnswers};
-ghost use Rattle.sdl_driver.specs.Runs.{numbers_below, refused_in, WorkerSteps, StepsThrough, Settles, Runs};
+ghost use Rattle.sdl_driver.specs.Runs.{workers_below, refused_in, BlockStepsAt, WorkerSteps, StepsThrough, Settles, Runs};
 
 use sdl_block::BlockWorker;
 use sdl_environment::EnvWorker;
@@ -60,6 +61,7 @@ impl<S: Agents, K: Keeps> Driver<S, K> {
         requires driving { IsDriving S.may self.old }
         requires within { block < length self.old.blocks.items }
         ensures step { BlockSteps S.may (plan_of self.old) block result (site_of self.old) (site_of self.new) }
+        ensures pick { BlockStepsAt S.may (plan_of self.old) block pick result (site_of self.old) (site_of self.new) }
         ensures same { IsSameSystem self.old self.new }
     {
         let worker = &mut self.blocks[block];
@@ -86,6 +88,7 @@ impl<S: Agents, K: Keeps> Driver<S, K> {
     ) -> Stepped
         requires driving { IsDriving S.may self.old }
         ensures step { EnvironmentSteps (plan_of self.old) result (site_of self.old) (site_of self.new) }
+        ensures pick { ReadsAt (plan_of self.old).routes pick self.old.environment self.new.environment }
         ensures same { IsSameSystem self.old self.new }
         ensures reading { ReadsOver (plan_of self.old) self.old.environment (R.remaining input.old) self.new.environment (R.remaining input.new) }
         ensures writing { WritesOver (plan_of self.old) self.old.environment (W.contents output.old) self.new.environment (W.contents output.new) }
@@ -113,7 +116,7 @@ impl<S: Agents, K: Keeps> Driver<S, K> {
         ensures driving { IsDriving S.may self.new }
         ensures same { IsSameSystem self.old self.new }
         ensures answer { StepAnswers (plan_of self.old) number result (site_of self.old) (site_of self.new) }
-        ensures step { WorkerSteps S.may (plan_of self.old) number result (site_of self.old) (site_of self.new) }
+        ensures step { WorkerSteps S.may (plan_of self.old) number pick result (site_of self.old) (site_of self.new) }
         ensures reading { ReadsOver (plan_of self.old) self.old.environment (R.remaining input.old) self.new.environment (R.remaining input.new) }
         ensures writing { WritesOver (plan_of self.old) self.old.environment (W.contents output.old) self.new.environment (W.contents output.new) }
     {
@@ -139,7 +142,7 @@ impl<S: Agents, K: Keeps> Driver<S, K> {
         ensures driving { IsDriving S.may self.new }
         ensures same { IsSameSystem self.old self.new }
         ensures answer { RoundAnswers (plan_of self.old) result (site_of self.old) (site_of self.new) }
-        ensures steps { StepsThrough S.may (plan_of self.old) (numbers_below (length (workers_of (plan_of self.old)))) (refused_in result) (site_of self.old) (site_of self.new) }
+        ensures steps { StepsThrough S.may (plan_of self.old) (workers_below (length (workers_of (plan_of self.old)))) (refused_in result) (site_of self.old) (site_of self.new) }
         ensures free { refused_in result ≡ None → free ≡ true → AllFree (site_of self.new) }
         ensures reading { ReadsOver (plan_of self.old) self.old.environment (R.remaining input.old) self.new.environment (R.remaining input.new) }
         ensures writing { WritesOver (plan_of self.old) self.old.environment (W.contents output.old) self.new.environment (W.contents output.new) }

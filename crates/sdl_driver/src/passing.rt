@@ -56,7 +56,7 @@ impl<S: Agents, K: Keeps> Driver<S, K> {
         requires free { free ≡ true → AllFree (site_of self.now) }
         ensures from { number ≤ result }
         ensures within { result ≤ length (workers_of (plan_of self.now)) }
-        ensures passed { (n : ℕ) → number ≤ n → n < result → WorkerSteps S.may (plan_of self.now) n Idle (site_of self.now) (site_of self.now) × IsIdleAt (site_of self.now) n }
+        ensures passed { (n : ℕ) → number ≤ n → n < result → WorkerSteps S.may (plan_of self.now) n 0 Idle (site_of self.now) (site_of self.now) × IsIdleAt (site_of self.now) n }
     {
         let first = self.blocks.len() + 1;
         let place = number as usize;

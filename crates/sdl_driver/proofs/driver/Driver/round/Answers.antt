@@ -5,7 +5,7 @@ use Rattle.sdl_hand.specs.declared.hand.Stepped.{Stepped}
 use Rattle.sdl_hand.specs.declared.hand.Stepped.TheVariants.{Did, Idle, Memory}
 use Rattle.sdl_outcome.specs.Plan.{Plan, workers_of}
 use Rattle.sdl_driver.specs.Drivers.{site_of, plan_of}
-use Rattle.sdl_driver.specs.Runs.{numbers_below, WorkerSteps, StepsThrough}
+use Rattle.sdl_driver.specs.Runs.{workers_below, WorkerSteps, StepsThrough}
 use Rattle.sdl_driver.proofs.Running.{round_on, round_stops, worker_by}
 use Rattle.sdl_driver.proofs.PassedOver.{free_still, steps_past, gone_past}
 use Rattle.sdl_driver.proofs.driver.Driver.round.Goals.{in-Did, in-Idle}
@@ -48,9 +48,9 @@ loop-number-preserved g c =
       writing = writes_on start now next inv.same _ _ _ inv.writing c.step.ensures.writing;
       steps = steps_past g.S.Agents.may start next same (n + 1) to past.from past.passed (elim c.match-step.branch [
         | in-Did w ↦ round_on g.S.Agents.may (plan_of start) n c.step.result (site_of start) (site_of now) (site_of next) inv.steps (λ e. cc)
-            (worker_by g.S.Agents.may start now inv.same n c.step.result (site_of now) (site_of next) c.step.ensures.step)
+            (worker_by g.S.Agents.may start now inv.same n 0 c.step.result (site_of now) (site_of next) c.step.ensures.step)
         | in-Idle w ↦ round_on g.S.Agents.may (plan_of start) n c.step.result (site_of start) (site_of now) (site_of next) inv.steps (λ e. cc)
-            (worker_by g.S.Agents.may start now inv.same n c.step.result (site_of now) (site_of next) c.step.ensures.step)
+            (worker_by g.S.Agents.may start now inv.same n 0 c.step.result (site_of now) (site_of next) c.step.ensures.step)
       ]);
       gone = gone_past g.S.Agents.may start next same (n + 1) to past.from past.passed c.match-step.did (elim c.match-step.branch [
         | in-Did w ↦ on_did start now next inv.same n c.step.result c.loop-number.did inv.gone c.step.ensures.answer w.in-Did.is c.match-step.did w.did-is
@@ -79,17 +79,17 @@ returns-in-Memory-clause-steps g c =
     let inv = c.loop-number.invariant in
     let n = c.loop-number.number in
     round_stops may (plan_of start) n (length (workers_of (plan_of start))) (site_of start) (site_of now) (site_of next) (omega (arith, c.loop-number-test.true, c.workers-workers.ensures.count)) inv.steps
-    (subst (λ (a : Stepped). WorkerSteps may (plan_of start) n a (site_of now) (site_of next)) c.in-Memory.is
-    (worker_by may start now inv.same n c.step.result (site_of now) (site_of next) c.step.ensures.step))
+    (subst (λ (a : Stepped). WorkerSteps may (plan_of start) n 0 a (site_of now) (site_of next)) c.in-Memory.is
+    (worker_by may start now inv.same n 0 c.step.result (site_of now) (site_of next) c.step.ensures.step))
 
 pub returns-then-did-clause-steps : goal.returns-then-did-clause-steps
 returns-then-did-clause-steps g c =
     let start = c.args.self.now in
     let all : c.loop-number.number ≡ length (workers_of (plan_of start)) = omega (arith, c.loop-number-test.false, c.loop-number.invariant.within, c.workers-workers.ensures.count) in
-    subst (λ (k : ℕ). StepsThrough g.S.Agents.may (plan_of start) (numbers_below k) None (site_of start) (site_of c.loop-number.self)) all c.loop-number.invariant.steps
+    subst (λ (k : ℕ). StepsThrough g.S.Agents.may (plan_of start) (workers_below k) None (site_of start) (site_of c.loop-number.self)) all c.loop-number.invariant.steps
 
 pub returns-else-did-clause-steps : goal.returns-else-did-clause-steps
 returns-else-did-clause-steps g c =
     let start = c.args.self.now in
     let all : c.loop-number.number ≡ length (workers_of (plan_of start)) = omega (arith, c.loop-number-test.false, c.loop-number.invariant.within, c.workers-workers.ensures.count) in
-    subst (λ (k : ℕ). StepsThrough g.S.Agents.may (plan_of start) (numbers_below k) None (site_of start) (site_of c.loop-number.self)) all c.loop-number.invariant.steps
+    subst (λ (k : ℕ). StepsThrough g.S.Agents.may (plan_of start) (workers_below k) None (site_of start) (site_of c.loop-number.self)) all c.loop-number.invariant.steps

@@ -108,13 +108,13 @@ returns-in-Held-clause-writing g c =
     writes_still (plan_of d) d.environment c.step_forwarder.new.self.environment (g.W.Write.contents c.args.output.now) c.step_forwarder.ensures.step.environment
 
 pub returns-then-number-blocks-clause-step : goal.returns-then-number-blocks-clause-step
-returns-then-number-blocks-clause-step g c = inl c.step_block.ensures.step
+returns-then-number-blocks-clause-step g c = inl c.step_block.ensures.pick
 
 pub returns-then-number-blocks-2-clause-step : goal.returns-then-number-blocks-2-clause-step
 returns-then-number-blocks-2-clause-step g c =
     let d = c.args.self.now in
     let at : c.args.number ≡ blocks_in (plan_of d) = omega (arith, length-map d.blocks.items worker_of, c.len-blocks.ensures, c.if-number-blocks-2.true, c.requires.driving.work.blocks) in
-    inr (inl (at, c.step_environment.ensures.step))
+    inr (inl (at, c.step_environment.ensures.step, c.step_environment.ensures.pick))
 
 pub returns-in-Moved-clause-step : goal.returns-in-Moved-clause-step
 returns-in-Moved-clause-step g c =

@@ -1,5 +1,5 @@
 use Rattle.std.proofs.Common.{refl}
-use Rattle.sdl_driver.proofs.Driving.{fires_here, sound_here, legal_here, block_step, same_behaviours}
+use Rattle.sdl_driver.proofs.Driving.{fires_here, sound_here, legal_here, block_step, block_step_at, same_behaviours}
 use Rattle.sdl_driver.proofs.driver.Driver.step_block.Goals as goal
 
 pub step_serial-requires-clause-parts : goal.step_serial-requires-clause-parts
@@ -25,3 +25,8 @@ returns-clause-same g c =
       behaviours = same_behaviours g.S.Agents.may c.args.self.now c.requires.driving c.args.block c.index_mut-worker.result.now c.requires.within c.index_mut-worker.ensures.value
           c.step_serial.new.self c.step_serial.result c.step_serial.new.board c.step_serial.ensures.parts;
     }
+
+pub returns-clause-pick : goal.returns-clause-pick
+returns-clause-pick g c =
+    block_step_at g.S.Agents.may c.args.self.now c.requires.driving c.args.block c.index_mut-worker.result.now c.requires.within c.index_mut-worker.ensures.value
+    c.step_serial.new.self c.step_serial.result c.step_serial.new.board c.args.pick c.step_serial.ensures.step c.step_serial.ensures.pick
