@@ -7,6 +7,7 @@ use crossbeam_utils::Backoff;
 use sdl_ends::{FREE_MARK, Marks};
 use sdl_parts::Structure;
 use sdl_routes::Routes;
+use std::hint::spin_loop;
 use std::sync::Wait;
 
 /// Called before each step of each worker in a thread. Steps are counted from 0, and the count stays at `u64::MAX` once it is
@@ -44,6 +45,12 @@ const MOST_LISTENED: u32 = 4_096;
 /// How often a worker yields, once the pauses of `Backoff` are over, before it sleeps.
 const MOST_YIELDS: u32 = 25;
 
+/// About when a worker is usually handed something, it spins and looks so often before each yield: for some 10 µs.
+const MOST_LOOKS: u32 = 64;
+
+/// After how many yields more than usual it no longer does.
+const LATE_YIELDS: u32 = 2;
+
 /// The processors are crowded where twice in a row fewer pauses than these lay between two in which a sleep ended by itself.
 const FEW_PAUSES: u32 = 16;
 
@@ -64,6 +71,10 @@ struct Idling {
     pause: Backoff,
     /// How often it has yielded, once those were over, since it last did something.
     yields: u32,
+    /// How often it usually yields before it does something, in quarters: an average in which the last time counts for a fourth.
+    usual_yields: u32,
+    /// How often it looked since its last yield.
+    looks: u32,
     /// How many pauses it made since the last one in which a sleep ended by itself.
     short_pauses: u32,
     /// There were few before that one.
@@ -84,6 +95,8 @@ impl Idling {
             room_steps: 0,
             pause: Backoff::new(),
             yields: 0,
+            usual_yields: 0,
+            looks: 0,
             short_pauses: 0,
             doubts: false,
             naps: 0,
@@ -113,7 +126,10 @@ impl Idling {
             self.awake = true;
             self.pause.reset();
         }
+        let earlier = self.usual_yields - self.usual_yields / 4;
+        self.usual_yields = earlier.saturating_add(self.yields);
         self.yields = 0;
+        self.looks = 0;
         self.naps = 0;
         self.untold_steps = self.untold_steps.saturating_add(1);
         if self.untold_steps >= MOST_UNTOLD {
@@ -196,7 +212,10 @@ impl Idling {
             if self.yields >= MOST_YIELDS {
                 return false;
             }
-            self.yields += 1;
+            if self.looks_again() {
+                return true;
+            }
+            self.yields = self.yields.saturating_add(1);
         }
         self.pause.snooze();
         if told.naps() == naps {
@@ -205,6 +224,20 @@ impl Idling {
             self.judges(told, naps);
         }
         true
+    }
+
+    /// Spins once about when the worker is usually handed something, which it then sees sooner than after a yield, behind whoever
+    /// else wants the processor. False at other times, and where it has looked often enough since its last yield.
+    fn looks_again(&mut self) -> bool {
+        let usual = self.usual_yields / 4;
+        let is_due = usual <= self.yields && self.yields - usual <= LATE_YIELDS;
+        if is_due && self.looks < MOST_LOOKS {
+            self.looks += 1;
+            spin_loop();
+            return true;
+        }
+        self.looks = 0;
+        false
     }
 
     /// A sleep ended by itself during a pause, which began after so many.
