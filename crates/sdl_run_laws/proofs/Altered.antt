@@ -24,7 +24,7 @@ use Rattle.sdl_driver.specs.sdl_outcome.Ring.{no_hand}
 use Rattle.sdl_driver.specs.sdl_ledger.declared.ledger.Ledger.{Ledger}
 use Rattle.sdl_driver.specs.Ended.{HasEnded}
 use Rattle.sdl_run_laws.specs.Echo.{to_line, plan}
-use Rattle.sdl_run_laws.specs.EchoRun.{ping, pong, signal, final, leaves, rests, with_log, with_put, with_received, with_rests, enters, starts, e, answer, answers, log_of}
+use Rattle.sdl_run_laws.specs.EchoRun.{ping, pong, final, leaves, rests, with_log, with_put, with_received, with_rests, enters, starts, e, answer, answers, log_of}
 use Rattle.sdl_run_laws.proofs.Ending.{quiet}
 
 -- not complete

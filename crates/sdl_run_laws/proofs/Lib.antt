@@ -3,3 +3,4 @@ pub mod Running
 pub mod Ending
 pub mod Changed
 pub mod Altered
+pub mod Picking

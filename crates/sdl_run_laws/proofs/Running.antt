@@ -1,5 +1,5 @@
 -- The log of E is a run of its block.
-use Rattle.std.proofs.Common.{[], ◌∷◌, None, Some, refl, lit<, true≢false, ap, sym, is_some, All}
+use Rattle.std.proofs.Common.{[], ◌∷◌, None, Some, refl, lit<, true≢false, ap, sym, is_some}
 use Rattle.std.proofs.lemmas.List.Elements.{All-nil, All-cons}
 use Rattle.sdl_driver.specs.sdl_signal.declared.values.Pid.TheVariants as pid
 use Rattle.sdl_driver.specs.sdl_routes.declared.route.Via.TheVariants as via

@@ -1,2 +1,3 @@
 pub mod Echo
 pub mod EchoRun
+pub mod Picks

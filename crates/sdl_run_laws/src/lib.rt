@@ -1,4 +1,6 @@
-//! A whole run of Echo, written out: it keeps every promise of a run, and with one thing changed it does not.
+//! A whole run of Echo, written out: it keeps every promise of a run, and with one thing changed it does not. And what a pick
+//! chooses, written out: the one that it names, and no other.
 #![tactic(auto)]
 
 pub mod laws;
+pub mod picks;
