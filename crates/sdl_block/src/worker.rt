@@ -1,6 +1,7 @@
 //! A block at work.
 ghost use Rattle.std.specs.Prelude.{◌≡◌, [], All, IsTrue, ◌↔◌, IfOk, MatchResult, false, ⊤};
 ghost use Rattle.sdl_signal.specs.declared.values.Pid.{Pid};
+ghost use Rattle.sdl_log.specs.Counts.{AreCountsOf};
 ghost use Rattle.sdl_forward.specs.Boards.{IsBoardOf};
 ghost use Rattle.sdl_instances.specs.Core.{IsSound, IsLegalIn, IsReady};
 ghost use Rattle.sdl_instances.specs.CoreOf.{core_of, parts_of, CanFire};
@@ -16,6 +17,7 @@ use arrayvec::ArrayVec;
 use sdl_forward::Board;
 use sdl_hand::{Hand, Refused, Stepped, answer_of};
 use sdl_instances::{BlockCore, Event, Keeps, Turn};
+use sdl_log::Counts;
 use sdl_routes::{Routes, Station};
 use sdl_signal::Item;
 use sdl_transition::Agents;
@@ -210,6 +212,13 @@ impl<S: Agents, K: Keeps> BlockWorker<S, K> {
         ensures { result ≡ waiting (worker_of self.now).core.state.living }
     {
         self.core.left_in_ports()
+    }
+
+    /// What became of the block's signals, counted along its log. No memory is taken.
+    pub fn counts(&self) -> Counts
+        ensures { AreCountsOf (worker_of self.now).core.log result }
+    {
+        self.core.counts()
     }
 
     /// The core of the block, and what it has in hand. No memory is taken.

@@ -149,4 +149,4 @@ module _ {S I : Type 0} {F : I → Type 0} {g : _} where
 
 module _ {S K I : Type 0} {F : I → Type 0} {g : _} where
   pub less_room : (r : Room S K I F g) (a b c : ℕ) → c ≤ b → HasRoom a b r → HasRoom a c r
-  less_room r a b c less h = record { parts = h.parts; logs = h.logs; hands = let k = h.hands in omega arith }
+  less_room r a b c less h = record { parts = h.parts; logs = h.logs; hands = let k = h.hands in omega arith; counts = h.counts; counted = h.counted }

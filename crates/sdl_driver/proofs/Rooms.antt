@@ -1,5 +1,6 @@
 -- Lists that are filled from the front of others, within their room.
 use Rattle.std.proofs.Common.{ℕ, ◌+◌, List, [], ◌∷◌, ◌++◌, length, map, Option, ◌≡◌, refl, ap, ◌∙◌, subst, arith, append_assoc}
+use Rattle.std.specs.List.{AllZip}
 use Rattle.sdl_signal.specs.declared.values.Item.{Item}
 use Rattle.sdl_forward.specs.Forwards.{Forwarding}
 use Rattle.sdl_driver.specs.declared.closing.Room.{Room}
@@ -17,6 +18,13 @@ come_over f done later all x rest fewer e h before =
 pub map_push : {X Y : Type 0} (f : X → Y) (xs : List X) (x : X) → map f (xs ++ x ∷ []) ≡ map f xs ++ f x ∷ []
 map_push f [] x = refl
 map_push f (y ∷ ys) x = ap (λ zs. f y ∷ zs) (map_push f ys x)
+
+-- one more in each of two lists side by side
+pub zip_push : {A B : Type 0} (R : A → B → Type 0) (xs : List A) (ys : List B) (x : A) (y : B) → AllZip R xs ys → R x y → AllZip R (xs ++ x ∷ []) (ys ++ y ∷ [])
+zip_push R [] [] x y h r = (r, tt)
+zip_push R [] (b ∷ ys) x y h r = absurd h
+zip_push R (a ∷ xs) [] x y h r = absurd h
+zip_push R (a ∷ xs) (b ∷ ys) x y h r = (h.0, zip_push R xs ys x y h.1 r)
 
 pub fewer_by_one : {X : Type 0} (x : X) (rest fewer : List X) → rest ≡ x ∷ fewer → length rest ≡ length fewer + 1
 fewer_by_one x rest fewer e = let a = ap length e in omega arith

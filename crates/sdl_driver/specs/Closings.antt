@@ -1,5 +1,6 @@
 -- What a contract sees of a closing, and of the lists that become one.
-use Rattle.std.specs.Prelude.{◌≡◌, ℕ, ◌+◌, ◌≤◌, List, map, Option, None, Some, Bool, ◌↔◌, vec_len, vec_capacity, if◌then◌else◌}
+use Rattle.std.specs.Prelude.{◌≡◌, ℕ, ◌+◌, ◌≤◌, List, map, Option, None, Some, Bool, ◌↔◌, length, vec_len, vec_capacity, if◌then◌else◌}
+use Rattle.std.specs.List.{AllZip}
 use Rattle.sdl_transition.specs.declared.binding.Bound.{Bound}
 use Rattle.sdl_transition.specs.Bound.{structure_of, routes_of, blocks_of}
 use Rattle.sdl_transition.specs.Rules.{block_rules}
@@ -18,6 +19,8 @@ use Rattle.sdl_outcome.specs.EnvironmentWork.{HasReadAll, HasWritten, received_t
 use Rattle.sdl_outcome.specs.Plan.{Plan, blocks_in}
 use Rattle.sdl_outcome.specs.Outcome.{Outcome}
 use Rattle.sdl_log.specs.declared.event.Event.{Event}
+use Rattle.sdl_log.specs.declared.counts.Counts.{Counts}
+use Rattle.sdl_log.specs.Counts.{AreCountsOf}
 use Rattle.sdl_outcome.specs.Lists.{held_in}
 use Rattle.sdl_behaviour.specs.declared.step.Frame.{Frame}
 use Rattle.sdl_behaviour.specs.declared.step.Step.{Step}
@@ -42,16 +45,13 @@ outcome_left events l =
 -- what a closing shows of its run: what the workers left
 abbrev pub outcome_in : {S K I : Type 0} {F : I → Type 0} {g : _} → (K → List Event) → Closing S K I F g → Outcome
 outcome_in events c =
-    outcome_left events (record {
-      bound = c.bound;
-      logs = c.logs;
-      env_put = c.env_put;
-      env_received = c.env_received;
-      hands = c.hands;
-      rests = c.rests;
-      input = c.input;
-      output = c.output;
-    })
+    record {
+      logs = map events c.logs.items;
+      env_put = c.env_put.items;
+      env_received = c.env_received.items;
+      hands = map held_in c.hands.items;
+      rests = lists_of c.rests.items;
+    }
 
 -- in a closing, all that the environment read, and all that it wrote
 abbrev pub HasReadIn : {S K I : Type 0} {F : I → Type 0} {g : _} → Plan → Option (List ℕ) → Option (List ℕ) → Closing S K I F g → Type 0
@@ -87,6 +87,13 @@ pub record HasRoom {S K I : Type 0} {F : I → Type 0} {g : _} (more_blocks more
   pub parts : vec_len r.parts + more_blocks ≤ vec_capacity r.parts
   pub logs : vec_len r.logs + more_blocks ≤ vec_capacity r.logs
   pub hands : vec_len r.hands + more_hands ≤ vec_capacity r.hands
+  pub counts : vec_len r.counts + more_blocks ≤ vec_capacity r.counts
+  -- as many logs were counted as were taken
+  pub counted : length r.counts.items ≡ length r.logs.items
+
+-- each log has its counts beside it
+abbrev pub AreLogsCounted : {K : Type 0} → (K → List Event) → List K → List Counts → Type 0
+AreLogsCounted events logs counts = AllZip (λ log c. AreCountsOf (events log) c) logs counts
 
 -- The end of a run, from the worker that was refused memory, the least block whose budget is used, and whether nothing is
 -- left.

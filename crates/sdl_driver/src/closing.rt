@@ -1,7 +1,7 @@
 //! What a run leaves.
 ghost use Rattle.std.specs.Prelude.{◌≡◌, ℕ, ◌+◌, ◌<◌, ◌++◌, ◌∷◌, [], map, length};
 ghost use Rattle.sdl_block.specs.Workers.{worker_of, behaviours_of};
-ghost use Rattle.sdl_driver.specs.Closings.{HasRoom, end_by};
+ghost use Rattle.sdl_driver.specs.Closings.{HasRoom, AreLogsCounted, end_by};
 ghost use Rattle.sdl_outcome.specs.Lists.{held_in};
 ghost use Rattle.sdl_order.specs.Driver.{block_hand, forwarder_hand};
 
@@ -10,7 +10,7 @@ use sdl_block::BlockWorker;
 use sdl_forward::Forwarder;
 use sdl_hand::Hand;
 use sdl_ledger::Ledger;
-use sdl_log::{Event, Keeps};
+use sdl_log::{Counts, Event, Keeps};
 use sdl_outcome::{EnvOut, RunEnd};
 use sdl_queue::Rest;
 use sdl_routes::Station;
@@ -47,6 +47,8 @@ pub struct Closing<S, K: Keeps = Vec<Event>> {
 pub struct Left<S, K: Keeps = Vec<Event>> {
     pub bound: Bound<S>,
     pub logs: Vec<K>,
+    /// What was counted along each log.
+    pub counts: Vec<Counts>,
     pub env_put: Vec<EnvOut>,
     pub env_received: Vec<Item>,
     pub hands: Vec<Hand>,
@@ -67,6 +69,7 @@ pub enum StartFault<S> {
 pub struct Room<S, K: Keeps = Vec<Event>> {
     pub parts: Vec<BlockParts<S>>,
     pub logs: Vec<K>,
+    pub counts: Vec<Counts>,
     pub hands: Vec<Hand>,
 }
 
@@ -77,6 +80,7 @@ impl<S: Agents, K: Keeps> Room<S, K> {
         ensures hands { self.new.hands.items ≡ self.old.hands.items ++ hand ∷ [] }
         ensures parts { self.new.parts ≡ self.old.parts }
         ensures logs { self.new.logs ≡ self.old.logs }
+        ensures counts { self.new.counts ≡ self.old.counts }
         ensures room { (blocks more : ℕ) → HasRoom blocks (more + 1) self.old → HasRoom blocks more self.new }
     {
         match self.hands.push(hand) {
@@ -92,7 +96,9 @@ impl<S: Agents, K: Keeps> Room<S, K> {
         ensures logs { map K.events self.new.logs.items ≡ map K.events self.old.logs.items ++ (worker_of worker).core.log ∷ [] }
         ensures hands { map held_in self.new.hands.items ≡ map held_in self.old.hands.items ++ block_hand (worker_of worker) ∷ [] }
         ensures room { (blocks more : ℕ) → HasRoom (blocks + 1) (more + 1) self.old → HasRoom blocks more self.new }
+        ensures counted { AreLogsCounted K.events self.old.logs.items self.old.counts.items → AreLogsCounted K.events self.new.logs.items self.new.counts.items }
     {
+        let counted = worker.counts();
         let (core, hand) = worker.into_parts();
         let (parts, log, _) = core.into_parts();
         match self.parts.push(parts) {
@@ -100,6 +106,10 @@ impl<S: Agents, K: Keeps> Room<S, K> {
             Err(_) => unreachable!(),
         }
         match self.logs.push(log) {
+            Ok(()) => {}
+            Err(_) => unreachable!(),
+        }
+        match self.counts.push(counted) {
             Ok(()) => {}
             Err(_) => unreachable!(),
         }
@@ -142,6 +152,7 @@ pub fn take_blocks<S: Agents, K: Keeps>(room: &mut Room<S, K>, blocks: Vec<Block
     ensures logs { map K.events room.new.logs.items ≡ map K.events room.old.logs.items ++ map (λ w. (worker_of w).core.log) blocks.items }
     ensures hands { map held_in room.new.hands.items ≡ map held_in room.old.hands.items ++ map (λ w. block_hand (worker_of w)) blocks.items }
     ensures room { (more : ℕ) → HasRoom (length blocks.items) (length blocks.items + more) room.old → HasRoom 0 more room.new }
+    ensures counted { AreLogsCounted K.events room.old.logs.items room.old.counts.items → AreLogsCounted K.events room.new.logs.items room.new.counts.items }
 {
     let mut rest = blocks;
     while rest.len() > 0 {
@@ -155,6 +166,7 @@ pub fn take_forwarders<S: Agents, K: Keeps>(room: &mut Room<S, K>, forwarders: V
     requires room { HasRoom 0 (length forwarders.items) room.old }
     ensures parts { room.new.parts ≡ room.old.parts }
     ensures logs { room.new.logs ≡ room.old.logs }
+    ensures counts { room.new.counts ≡ room.old.counts }
     ensures hands { map held_in room.new.hands.items ≡ map held_in room.old.hands.items ++ map forwarder_hand forwarders.items }
 {
     let mut rest = forwarders;

@@ -6,7 +6,7 @@ ghost use Rattle.sdl_ledger.specs.Counts.{waiting_in};
 ghost use Rattle.sdl_outcome.specs.Plan.{blocks_in, workers_of};
 ghost use Rattle.sdl_outcome.specs.EnvironmentWork.{OwnEnd, HasReadSoFar, HasWrittenSoFar, input_end};
 ghost use Rattle.sdl_order.specs.Driver.{IsIdle, outcome_of, finals_of};
-ghost use Rattle.sdl_driver.specs.Closings.{HasRoom, HasReadIn, HasWrittenIn, StopsByMemory, NamesRefused, outcome_in, outcome_left};
+ghost use Rattle.sdl_driver.specs.Closings.{HasRoom, AreLogsCounted, HasReadIn, HasWrittenIn, StopsByMemory, NamesRefused, outcome_in, outcome_left};
 ghost use Rattle.sdl_driver.specs.Ended.{HasEnded};
 ghost use Rattle.sdl_driver.specs.Stopped.{site_of_parked, plan_of_parked, IsParked, IsSystemOfParked};
 ghost use Rattle.sdl_driver.specs.Drivers.{NoneSpent, FirstSpent, AllDone, SomeUndone, AllLeft, SomeLeft};
@@ -65,6 +65,7 @@ impl<S: Agents, K: Keeps> Parked<S, K> {
         let Left {
             bound,
             logs,
+            counts,
             env_put,
             env_received,
             hands,
@@ -79,6 +80,7 @@ impl<S: Agents, K: Keeps> Parked<S, K> {
         };
         let ledger = Ledger::of(
             logs.as_slice(),
+            counts.as_slice(),
             env_put.as_slice(),
             env_received.as_slice(),
             hands.as_slice(),
@@ -109,6 +111,7 @@ impl<S: Agents, K: Keeps> Parked<S, K> {
         ensures input { result.input ≡ input_end self.environment }
         ensures own { OwnEnd self.environment.ended }
         ensures output { result.output ≡ self.environment.output }
+        ensures counted { AreLogsCounted K.events result.logs.items result.counts.items }
     {
         let Parked {
             checked,
@@ -124,10 +127,16 @@ impl<S: Agents, K: Keeps> Parked<S, K> {
         take_blocks(&mut room, blocks);
         room.take_hand(env.hand);
         take_forwarders(&mut room, forwarders);
-        let Room { parts, logs, hands } = room;
+        let Room {
+            parts,
+            logs,
+            counts,
+            hands,
+        } = room;
         Left {
             bound: Bound::of_blocks(checked, routes, parts),
             logs,
+            counts,
             env_put: env.put,
             env_received: env.received,
             hands,

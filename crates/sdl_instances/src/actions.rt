@@ -60,6 +60,7 @@ fn act<S: Agents>(
 }
 
 /// Carries out the actions of the actor, in order, and adds what each did.
+#[inline(always)]
 pub fn act_all<S: Agents>(
     living: &mut Living,
     sets: &[ProcessSet],

@@ -3,6 +3,7 @@ ghost use Rattle.std.specs.Prelude.{◌≡◌, List, ◌≤◌, ◌++◌, ◌∷
 ghost use Rattle.sdl_signal.specs.declared.ids.SetId.{SetId};
 ghost use Rattle.sdl_signal.specs.declared.values.Pid.{Pid};
 ghost use Rattle.sdl_instances.specs.Legal.{GoesTo, IsOfSet};
+ghost use Rattle.sdl_log.specs.Counts.{AreCountsOf};
 ghost use Rattle.sdl_log.specs.declared.event.Arrival.TheVariants as arrival;
 ghost use Rattle.sdl_instances.specs.Machine.{Arrives, number_living};
 ghost use Rattle.std.specs.Prelude.{IsTrue, ◌↔◌};
@@ -14,7 +15,7 @@ ghost use Rattle.sdl_routes.specs.declared.route.TableRow.{TableRow};
 use crate::ready::Look;
 use crate::table::Table;
 use arrayvec::ArrayVec;
-use sdl_log::{Arrival, Event, Keeps, Turn, Turned};
+use sdl_log::{Arrival, Counts, Event, Keeps, Turn, Turned};
 use sdl_parts::Checked;
 use sdl_routes::Routes;
 use sdl_signal::Item;
@@ -135,6 +136,13 @@ impl<S: Agents, K: Keeps> BlockCore<S, K> {
         ensures { K.events result.now ≡ (core_of self.now).log }
     {
         self.table.log()
+    }
+
+    /// What became of the block's signals, counted along its log. No memory is taken.
+    pub fn counts(&self) -> Counts
+        ensures { AreCountsOf (core_of self.now).log result }
+    {
+        self.table.counts()
     }
 
     /// The parts of the block, the log, and the number of signals in all ports. No memory is taken.

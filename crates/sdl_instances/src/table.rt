@@ -11,6 +11,7 @@ ghost use Rattle.sdl_instances.specs.Core.{arrival_event, IsLivingAt, signals_of
 ghost use Rattle.sdl_instances.specs.Living.{state_of, creatable_of};
 ghost use Rattle.sdl_instances.specs.Run.{turns, waiting, initial};
 ghost use Rattle.sdl_transition.specs.Rules.{block_rules};
+ghost use Rattle.sdl_log.specs.Counts.{AreCountsOf};
 ghost use Rattle.sdl_log.specs.declared.event.Arrival.TheVariants as arrival;
 
 use crate::first::{first_living, first_serials, numbers_of_sets, sorts_of};
@@ -18,7 +19,7 @@ use crate::living::Living;
 use crate::process_set::ProcessSet;
 use crate::ready::Look;
 use arrayvec::ArrayVec;
-use sdl_log::{Arrival, Cause, Keeps};
+use sdl_log::{Arrival, Cause, Counted, Counts, Keeps};
 use sdl_parts::Structure;
 use sdl_processes::Instances;
 use sdl_processes::copies::copied_item;
@@ -36,7 +37,7 @@ pub struct Table<K: Keeps> {
     pub(crate) signals: Vec<ArrayVec<Sort, 4>>,
     pub(crate) sets: Vec<ProcessSet>,
     pub(crate) living: Living,
-    pub(crate) log: K,
+    pub(crate) log: Counted<K>,
     pub(crate) outputs: u64,
     pub(crate) stamp: u64,
     pub(crate) made: u32,
@@ -80,7 +81,7 @@ impl<K: Keeps> Table<K> {
                 instances,
                 last,
             },
-            log: K::new(alloc),
+            log: Counted::new(alloc),
             outputs: 0,
             stamp: 0,
             made: 0,
@@ -189,7 +190,14 @@ impl<K: Keeps> Table<K> {
     pub fn log(&self) -> &K
         ensures { K.events result.now ≡ self.now.core.log }
     {
-        &self.log
+        self.log.log()
+    }
+
+    /// What became of the block's signals, counted along its log. No memory is taken.
+    pub fn counts(&self) -> Counts
+        ensures { AreCountsOf self.now.core.log result }
+    {
+        self.log.counts()
     }
 
     /// What a turn at this pick finds.
@@ -229,6 +237,6 @@ impl<K: Keeps> Table<K> {
     pub fn into_log(self) -> K
         ensures { K.events result ≡ self.core.log }
     {
-        self.log
+        self.log.into_log()
     }
 }

@@ -42,6 +42,7 @@ impl<K: Keeps> Table<K> {
     }
 
     /// Takes the signal at the front of its port from the instance at this place, whose SENDER it sets.
+    #[inline(always)]
     pub fn consume(&mut self, place: usize) -> Item
         requires within { place < length self.old.core.state.living }
         requires front { (p : Pid) (r : Record) → StandsAt self.old.core.state place p r → 0 < length r.port }
@@ -71,6 +72,7 @@ impl<K: Keeps> Table<K> {
     }
 
     /// Carries out the step of the actor, notes its turn, and puts the items that it sent into the hand, which is empty.
+    #[inline(always)]
     pub fn complete<S: Agents>(
         &mut self,
         actor: &Actor<S>,

@@ -1,5 +1,6 @@
 -- A ledger that is added up part by part counts the whole.
-use Rattle.std.proofs.Common.{◌≡◌, ℕ, ◌+◌, ◌<◌, ◌≤◌, List, [], ◌∷◌, length, map, take, get_or, sum_by, refl, ap, sym, ◌∙◌, subst, arith}
+use Rattle.std.specs.List.{AllZip}
+use Rattle.std.proofs.Common.{◌≡◌, ℕ, zero, suc, ◌+◌, ◌<◌, ◌≤◌, List, [], ◌∷◌, length, map, take, get_or, sum_by, refl, ap, sym, ◌∙◌, subst, arith}
 use Rattle.std.proofs.lemmas.List.{take_all}
 use Rattle.std.proofs.lemmas.List.Sums.{sum_by-cons, sum_by_more_le}
 use Rattle.sdl_signal.specs.declared.values.Item.{Item}
@@ -61,6 +62,13 @@ module _ (log : List Event) (c : Counts) (are : AreCountsOf log c) (old : Ledger
         waiting = omega (arith, adds.waiting, none);
         environment = omega (arith, adds.environment, none);
       }
+
+-- what holds of two lists side by side holds at each place
+pub zipped_at : {A B : Type 0} (R : A → B → Type 0) (xs : List A) (ys : List B) (k : ℕ) (d : A) (e : B) → AllZip R xs ys → k < length xs → R (get_or xs k d) (get_or ys k e)
+zipped_at R [] ys k d e h less = absurd (omega arith)
+zipped_at R (x ∷ xs) [] k d e h less = absurd h
+zipped_at R (x ∷ xs) (y ∷ ys) zero d e h less = h.0
+zipped_at R (x ∷ xs) (y ∷ ys) (suc k) d e h less = zipped_at R xs ys k d e h.1 (omega arith)
 
 -- the ledger before the logs: what the environment received, and what waits
 pub record Begins (received held : ℕ) (l : Ledger) : Type 0 where

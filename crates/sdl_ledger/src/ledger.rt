@@ -1,5 +1,7 @@
 //! The ledger of a run: where every signal went.
-ghost use Rattle.std.specs.Prelude.{map};
+ghost use Rattle.std.specs.Prelude.{◌≡◌, map, length};
+ghost use Rattle.std.specs.List.{AllZip};
+ghost use Rattle.sdl_log.specs.Counts.{AreCountsOf};
 ghost use Rattle.sdl_forward.specs.Boards.{lists_of};
 ghost use Rattle.sdl_queue.specs.Rest.{left_in};
 ghost use Rattle.sdl_outcome.specs.Lists.{held_in};
@@ -47,13 +49,16 @@ impl Ledger {
     /// workers hold, what rests at the stations, and how many signals wait in the ports. No memory is taken.
     pub fn of<K: Keeps>(
         logs: &[K],
+        counts: &[Counts],
         env_put: &[EnvOut],
         env_received: &[Item],
         hands: &[Hand],
         rests: &[(Station, Rest)],
         waiting: u64,
     ) -> Ledger
-        requires { CountsFit (record { logs = map K.events logs.now; env_put = env_put.now; env_received = env_received.now; hands = map held_in hands.now; rests = lists_of rests.now }) }
+        requires long { length counts.now ≡ length logs.now }
+        requires counts { AllZip (λ log c. AreCountsOf (K.events log) c) logs.now counts.now }
+        requires fits { CountsFit (record { logs = map K.events logs.now; env_put = env_put.now; env_received = env_received.now; hands = map held_in hands.now; rests = lists_of rests.now }) }
         ensures { IsLedgerOf (record { logs = map K.events logs.now; env_put = env_put.now; env_received = env_received.now; hands = map held_in hands.now; rests = lists_of rests.now }) waiting result }
     {
         let received = env_received.len() as u64;
@@ -63,8 +68,8 @@ impl Ledger {
             environment: received,
             ..Ledger::default()
         };
-        for log in logs {
-            ledger.add_log(log);
+        for number in 0..logs.len() {
+            ledger.add_log(&logs[number], &counts[number]);
         }
         ledger.add_outputs(env_put);
         ledger.add_hands(hands);
@@ -72,11 +77,13 @@ impl Ledger {
         ledger
     }
 
-    fn add_log<K: Keeps>(&mut self, log: &K)
-        requires { CanAdd self.old (summed of_event (K.events log.now)) }
-        ensures { Adds self.old (summed of_event (K.events log.now)) self.new }
+    /// Adds what was counted of a log.
+    fn add_log<K: Keeps>(&mut self, _log: &K, counts: &Counts)
+        requires counts { AreCountsOf (K.events _log.now) counts.now }
+        requires fits { CanAdd self.old (summed of_event (K.events _log.now)) }
+        ensures { Adds self.old (summed of_event (K.events _log.now)) self.new }
     {
-        self.add_counts(&log.counts());
+        self.add_counts(counts);
     }
 
     fn add_counts(&mut self, counts: &Counts)

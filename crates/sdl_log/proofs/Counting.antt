@@ -1,5 +1,5 @@
 -- What is counted of a log, after one more event.
-use Rattle.std.proofs.Common.{◌≡◌, ℕ, ◌+◌, List, [], ◌∷◌, ◌++◌, length, length-append, sym, subst, arith}
+use Rattle.std.proofs.Common.{◌≡◌, ℕ, ◌+◌, List, [], ◌∷◌, ◌++◌, length, length-append, ap, sym, subst, arith}
 use Rattle.std.proofs.lemmas.List.Sums.{sum_by_push}
 use Rattle.sdl_log.specs.declared.event.Event.{Event}
 use Rattle.sdl_log.specs.declared.counts.Counts.{Counts}
@@ -18,10 +18,13 @@ counts-more log old new e are adds =
       stopped = omega (arith, are.stopped, adds.stopped, sum_by_push stopped_in log e);
     }
 
--- an unstored log after one more event
-pub noted : (events : ℕ) (before after : List Event) (old new : Counts) (e : Event) → events ≡ length before → AreCountsOf before old
-    → after ≡ before ++ e ∷ [] → AddsEvent old e new → AreWithin (events + 1) new
-    → (events + 1 ≡ length after) × AreCountsOf after new × AreWithin (events + 1) new
-noted events before after old new e many are is adds within =
-    subst (λ (l : List Event). (events + 1 ≡ length l) × AreCountsOf l new × AreWithin (events + 1) new) (sym is)
-    (omega (arith, many, length-append before (e ∷ [])), counts-more before old new e are adds, within)
+-- a counted log after one event more
+pub counted-more : (before after : List Event) (old new : Counts) (e : Event) → AreCountsOf before old → AreWithin (length before) old → after ≡ before ++ e ∷ [] → AddsEvent old e new
+    → ((n : ℕ) → AreWithin n old → AreWithin (n + 1) new) → AreCountsOf after new × AreWithin (length after) new
+counted-more before after old new e are was is adds within =
+    subst (λ (l : List Event). AreCountsOf l new × AreWithin (length l) new) (sym is)
+    (counts-more before old new e are adds, subst (λ (n : ℕ). AreWithin n new) (sym (length-append before (e ∷ []))) (within (length before) was))
+
+-- the number of events of an unstored log after one more
+pub noted : (events : ℕ) (before after : List Event) (e : Event) → events ≡ length before → after ≡ before ++ e ∷ [] → events + 1 ≡ length after
+noted events before after e many is = omega (arith, many, length-append before (e ∷ []), ap length is)

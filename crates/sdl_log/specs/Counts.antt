@@ -98,15 +98,15 @@ pub record AddsEvent (old : Counts) (e : Event) (new : Counts) : Type 0 where
 
 -- no count is larger than those of so many events can be
 pub record AreWithin (events : ℕ) (c : Counts) : Type 0 where
-  pub output : c.output ≤ 2 ^ 64 * events
-  pub no_route : c.no_route ≤ 2 ^ 64 * events
-  pub entered : c.entered ≤ 2 ^ 64 * events
-  pub no_instance : c.no_instance ≤ 2 ^ 64 * events
-  pub gone : c.gone ≤ 2 ^ 64 * events
-  pub fired : c.fired ≤ 2 ^ 64 * events
-  pub implicit : c.implicit ≤ 2 ^ 64 * events
-  pub stopped : c.stopped ≤ 2 ^ 64 * events
+  pub output : c.output ≤ (2 ^ 64 - 1) * events
+  pub no_route : c.no_route ≤ (2 ^ 64 - 1) * events
+  pub entered : c.entered ≤ (2 ^ 64 - 1) * events
+  pub no_instance : c.no_instance ≤ (2 ^ 64 - 1) * events
+  pub gone : c.gone ≤ (2 ^ 64 - 1) * events
+  pub fired : c.fired ≤ (2 ^ 64 - 1) * events
+  pub implicit : c.implicit ≤ (2 ^ 64 - 1) * events
+  pub stopped : c.stopped ≤ (2 ^ 64 - 1) * events
 
 -- they are those of so few events that one more can be counted
 abbrev pub CanCount : Counts → Type 0
-CanCount c = (n : ℕ) × (n < 2 ^ 64 - 1) × AreWithin n c
+CanCount c = (n : ℕ) × (n < 2 ^ 64) × AreWithin n c

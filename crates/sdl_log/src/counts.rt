@@ -7,10 +7,10 @@ ghost use Rattle.sdl_behaviour.specs.declared.step.Step.{Step};
 ghost use Rattle.sdl_log.specs.declared.event.Event.TheVariants as event;
 ghost use Rattle.sdl_log.specs.Counts.{AddsEvent, AreWithin, CanCount, output_by, no_route_by};
 
-use crate::event::{Cause, Done, Event, Trigger};
+use crate::event::{Cause, Done, Trigger};
 use arrayvec::ArrayVec;
 
-/// What became of a block's signals, counted (this project's own). Fewer than 2^64 events fill no count.
+/// What became of a block's signals, counted (this project's own). Up to 2^64 events fill no count.
 #[derive(Clone, Copy, Debug, Default, PartialEq, Eq)]
 pub struct Counts {
     /// The outputs, with or without a route.
@@ -32,28 +32,8 @@ pub struct Counts {
 }
 
 impl Counts {
-    /// Counts an event.
-    pub(crate) fn add(&mut self, event: &Event)
-        requires { CanCount self.old }
-        ensures adds { AddsEvent self.old event.now self.new }
-        ensures within { (n : ℕ) → AreWithin n self.old → AreWithin (n + 1) self.new }
-    {
-        match event {
-            Event::Entered(_, _) => self.add_entered(),
-            Event::Discarded(_, cause) => self.add_discarded(*cause),
-            Event::Turn {
-                pid: _,
-                trigger,
-                frame: _,
-                step: _,
-                done,
-                stopped,
-            } => self.add_turn(trigger, done, *stopped),
-        }
-    }
-
     /// Counts a signal that entered a port.
-    pub(crate) fn add_entered(&mut self)
+    pub fn add_entered(&mut self)
         requires { CanCount self.old }
         ensures adds { (i : Item) (p : Pid) → AddsEvent self.old (event.Entered i p) self.new }
         ensures within { (n : ℕ) → AreWithin n self.old → AreWithin (n + 1) self.new }
@@ -62,7 +42,7 @@ impl Counts {
     }
 
     /// Counts a signal that was discarded on its arrival.
-    pub(crate) fn add_discarded(&mut self, cause: Cause)
+    pub fn add_discarded(&mut self, cause: Cause)
         requires { CanCount self.old }
         ensures adds { (i : Item) → AddsEvent self.old (event.Discarded i cause) self.new }
         ensures within { (n : ℕ) → AreWithin n self.old → AreWithin (n + 1) self.new }
@@ -74,12 +54,7 @@ impl Counts {
     }
 
     /// Counts what a turn consumed, put out and dropped.
-    pub(crate) fn add_turn(
-        &mut self,
-        trigger: &Trigger,
-        done: &ArrayVec<Done, 8>,
-        stopped: Option<u64>,
-    )
+    pub fn add_turn(&mut self, trigger: &Trigger, done: &ArrayVec<Done, 8>, stopped: Option<u64>)
         requires { CanCount self.old }
         ensures adds { (p : Pid) (f : Frame) (s : Option Step) → AddsEvent self.old (event.Turn p trigger.now f s done.now stopped) self.new }
         ensures within { (n : ℕ) → AreWithin n self.old → AreWithin (n + 1) self.new }

@@ -1,9 +1,7 @@
 //! How a block keeps its log: whole, or counted alone.
 ghost use Rattle.std.specs.Prelude.{◌≡◌, ◌⊎◌, ◌++◌, ◌∷◌, ◌<◌, [], OnOk, length};
 ghost use Rattle.sdl_log.specs.declared.event.Event.TheVariants as event;
-ghost use Rattle.sdl_log.specs.Counts.{AreCountsOf};
 
-use crate::counts::Counts;
 use crate::event::{Cause, Done, Event, Trigger};
 use arrayvec::ArrayVec;
 use sdl_behaviour::{Frame, Step};
@@ -60,8 +58,4 @@ pub trait Keeps: Drop {
     /// The number of events. No memory is taken.
     fn number(&self) -> u64
         ensures { result ≡ length (events self.now) };
-
-    /// What became of the signals of the events, counted. No memory is taken.
-    fn counts(&self) -> Counts
-        ensures { AreCountsOf (events self.now) result };
 }

@@ -1,6 +1,7 @@
-//! The log of a block: its events, and the ways to keep them, whole or counted alone.
+//! The log of a block: its events, the ways to keep them, whole or by their number alone, and their counts.
 #![tactic(auto)]
 
+pub mod counted;
 pub mod counts;
 pub mod event;
 pub mod keeps;
@@ -8,6 +9,7 @@ mod past;
 mod stored;
 pub mod unstored;
 
+pub use counted::Counted;
 pub use counts::Counts;
 pub use event::{Arrival, Cause, Done, Event, Trigger, Turn, Turned};
 pub use keeps::Keeps;

@@ -1,5 +1,4 @@
 //! A log that is stored whole.
-use crate::counts::Counts;
 use crate::event::{Cause, Done, Event, Trigger};
 use crate::keeps::Keeps;
 use arrayvec::ArrayVec;
@@ -58,13 +57,5 @@ impl Keeps for Vec<Event> {
 
     fn number(&self) -> u64 {
         self.len() as u64
-    }
-
-    fn counts(&self) -> Counts {
-        let mut counts = Counts::default();
-        for event in self.as_slice() {
-            counts.add(event);
-        }
-        counts
     }
 }

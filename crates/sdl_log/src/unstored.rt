@@ -1,5 +1,4 @@
 //! A log that is counted, and not stored.
-use crate::counts::Counts;
 use crate::event::{Cause, Done, Event, Trigger};
 use crate::keeps::Keeps;
 use crate::past::History;
@@ -9,24 +8,22 @@ use sdl_signal::{Item, Pid};
 use std::alloc::{AllocError, Global};
 use std::marker::Model;
 
-/// A log whose events are counted and not stored. It takes no memory, and has room for 2^64 - 1 events.
+/// A log whose events are not stored, and only their number is kept. It takes no memory, and has room for 2^64 - 1 events.
 #[derive(Drop)]
 pub struct Unstored {
     events: u64,
-    counts: Counts,
     history: History,
 }
 
 impl Model for Unstored {
     ghost use Rattle.std.specs.Prelude.{List, ◌≡◌, length};
     ghost use Rattle.sdl_log.specs.declared.event.Event.{Event};
-    ghost use Rattle.sdl_log.specs.Counts.{AreCountsOf, AreWithin};
 
     ghost Value = { List Event };
 
     ghost view = { λ u. u.history };
 
-    ghost invariant = { λ u. (u.events ≡ length u.history) × AreCountsOf u.history u.counts × AreWithin u.events u.counts };
+    ghost invariant = { λ u. (u.events ≡ length u.history) };
 }
 
 impl Keeps for Unstored {
@@ -40,7 +37,6 @@ impl Keeps for Unstored {
         let _ = alloc;
         Unstored {
             events: 0,
-            counts: Counts::default(),
             history: History::new(),
         }
     }
@@ -54,14 +50,12 @@ impl Keeps for Unstored {
     }
 
     fn enter(&mut self, item: Item, pid: Pid) {
-        self.counts.add_entered();
         self.events += 1;
         let before = std::mem::replace(&mut self.history, History::new());
         self.history = before.and_entered(&item, pid);
     }
 
     fn discard(&mut self, item: Item, cause: Cause) {
-        self.counts.add_discarded(cause);
         self.events += 1;
         let before = std::mem::replace(&mut self.history, History::new());
         self.history = before.and_discarded(&item, cause);
@@ -76,7 +70,6 @@ impl Keeps for Unstored {
         done: ArrayVec<Done, 8>,
         stopped: Option<u64>,
     ) {
-        self.counts.add_turn(&trigger, &done, stopped);
         self.events += 1;
         let before = std::mem::replace(&mut self.history, History::new());
         self.history = before.and_turn(pid, &trigger, &frame, &step, &done, stopped);
@@ -88,9 +81,5 @@ impl Keeps for Unstored {
 
     fn number(&self) -> u64 {
         self.events
-    }
-
-    fn counts(&self) -> Counts {
-        self.counts
     }
 }

@@ -85,8 +85,14 @@ fn make_closing_room<S: Agents, K: Keeps>(
 {
     let parts = Vec::with_capacity(alloc, blocks)?;
     let logs = Vec::with_capacity(alloc, blocks)?;
+    let counts = Vec::with_capacity(alloc, blocks)?;
     let hands = Vec::with_capacity(alloc, workers)?;
-    Ok(Room { parts, logs, hands })
+    Ok(Room {
+        parts,
+        logs,
+        counts,
+        hands,
+    })
 }
 
 /// Opens the ends of all workers, and takes the room for so many blocks, the forwarders and the environment.

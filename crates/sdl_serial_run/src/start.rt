@@ -35,8 +35,14 @@ fn make_room<S: Agents, K: Keeps>(
 {
     let parts = Vec::with_capacity(alloc, blocks)?;
     let logs = Vec::with_capacity(alloc, blocks)?;
+    let counts = Vec::with_capacity(alloc, blocks)?;
     let hands = Vec::with_capacity(alloc, workers)?;
-    Ok(Room { parts, logs, hands })
+    Ok(Room {
+        parts,
+        logs,
+        counts,
+        hands,
+    })
 }
 
 /// Takes what a run of so many blocks needs, before any block starts.

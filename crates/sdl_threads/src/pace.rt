@@ -45,7 +45,7 @@ const MOST_LISTENED: u32 = 4_096;
 /// How often a worker yields, once the pauses of `Backoff` are over, before it sleeps.
 const MOST_YIELDS: u32 = 25;
 
-/// About when a worker is usually handed something, it spins and looks so often before each yield: for some 10 µs.
+/// About when a worker is usually handed something, it spins and looks so often before each yield.
 const MOST_LOOKS: u32 = 64;
 
 /// After how many yields more than usual it no longer does.

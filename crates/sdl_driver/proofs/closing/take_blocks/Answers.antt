@@ -19,6 +19,7 @@ loop-rest-preserved g c =
       logs = come_over (λ v. (worker_of v).core.log) (map g.K.Keeps.events c.loop-rest.room.logs.items) (map g.K.Keeps.events c.take_block.new.self.logs.items) _ w rest fewer cut c.take_block.ensures.logs inv.logs;
       hands = come_over (λ v. block_hand (worker_of v)) (map held_in c.loop-rest.room.hands.items) (map held_in c.take_block.new.self.hands.items) _ w rest fewer cut c.take_block.ensures.hands inv.hands;
       more = λ m h. c.take_block.ensures.room (length fewer) (length fewer + m) (room_as c.loop-rest.room (length rest) (length rest + m) (length fewer + 1) (length fewer + m + 1) one (omega arith) (inv.more m h));
+      counted = λ h. c.take_block.ensures.counted (inv.counted h);
     }
 
 pub returns-clause-room : goal.returns-clause-room

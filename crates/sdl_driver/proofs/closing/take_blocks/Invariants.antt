@@ -1,6 +1,6 @@
 use Rattle.std.proofs.Common.{◌≡◌, ℕ, ◌+◌, ◌++◌, map, length}
 use Rattle.sdl_block.specs.Workers.{worker_of, behaviours_of}
-use Rattle.sdl_driver.specs.Closings.{HasRoom}
+use Rattle.sdl_driver.specs.Closings.{HasRoom, AreLogsCounted}
 use Rattle.sdl_outcome.specs.Lists.{held_in}
 use Rattle.sdl_order.specs.Driver.{block_hand}
 use Rattle.sdl_driver.proofs.closing.take_blocks.Given as goal
@@ -12,6 +12,7 @@ invariant-loop-rest g l = record {
   logs : map g.K.Keeps.events l.room.logs.items ++ map (λ w. (worker_of w).core.log) l.rest.items ≡ map g.K.Keeps.events l.fn.room.logs.items ++ map (λ w. (worker_of w).core.log) l.fn.blocks.items;
   hands : map held_in l.room.hands.items ++ map (λ w. block_hand (worker_of w)) l.rest.items ≡ map held_in l.fn.room.hands.items ++ map (λ w. block_hand (worker_of w)) l.fn.blocks.items;
   more : (more : ℕ) → HasRoom (length l.fn.blocks.items) (length l.fn.blocks.items + more) l.fn.room → HasRoom (length l.rest.items) (length l.rest.items + more) l.room;
+  counted : AreLogsCounted g.K.Keeps.events l.fn.room.logs.items l.fn.room.counts.items → AreLogsCounted g.K.Keeps.events l.room.logs.items l.room.counts.items;
 }
 
 abbrev pub decreases-loop-rest : goal.decreases-loop-rest

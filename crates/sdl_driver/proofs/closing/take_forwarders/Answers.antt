@@ -16,6 +16,7 @@ loop-rest-preserved g c =
       room = c.take_hand.ensures.room 0 (length fewer) (room_as c.loop-rest.room 0 (length rest) 0 (length fewer + 1) refl (fewer_by_one f rest fewer c.take_first-forwarder.ensures) inv.room);
       parts = c.take_hand.ensures.parts ∙ inv.parts;
       logs = c.take_hand.ensures.logs ∙ inv.logs;
+      counts = c.take_hand.ensures.counts ∙ inv.counts;
       hands = come_over forwarder_hand (map held_in c.loop-rest.room.hands.items) (map held_in c.take_hand.new.self.hands.items) _ f rest fewer c.take_first-forwarder.ensures
           (ap (map held_in) c.take_hand.ensures.hands ∙ (map_push held_in c.loop-rest.room.hands.items _ ∙ ap (λ (h : WorkerHand). map held_in c.loop-rest.room.hands.items ++ h ∷ []) hand)) inv.hands;
     }

@@ -9,6 +9,7 @@ invariant-loop-rest g l = record {
   room : HasRoom 0 (length l.rest.items) l.room;
   parts : l.room.parts ≡ l.fn.room.parts;
   logs : l.room.logs ≡ l.fn.room.logs;
+  counts : l.room.counts ≡ l.fn.room.counts;
   hands : map held_in l.room.hands.items ++ map forwarder_hand l.rest.items ≡ map held_in l.fn.room.hands.items ++ map forwarder_hand l.fn.forwarders.items;
 }
 

@@ -1,10 +1,12 @@
-use Rattle.std.proofs.Common.{◌≡◌, ◌+◌, map, length, sym, ◌∙◌, arith}
+use Rattle.std.proofs.Common.{◌≡◌, ◌+◌, map, length, ap, sym, ◌∙◌, arith}
+use Rattle.std.proofs.lemmas.List.{length-map}
 use Rattle.sdl_driver.specs.sdl_transition.Rules.{block_rules}
 use Rattle.sdl_driver.specs.sdl_instances.Core.{IsBoundIn, signals_of, sets_of}
 use Rattle.sdl_driver.specs.sdl_block.Workers.{behaviours_of}
 use Rattle.sdl_driver.specs.Closings.{outcome_in}
 use Rattle.sdl_serial_run.proofs.Begins.{room_for}
 use Rattle.sdl_driver.proofs.Closes.{system_kept}
+use Rattle.sdl_driver.proofs.Rooms.{room_as}
 use Rattle.sdl_serial_run.proofs.Fresh.{all_same, parts_count, env_fresh, fresh, driving, ended_of, run_of}
 use Rattle.sdl_serial_run.proofs.serial.run_in.Goals as goal
 
@@ -32,6 +34,14 @@ drive-requires-clause-fresh g c =
 
 pub drive-requires-clause-system : goal.drive-requires-clause-system
 drive-requires-clause-system g c = system_kept g.S.Agents.may c.args.system.checked c.args.system.routes c.args.system.blocks.items (map behaviours_of c.in-Ok.blocks.items) c.in-Ok.ensures.parts c.requires.system
+
+pub drive-requires-clause-room : goal.drive-requires-clause-room
+drive-requires-clause-room g c =
+    let old = length c.args.system.blocks.items in
+    let new = length c.in-Ok.blocks.items in
+    let lines = length c.args.start_room.forwarders.items + 1 in
+    let same : old ≡ new = ap length (sym c.in-Ok.ensures.parts) ∙ length-map c.in-Ok.blocks.items behaviours_of in
+    room_as c.args.start_room.room old (old + lines) new (new + lines) same (omega (arith, same)) c.requires.start_room.room
 
 pub gather-parts-requires-clause-room : goal.gather-parts-requires-clause-room
 gather-parts-requires-clause-room g c =

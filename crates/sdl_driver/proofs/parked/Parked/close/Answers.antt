@@ -1,4 +1,4 @@
-use Rattle.std.proofs.Common.{ℕ, Bool, true, false, List, MatchBool, ◌≡◌, ap, sym, ◌∙◌, subst}
+use Rattle.std.proofs.Common.{ℕ, Bool, true, false, List, MatchBool, ◌≡◌, length, ap, sym, ◌∙◌, subst}
 use Rattle.sdl_routes.specs.declared.route.Station.{Station}
 use Rattle.sdl_queue.specs.declared.rest.Rest.{Rest}
 use Rattle.sdl_outcome.specs.declared.end.RunEnd.{RunEnd}
@@ -9,20 +9,33 @@ use Rattle.sdl_outcome.specs.Plan.{blocks_in}
 use Rattle.sdl_order.specs.Driver.{finals_of}
 use Rattle.sdl_driver.specs.Stopped.{site_of_parked, plan_of_parked}
 use Rattle.sdl_driver.specs.Drivers.{AllDone, SomeUndone, AllLeft, SomeLeft}
-use Rattle.sdl_driver.specs.Closings.{outcome_left, end_by}
+use Rattle.sdl_driver.specs.Closings.{outcome_left, end_by, AreLogsCounted}
+use Rattle.sdl_log.specs.declared.counts.Counts.{Counts}
+use Rattle.std.proofs.lemmas.Slice.Zip.{AllZip-long}
 use Rattle.sdl_driver.proofs.Readings.{reads_shown, writes_shown}
 use Rattle.sdl_driver.proofs.Closes.{fits, closes, closes_unsettled, stops_as, same_shown}
 use Rattle.sdl_driver.proofs.Closes.{names_refused}
 use Rattle.sdl_driver.proofs.parked.Parked.close.Goals.{then-settled, else-settled}
 use Rattle.sdl_driver.proofs.parked.Parked.close.Goals as goal
 
-pub of-ledger-requires : goal.of-ledger-requires
-of-ledger-requires g c =
+pub of-ledger-requires-clause-fits : goal.of-ledger-requires-clause-fits
+of-ledger-requires-clause-fits g c =
     let left = c.leave-bound.result in
     subst CountsFit
-    (sym (same_shown g.K.Keeps.events left.logs.items c.as_slice-2.result.now left.env_put.items c.as_slice-3.result.now left.env_received.items c.as_slice-4.result.now left.hands.items c.as_slice-5.result.now left.rests.items c.as_slice-6.result.now
-    c.as_slice-2.ensures.value c.as_slice-3.ensures.value c.as_slice-4.ensures.value c.as_slice-5.ensures.value c.as_slice-6.ensures.value ∙ c.leave-bound.ensures.outcome))
+    (sym (same_shown g.K.Keeps.events left.logs.items c.as_slice-2.result.now left.env_put.items c.as_slice-4.result.now left.env_received.items c.as_slice-5.result.now left.hands.items c.as_slice-6.result.now left.rests.items c.as_slice-7.result.now
+    c.as_slice-2.ensures.value c.as_slice-4.ensures.value c.as_slice-5.ensures.value c.as_slice-6.ensures.value c.as_slice-7.ensures.value ∙ c.leave-bound.ensures.outcome))
     (fits g.S.Agents.may (plan_of_parked c.args.self) c.requires.driving.plan (site_of_parked c.args.self) c.requires.driving.work)
+
+pub of-ledger-requires-clause-counts : goal.of-ledger-requires-clause-counts
+of-ledger-requires-clause-counts g c =
+    let left = c.leave-bound.result in
+    subst (λ ls. AreLogsCounted g.K.Keeps.events ls c.as_slice-3.result.now) (sym c.as_slice-2.ensures.value)
+    (subst (λ (cs : List Counts). AreLogsCounted g.K.Keeps.events left.logs.items cs) (sym c.as_slice-3.ensures.value) c.leave-bound.ensures.counted)
+
+pub of-ledger-requires-clause-long : goal.of-ledger-requires-clause-long
+of-ledger-requires-clause-long g c =
+    let left = c.leave-bound.result in
+    ap length c.as_slice-3.ensures.value ∙ (AllZip-long _ left.logs.items left.counts.items c.leave-bound.ensures.counted ∙ sym (ap length c.as_slice-2.ensures.value))
 
 pub returns-clause-ended : goal.returns-clause-ended
 returns-clause-ended g c =
@@ -34,8 +47,8 @@ returns-clause-ended g c =
     let spent = c.first_spent-spent.result in
     let ledger = c.of-ledger.result in
     let slices =
-    same_shown g.K.Keeps.events left.logs.items c.as_slice-2.result.now left.env_put.items c.as_slice-3.result.now left.env_received.items c.as_slice-4.result.now left.hands.items c.as_slice-5.result.now rests c.as_slice-6.result.now
-    c.as_slice-2.ensures.value c.as_slice-3.ensures.value c.as_slice-4.ensures.value c.as_slice-5.ensures.value c.as_slice-6.ensures.value in
+    same_shown g.K.Keeps.events left.logs.items c.as_slice-2.result.now left.env_put.items c.as_slice-4.result.now left.env_received.items c.as_slice-5.result.now left.hands.items c.as_slice-6.result.now rests c.as_slice-7.result.now
+    c.as_slice-2.ensures.value c.as_slice-4.ensures.value c.as_slice-5.ensures.value c.as_slice-6.ensures.value c.as_slice-7.ensures.value in
     let counts : IsLedgerOf (outcome_left g.K.Keeps.events left) (waiting_in (finals_of (site_of_parked d))) ledger =
     subst (λ (n : ℕ). IsLedgerOf (outcome_left g.K.Keeps.events left) n ledger) c.waiting-waiting.ensures (subst (λ (o : Outcome). IsLedgerOf o c.waiting-waiting.result ledger) slices c.of-ledger.ensures) in
     let P : RunEnd → Type 0 = λ e. HasEnded may (plan_of_parked d) (outcome_left g.K.Keeps.events left) e ledger in

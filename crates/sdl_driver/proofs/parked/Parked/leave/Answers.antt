@@ -1,4 +1,7 @@
-use Rattle.std.proofs.Common.{◌+◌, ◌++◌, ◌∷◌, List, [], length, map, None, ◌≡◌, ap, ◌∙◌, arith}
+use Rattle.std.proofs.Common.{◌+◌, ◌++◌, ◌∷◌, List, [], length, map, None, ◌≡◌, ap, sym, subst, ◌∙◌, arith}
+use Rattle.std.proofs.lemmas.List.{nil_from_length}
+use Rattle.sdl_log.specs.declared.counts.Counts.{Counts}
+use Rattle.sdl_driver.specs.Closings.{AreLogsCounted}
 use Rattle.sdl_block.specs.Workers.{worker_of, behaviours_of}
 use Rattle.sdl_outcome.specs.Outcome.{WorkerHand}
 use Rattle.sdl_order.specs.Driver.{block_hand, env_hand, forwarder_hand}
@@ -45,3 +48,17 @@ returns-clause-outcome g c =
     let hands_are : hands ≡ (map (λ w. block_hand (worker_of w)) d.blocks.items ++ env_hand d.environment ∷ []) ++ map forwarder_hand d.forwarders.items =
     joined (map (λ w. block_hand (worker_of w)) d.blocks.items) (map held_in c.take_hand.new.self.hands.items) hands (map forwarder_hand d.forwarders.items) env (env_hand d.environment) with_env env_is c.take_forwarders.ensures.hands in
     same_outcome d.blocks.items d.environment d.forwarders.items d.rests.items logs parts.put.items parts.received.items hands logs_are c.into_parts-env.ensures.put c.into_parts-env.ensures.received hands_are
+
+pub returns-clause-counted : goal.returns-clause-counted
+returns-clause-counted g c =
+    let ev = g.K.Keeps.events in
+    let room = c.args.room in
+    let no_logs : room.logs.items ≡ [] = c.requires.empty.1 in
+    let no_counts : room.counts.items ≡ [] = nil_from_length room.counts.items (c.requires.room.counted ∙ ap length no_logs) in
+    let first : AreLogsCounted ev room.logs.items room.counts.items =
+    subst (λ ls. AreLogsCounted ev ls room.counts.items) (sym no_logs) (subst (λ (cs : List Counts). AreLogsCounted ev [] cs) (sym no_counts) tt) in
+    let blocks = c.take_blocks.ensures.counted first in
+    let logs_same = ap (λ v. v.items) (c.take_forwarders.ensures.logs ∙ c.take_hand.ensures.logs) in
+    let counts_same = ap (λ v. v.items) (c.take_forwarders.ensures.counts ∙ c.take_hand.ensures.counts) in
+    subst (λ ls. AreLogsCounted ev ls c.take_forwarders.new.room.counts.items) (sym logs_same)
+    (subst (λ (cs : List Counts). AreLogsCounted ev c.take_blocks.new.room.logs.items cs) (sym counts_same) blocks)

@@ -7,5 +7,5 @@ use Rattle.sdl_log.proofs.unstored.UnstoredKeeps.discard.Goals as goal
 pub invariant_of-self : goal.invariant_of-self
 invariant_of-self c =
     let u = c.self.inside in
-    noted u.events u.history c.and_discarded.result u.counts c.add_discarded.new.self (event.Discarded c.args.item c.args.cause) c.self.invariant.0 c.self.invariant.1
-    (c.and_discarded.ensures ∙ ap (λ (l : List Event). l ++ event.Discarded c.args.item c.args.cause ∷ []) c.replace-before.ensures.value) (c.add_discarded.ensures.adds c.args.item) (c.add_discarded.ensures.within u.events c.self.invariant.2)
+    noted u.events u.history c.and_discarded.result (event.Discarded c.args.item c.args.cause) c.self.invariant
+    (c.and_discarded.ensures ∙ ap (λ (l : List Event). l ++ event.Discarded c.args.item c.args.cause ∷ []) c.replace-before.ensures.value)

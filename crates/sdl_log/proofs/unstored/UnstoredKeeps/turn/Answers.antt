@@ -9,5 +9,5 @@ invariant_of-self c =
     let u = c.self.inside in
     let a = c.args in
     let e : Event = event.Turn a.pid a.trigger a.frame a.step a.done a.stopped in
-    noted u.events u.history c.and_turn.result u.counts c.add_turn.new.self e c.self.invariant.0 c.self.invariant.1
-    (c.and_turn.ensures ∙ ap (λ (l : List Event). l ++ e ∷ []) c.replace-before.ensures.value) (c.add_turn.ensures.adds a.pid a.frame a.step) (c.add_turn.ensures.within u.events c.self.invariant.2)
+    noted u.events u.history c.and_turn.result e c.self.invariant
+    (c.and_turn.ensures ∙ ap (λ (l : List Event). l ++ e ∷ []) c.replace-before.ensures.value)
