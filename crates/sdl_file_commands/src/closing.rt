@@ -11,13 +11,14 @@ use sdl_command::arguments::Options;
 use sdl_command::ends::{flushed, report_input, report_output};
 use sdl_command::errors::write_error;
 use sdl_command::status::{FAULTY, WHOLE};
+use sdl_packed_log::Shows;
 use sdl_run::sdl_parts::Structure;
 use sdl_run::sdl_signal::OutputEnd;
 use sdl_run::{Closing, RunEnd};
 use std::io::{Result, Write};
 
 /// Writes what was asked for of a run that ended, and how it ended, and answers the exit status.
-pub fn report_closing<S: Drop, K: sdl_run::sdl_log::Keeps, W: Write, E: Write>(
+pub fn report_closing<S: Drop, K: Shows, W: Write, E: Write>(
     options: Options,
     closing: &Closing<S, K>,
     output: &mut W,
@@ -36,7 +37,7 @@ pub fn report_closing<S: Drop, K: sdl_run::sdl_log::Keeps, W: Write, E: Write>(
 }
 
 /// Writes the ledger and the trace, where they were asked for and all lines of the environment went out.
-fn write_closing<S, K: sdl_run::sdl_log::Keeps, W: Write>(
+fn write_closing<S, K: Shows, W: Write>(
     options: Options,
     closing: &Closing<S, K>,
     output: &mut W,
@@ -55,7 +56,7 @@ fn write_closing<S, K: sdl_run::sdl_log::Keeps, W: Write>(
 }
 
 /// Writes the ledger and the trace, where they were asked for.
-fn write_books<S, K: sdl_run::sdl_log::Keeps, W: Write>(
+fn write_books<S, K: Shows, W: Write>(
     options: Options,
     closing: &Closing<S, K>,
     output: &mut W,

@@ -8,7 +8,8 @@ use crate::closing::report_closing;
 use crate::running::{Settings, run_bound};
 use sdl_command::errors::without_memory;
 use sdl_command::status::REFUSED;
-use sdl_run::sdl_log::{Event, Keeps, Unstored};
+use sdl_packed_log::{Packed, Shows};
+use sdl_run::sdl_log::Unstored;
 use sdl_run::sdl_transition::{Agents, Bound};
 use sdl_run::{OpenGate, StartFault, run_threads_keeping};
 use std::io::{Read, Write};
@@ -33,7 +34,7 @@ pub fn run_bound_in_threads<
     if settings.options.serial {
         run_bound(settings, bound, input, output, errors)
     } else if settings.options.trace {
-        run_with::<S, Vec<Event>, T, R, W, E>(rt, settings, bound, input, output, errors)
+        run_with::<S, Packed, T, R, W, E>(rt, settings, bound, input, output, errors)
     } else {
         run_with::<S, Unstored, T, R, W, E>(rt, settings, bound, input, output, errors)
     }
@@ -42,7 +43,7 @@ pub fn run_bound_in_threads<
 /// Runs a system that is bound in threads, with its structure's budget and logs of this kind, and answers the exit status.
 fn run_with<
     S: Agents + Send + Drop,
-    K: Keeps + Send,
+    K: Shows + Send,
     T: Threads + Wait + Sync,
     R: Read,
     W: Write,

@@ -8,7 +8,8 @@ use crate::closing::report_closing;
 use sdl_command::arguments::Options;
 use sdl_command::errors::without_memory;
 use sdl_command::status::REFUSED;
-use sdl_run::sdl_log::{Event, Keeps, Unstored};
+use sdl_packed_log::{Packed, Shows};
+use sdl_run::sdl_log::Unstored;
 use sdl_run::sdl_transition::{Agents, Bound};
 use sdl_run::{StartFault, run_keeping};
 use std::alloc::Global;
@@ -38,14 +39,14 @@ pub fn run_bound<S: Agents + Drop, R: Read, W: Write, E: Write>(
     ensures refused { result ≡ 1 → (input.new ≡ input.old) × (output.new ≡ output.old) }
 {
     if settings.options.trace {
-        run_with::<S, Vec<Event>, R, W, E>(settings, bound, input, output, errors)
+        run_with::<S, Packed, R, W, E>(settings, bound, input, output, errors)
     } else {
         run_with::<S, Unstored, R, W, E>(settings, bound, input, output, errors)
     }
 }
 
 /// Runs a system that is bound, with its structure's budget and logs of this kind, and answers the exit status.
-fn run_with<S: Agents + Drop, K: Keeps, R: Read, W: Write, E: Write>(
+fn run_with<S: Agents + Drop, K: Shows, R: Read, W: Write, E: Write>(
     settings: Settings,
     bound: Bound<S>,
     input: &mut R,

@@ -1,13 +1,14 @@
 //! The text of a run's logs.
 use crate::names::{set_name, signal_name};
-use sdl_run::sdl_log::{Cause, Done, Event, Keeps, Trigger};
+use sdl_packed_log::{Shown, Shows};
+use sdl_run::sdl_log::{Cause, Done, Trigger};
 use sdl_run::sdl_parts::Structure;
 use sdl_run::sdl_signal::{Pid, SignalId};
 use std::io::{Result, Write};
 
 /// Writes the logs of all blocks as far as they are stored, blocks by number: a line for each event, and after the line of a turn one for each thing
 /// that it did and one for a stop.
-pub fn write_trace<K: Keeps, W: Write>(
+pub fn write_trace<K: Shows, W: Write>(
     output: &mut W,
     structure: &Structure,
     logs: &[K],
@@ -18,7 +19,7 @@ pub fn write_trace<K: Keeps, W: Write>(
             structure,
             block: block.name.as_str(),
         };
-        log.write_events(events.stored())?;
+        log.write_events(events)?;
     }
     Ok(())
 }
@@ -32,24 +33,27 @@ struct Log<'a, W> {
 }
 
 impl<W: Write> Log<'_, W> {
-    fn write_events(&mut self, events: &[Event]) -> Result<()> {
-        for event in events {
-            self.write_event(event)?;
+    fn write_events<K: Shows>(&mut self, events: &K) -> Result<()> {
+        for number in 0..usize::MAX {
+            match events.event(number) {
+                Some(event) => self.write_event(event)?,
+                None => break,
+            }
         }
         Ok(())
     }
 
-    fn write_event(&mut self, event: &Event) -> Result<()> {
+    fn write_event(&mut self, event: Shown) -> Result<()> {
         match event {
-            Event::Entered(item, pid) => {
+            Shown::Entered(item, pid) => {
                 self.begin_with("enter", item.signal.id)?;
-                self.end_with(*pid)
+                self.end_with(pid)
             }
-            Event::Discarded(item, cause) => {
+            Shown::Discarded(item, cause) => {
                 self.begin_with("discard", item.signal.id)?;
-                writeln!(self.output, " {}", cause_text(*cause))
+                writeln!(self.output, " {}", cause_text(cause))
             }
-            Event::Turn {
+            Shown::Turn {
                 pid,
                 trigger,
                 frame: _,
@@ -58,9 +62,9 @@ impl<W: Write> Log<'_, W> {
                 stopped,
             } => {
                 self.write_trigger(trigger)?;
-                self.end_with(*pid)?;
-                self.write_all_done(done.as_slice())?;
-                self.write_stop(*pid, *stopped)
+                self.end_with(pid)?;
+                self.write_all_done(done)?;
+                self.write_stop(pid, stopped)
             }
         }
     }
