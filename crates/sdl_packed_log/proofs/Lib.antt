@@ -1,1 +1,2 @@
 mod Packing
+mod Rows

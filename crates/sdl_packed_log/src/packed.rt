@@ -248,6 +248,10 @@ impl Packed {
 }
 
 impl Shows for Packed {
+    ghost use Rattle.std.specs.Prelude.{true};
+
+    ghost stores = { λ _. true };
+
     fn event(&self, number: usize) -> Option<Shown<'_>> {
         self.shown(number)
     }

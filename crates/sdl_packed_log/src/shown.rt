@@ -1,5 +1,5 @@
 //! The events of a log that is kept in parts, as they are shown.
-ghost use Rattle.std.specs.Prelude.{◌≡◌, Some, IfSome, slice_get};
+ghost use Rattle.std.specs.Prelude.{◌≡◌, ◌≤◌, Some, IfSome, IfNone, true, length, slice_get};
 ghost use Rattle.sdl_packed_log.specs.Packed.{event_shown};
 
 use arrayvec::ArrayVec;
@@ -37,13 +37,23 @@ pub struct ShownStep<'a> {
 
 /// A way to keep a log that shows its events one by one, where it stores them.
 pub trait Shows: Keeps {
+    ghost use Rattle.std.specs.Prelude.{Bool};
+
+    /// Whether the log stores its events.
+    ghost stores: { Self → Bool };
+
     /// The event of this number, the earliest being 0. There is none where the log has not so many, or does not store them. No
     /// memory is taken.
     fn event(&self, number: usize) -> Option<Shown<'_>>
-        ensures { IfSome result (λ e. slice_get (Self.events self.now) number ≡ Some (event_shown e)) };
+        ensures some { IfSome result (λ e. slice_get (Self.events self.now) number ≡ Some (event_shown e)) }
+        ensures none { stores self.now ≡ true → IfNone result (length (Self.events self.now) ≤ number) };
 }
 
 impl Shows for Unstored {
+    ghost use Rattle.std.specs.Prelude.{false};
+
+    ghost stores = { λ _. false };
+
     fn event(&self, number: usize) -> Option<Shown<'_>> {
         let _ = number;
         None
