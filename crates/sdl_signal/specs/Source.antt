@@ -1,10 +1,14 @@
 -- A source of lines: what it answers, by the bytes that were to come.
-use Rattle.std.specs.Prelude.{◌≡◌, ℕ, ◌<◌, ◌≤◌, ◌⊎◌, List, [], ◌++◌, length, take, Option, Some, None, IfSome}
+use Rattle.std.specs.Prelude.{◌≡◌, ℕ, ◌<◌, ◌≤◌, ◌⊎◌, List, [], ◌+◌, ◌++◌, length, take, drop, Option, Some, None, IfSome, ⊤}
 use Rattle.std.specs.Io.KnownBytes.{Keeps, Consumes, IsAtEnd, prepend_known}
 use Rattle.sdl_signal.specs.declared.ahead.BlockRead.{BlockRead}
 use Rattle.sdl_signal.specs.declared.ahead.BlockRead.TheVariants as blocks
 use Rattle.sdl_signal.specs.declared.sources.LineRead.{LineRead}
 use Rattle.sdl_signal.specs.declared.sources.LineRead.TheVariants as reads
+use Rattle.sdl_signal.specs.declared.sources.Seen.{Seen}
+use Rattle.sdl_signal.specs.declared.sources.Seen.TheVariants as seen
+use Rattle.sdl_signal.specs.declared.sources.Waiting.{Waiting}
+use Rattle.sdl_signal.specs.declared.sources.Waiting.TheVariants as waiting
 use Rattle.sdl_signal.specs.declared.sources.Ended.{Ended}
 use Rattle.sdl_signal.specs.declared.sources.Ended.TheVariants as ended
 use Rattle.sdl_signal.specs.Bytes.{HasNoNewline, BeginsTooLong, ended_line}
@@ -17,6 +21,27 @@ pub record Source : Type 0 where
 -- among the bytes are those of a whole line, or the first 321 of one
 abbrev pub HoldsLine : List ℕ → Type 0
 HoldsLine ahead = ¬ (HasNoNewline ahead × (length ahead ≤ 320))
+
+-- what was seen next in a source, as an answer that holds the line
+abbrev pub line_read : Source → Seen → LineRead
+line_read source (seen.Line count passed) = reads.Line (record { items = take count source.ahead })
+line_read source seen.Over = reads.Over
+line_read source seen.Done = reads.Done
+line_read source seen.Fault = reads.Fault
+
+-- the source once the line that was seen is passed
+abbrev pub passed_over : Source → Seen → Source
+passed_over source (seen.Line count passed) = record source { ahead = drop passed source.ahead }
+passed_over source seen.Over = source
+passed_over source seen.Done = source
+passed_over source seen.Fault = source
+
+-- the line that was seen, and what is to be passed with it, stand in the source
+abbrev pub CanPass : Source → Seen → Type 0
+CanPass source (seen.Line count passed) = (count ≤ length source.ahead) × (count ≤ 320) × (passed ≤ length source.ahead)
+CanPass source seen.Over = ⊤
+CanPass source seen.Done = ⊤
+CanPass source seen.Fault = ⊤
 
 -- what a source that ended answers for ever
 abbrev pub last_answer : Ended → LineRead
@@ -42,21 +67,19 @@ IsNextLine before after new reads.Over = IfSome before BeginsTooLong × Keeps be
 IsNextLine before after new reads.Done = IsAtEnd before × Keeps before after × (new.ended ≡ Some ended.Done)
 IsNextLine before after new reads.Fault = Keeps before after × HasNoNewline new.ahead × (length new.ahead ≤ 320) × (new.ended ≡ Some ended.Fault)
 
--- What the bytes that wait in an open source come to: a whole line, or that it is too long, or no whole line.
-abbrev pub IsWaitingLine : Source → Source → Option LineRead → Type 0
-IsWaitingLine old new (Some (reads.Line line)) =
-    (old.ahead ≡ ended_line line.items ++ new.ahead) × HasNoNewline line.items × (length line.items ≤ 320) × (new.ended ≡ None)
-IsWaitingLine old new (Some reads.Over) = BeginsTooLong old.ahead × (new.ahead ≡ old.ahead) × (new.ended ≡ Some ended.Over)
-IsWaitingLine old new (Some reads.Done) = ⊥
-IsWaitingLine old new (Some reads.Fault) = ⊥
-IsWaitingLine old new None = HasNoNewline old.ahead × (length old.ahead ≤ 320) × (new ≡ old)
+-- What the bytes that wait come to: a whole line, or that it is too long, or no whole line.
+abbrev pub IsWaitingLine : List ℕ → Waiting → Type 0
+IsWaitingLine ahead (waiting.Line count) =
+    (ahead ≡ ended_line (take count ahead) ++ drop (count + 1) ahead) × HasNoNewline (take count ahead) × (count ≤ 320) × (count + 1 ≤ length ahead)
+IsWaitingLine ahead waiting.Over = BeginsTooLong ahead
+IsWaitingLine ahead waiting.Part = HasNoNewline ahead × (length ahead ≤ 320)
 
 -- what they come to where the input has ended
-abbrev pub IsLastLine : Source → Source → LineRead → Type 0
-IsLastLine old new (reads.Line line) = (line.items ≡ old.ahead) × (0 < length old.ahead) × (new.ahead ≡ []) × (new.ended ≡ Some ended.Done)
-IsLastLine old new reads.Over = ⊥
-IsLastLine old new reads.Done = (old.ahead ≡ []) × (new.ahead ≡ []) × (new.ended ≡ Some ended.Done)
-IsLastLine old new reads.Fault = ⊥
+abbrev pub IsLastLine : Source → Source → Seen → Type 0
+IsLastLine old new (seen.Line count passed) = (count ≡ length old.ahead) × (passed ≡ count) × (0 < count) × (new ≡ record old { ended = Some ended.Done })
+IsLastLine old new seen.Over = ⊥
+IsLastLine old new seen.Done = (old.ahead ≡ []) × (new ≡ record old { ended = Some ended.Done })
+IsLastLine old new seen.Fault = ⊥
 
 -- what the read of a block did to the bytes that the reader has left, and which bytes came
 abbrev pub IsBlockRead : Option (List ℕ) → Option (List ℕ) → List ℕ → BlockRead → Type 0

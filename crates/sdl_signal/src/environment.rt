@@ -8,7 +8,7 @@ ghost use Rattle.sdl_signal.specs.Environment.{Counts, EndsItself, GoesOn, HasCa
 use crate::ends::InputEnd;
 use crate::naming::Names;
 use crate::reading::{LineFault, read_line};
-use crate::sources::{LineRead, LineSource};
+use crate::sources::{LineSource, Seen};
 use crate::values::EnvLine;
 use std::io::Read;
 use std::marker::Model;
@@ -72,20 +72,22 @@ impl EnvReader {
             → GoesOn names.now start (R.remaining input.new) self.new carried result }
     {
         let full = self.carried == MOST_LINES;
-        match self.source.next(input) {
-            LineRead::Done => EnvRead::Ended(InputEnd::Whole),
-            LineRead::Fault => EnvRead::Ended(InputEnd::ReadFault),
-            LineRead::Over => {
+        match self.source.see(input) {
+            Seen::Done => EnvRead::Ended(InputEnd::Whole),
+            Seen::Fault => EnvRead::Ended(InputEnd::ReadFault),
+            Seen::Over => {
                 if full {
                     return EnvRead::Ended(InputEnd::TooMuch);
                 }
                 EnvRead::Ended(InputEnd::BadLine(self.carried + 1, LineFault::TooLong))
             }
-            LineRead::Line(line) => {
+            Seen::Line(count, passed) => {
+                let read = read_line(names, self.source.line(count));
+                self.source.pass(passed);
                 if full {
                     return EnvRead::Ended(InputEnd::TooMuch);
                 }
-                match read_line(names, line.as_slice()) {
+                match read {
                     Ok(signal) => {
                         self.carried += 1;
                         EnvRead::Line(signal)

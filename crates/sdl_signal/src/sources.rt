@@ -1,7 +1,7 @@
 //! The lines of an input.
 ghost use Rattle.std.specs.Prelude.{◌≡◌, ◌≢◌, ◌≤◌, ◌<◌, ◌+◌, ℕ, true, false, [], ◌∷◌, ◌++◌, length, take, drop, Some, None, IfSome, IfNone, slice_index};
 ghost use Rattle.sdl_signal.specs.Bytes.{newline, HasNoNewline};
-ghost use Rattle.sdl_signal.specs.Source.{HoldsLine, IsNextLine, IsWaitingLine, IsLastLine, last_answer, to_come};
+ghost use Rattle.sdl_signal.specs.Source.{HoldsLine, CanPass, IsNextLine, IsWaitingLine, IsLastLine, last_answer, line_read, passed_over, to_come};
 
 use crate::ahead::{Ahead, BlockRead};
 use crate::reading::LONGEST_LINE;
@@ -20,6 +20,27 @@ pub enum LineRead {
     Done,
     /// The reader failed, or more than 1,000 reads were interrupted over the life of the source.
     Fault,
+}
+
+/// What comes next in a source, where a line still stands in it.
+#[derive(Clone, Copy)]
+pub(crate) enum Seen {
+    /// A line of this many bytes, and how many are to be passed with it: its newline too, where it has one.
+    Line(usize, usize),
+    Over,
+    Done,
+    Fault,
+}
+
+/// What the bytes that wait in a source come to.
+#[derive(Clone, Copy)]
+enum Waiting {
+    /// A line of this many bytes, which a newline ends.
+    Line(usize),
+    /// A line that is too long.
+    Over,
+    /// No whole line.
+    Part,
 }
 
 /// How a source of lines ended.
@@ -65,12 +86,52 @@ impl LineSource {
         ensures ended { (e : _) → self.old.ended ≡ Some e
             → (result ≡ last_answer e) × (self.new ≡ self.old) × (input.new ≡ input.old) }
     {
-        match self.ended {
-            Some(Ended::Over) => LineRead::Over,
-            Some(Ended::Done) => LineRead::Done,
-            Some(Ended::Fault) => LineRead::Fault,
-            None => self.next_open(input),
+        match self.see(input) {
+            Seen::Line(count, passed) => {
+                let line = line_copy(self.line(count));
+                self.pass(passed);
+                LineRead::Line(line)
+            }
+            Seen::Over => LineRead::Over,
+            Seen::Done => LineRead::Done,
+            Seen::Fault => LineRead::Fault,
         }
+    }
+
+    /// The same, but that a line is not yet passed.
+    #[inline(always)]
+    pub(crate) fn see<R: Read>(&mut self, input: &mut R) -> Seen
+        ensures within { CanPass self.new result }
+        ensures next { self.old.ended ≡ None
+            → IsNextLine (to_come self.old (R.remaining input.old)) (to_come (passed_over self.new result) (R.remaining input.new)) (passed_over self.new result) (line_read self.new result) }
+        ensures unread { self.old.ended ≡ None → HoldsLine self.old.ahead → input.new ≡ input.old }
+        ensures ended { (e : _) → self.old.ended ≡ Some e
+            → (line_read self.new result ≡ last_answer e) × (self.new ≡ self.old) × (input.new ≡ input.old) }
+    {
+        match self.ended {
+            Some(Ended::Over) => Seen::Over,
+            Some(Ended::Done) => Seen::Done,
+            Some(Ended::Fault) => Seen::Fault,
+            None => self.see_open(input),
+        }
+    }
+
+    /// The first bytes that wait.
+    #[inline(always)]
+    pub(crate) fn line(&self, count: usize) -> &[u8]
+        requires { count ≤ length self.now.ahead }
+        ensures { result.now ≡ take count self.now.ahead }
+    {
+        &self.ahead.as_slice()[..count]
+    }
+
+    /// Passes over the first bytes that wait.
+    #[inline(always)]
+    pub(crate) fn pass(&mut self, count: usize)
+        requires { count ≤ length self.old.ahead }
+        ensures { self.new ≡ record self.old { ahead = drop count self.old.ahead } }
+    {
+        self.ahead.consume(count);
     }
 
     /// Whether the next line is told without asking the reader: the input has ended, or a whole line or 321 bytes of one wait.
@@ -83,64 +144,58 @@ impl LineSource {
         self.ended.is_some() || shown > LONGEST_LINE || newline_place(&waiting[..shown]).is_some()
     }
 
-    fn next_open<R: Read>(&mut self, input: &mut R) -> LineRead
+    #[inline(always)]
+    fn see_open<R: Read>(&mut self, input: &mut R) -> Seen
         requires { self.old.ended ≡ None }
+        ensures within { CanPass self.new result }
         ensures unread { HoldsLine self.old.ahead → input.new ≡ input.old }
-        ensures next { IsNextLine (to_come self.old (R.remaining input.old)) (to_come self.new (R.remaining input.new)) self.new result }
+        ensures next { IsNextLine (to_come self.old (R.remaining input.old)) (to_come (passed_over self.new result) (R.remaining input.new)) (passed_over self.new result) (line_read self.new result) }
     {
         loop {
-            if let Some(read) = self.waiting_line() {
-                return read;
+            match self.waiting() {
+                Waiting::Line(count) => return Seen::Line(count, count + 1),
+                Waiting::Over => {
+                    self.ended = Some(Ended::Over);
+                    return Seen::Over;
+                }
+                Waiting::Part => {}
             }
             match self.ahead.fill(input) {
                 BlockRead::Bytes(_) => {}
                 BlockRead::End => return self.last_line(),
                 BlockRead::Fault => {
                     self.ended = Some(Ended::Fault);
-                    return LineRead::Fault;
+                    return Seen::Fault;
                 }
             }
         }
     }
 
     /// The first line of the bytes that wait, where they have a whole one, or that it is too long.
-    fn waiting_line(&mut self) -> Option<LineRead>
-        requires { self.old.ended ≡ None }
-        ensures { IsWaitingLine self.old self.new result }
+    #[inline(always)]
+    fn waiting(&self) -> Waiting
+        ensures { IsWaitingLine self.now.ahead result }
     {
         let waiting = self.ahead.as_slice();
         let shown = waiting.len().min(LONGEST_LINE + 1);
         match newline_place(&waiting[..shown]) {
-            Some(place) => {
-                let line = line_copy(&waiting[..place]);
-                self.ahead.consume(place + 1);
-                Some(LineRead::Line(line))
-            }
-            None if shown > LONGEST_LINE => {
-                self.ended = Some(Ended::Over);
-                Some(LineRead::Over)
-            }
-            None => None,
+            Some(place) => Waiting::Line(place),
+            None if shown > LONGEST_LINE => Waiting::Over,
+            None => Waiting::Part,
         }
     }
 
     /// What the bytes that wait come to where the input has ended: a last line, or nothing.
-    fn last_line(&mut self) -> LineRead
+    fn last_line(&mut self) -> Seen
         requires open { self.old.ended ≡ None }
-        requires unended { HasNoNewline self.old.ahead }
-        requires short { length self.old.ahead ≤ 320 }
         ensures { IsLastLine self.old self.new result }
     {
-        let waiting = self.ahead.as_slice();
-        let count = waiting.len();
-        if count == 0 {
-            self.ended = Some(Ended::Done);
-            return LineRead::Done;
-        }
-        let line = line_copy(waiting);
-        self.ahead.consume(count);
         self.ended = Some(Ended::Done);
-        LineRead::Line(line)
+        let count = self.ahead.as_slice().len();
+        if count == 0 {
+            return Seen::Done;
+        }
+        Seen::Line(count, count)
     }
 }
 
