@@ -10,10 +10,10 @@ pub fn copied_values<const N: usize>(values: &[Value]) -> ArrayVec<Value, N>
     ensures { result.items ≡ values.now }
 {
     let mut copy = ArrayVec::new();
-    match copy.try_extend_from_slice(values) {
-        Ok(()) => copy,
-        Err(_) => unreachable!(),
+    for value in values {
+        copy.push(*value);
     }
+    copy
 }
 
 /// The same sorts.
