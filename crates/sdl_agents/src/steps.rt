@@ -1,5 +1,5 @@
 //! The parts of steps that lead to idle, without variables.
-ghost use Rattle.std.specs.Prelude.{◌≡◌, [], ◌∷◌};
+ghost use Rattle.std.specs.Prelude.{◌≡◌, [], ◌∷◌, ◌++◌, ◌<◌, length};
 ghost use Rattle.sdl_signal.specs.declared.values.Sort.TheVariants as sort;
 ghost use Rattle.sdl_agents.specs.Tables.{LeadsToIdle, output, output_integer, values_of, forwarded, forwarded_values};
 ghost use Rattle.sdl_agents.specs.Offered.{KeepsTo, Offers, OffersOne};
@@ -41,14 +41,23 @@ pub fn send(id: SignalId, params: ArrayVec<Value, 4>, dest: Dest) -> Action
     }
 }
 
+/// Adds an output of one Integer, to anywhere.
+#[inline(always)]
+fn add_integer(actions: &mut ArrayVec<Action, 8>, id: SignalId, n: i64)
+    requires { length actions.old.items < 8 }
+    ensures { actions.new.items ≡ actions.old.items ++ output_integer id.0 n }
+{
+    let mut params = ArrayVec::new();
+    params.push(Value::Integer(n));
+    actions.push(send(id, params, Dest::Anywhere));
+}
+
 /// The step with one output, of one Integer, to anywhere.
 pub(crate) fn send_integer(id: SignalId, n: i64) -> Step
     ensures { LeadsToIdle (output_integer id.0 n) result }
 {
-    let mut params = ArrayVec::new();
-    params.push(Value::Integer(n));
     let mut actions = ArrayVec::new();
-    actions.push(send(id, params, Dest::Anywhere));
+    add_integer(&mut actions, id, n);
     idle(actions)
 }
 
@@ -61,20 +70,28 @@ pub fn begin(_frame: &Frame) -> Step
     idle(ArrayVec::new())
 }
 
-/// An output of the other signal with the Integer of the signal consumed.
+/// An output of the other signal with the Integer of the signal consumed. Its step is put together here, and this is built into
+/// the closures that call it, since each function on the way would copy the step once.
+#[inline(always)]
 pub fn forward(frame: &Frame, to: SignalId) -> Step
     ensures step { LeadsToIdle (forwarded to.0 frame.now.signal) result }
     ensures conforms { KeepsTo (OffersOne to.0 (sort.Integer ∷ [])) frame.now result }
 {
-    forward_values(values(frame), to)
+    Step {
+        actions: forwarded_integer(values(frame), to),
+        vars: ArrayVec::new(),
+        next: Next::State(StateId(0)),
+    }
 }
 
-/// The same, with the one of these values.
-fn forward_values(values: &[Value], to: SignalId) -> Step
-    ensures { LeadsToIdle (forwarded_values to.0 values.now) result }
+/// The output of the signal with the one of these values, where that is one Integer.
+#[inline(always)]
+fn forwarded_integer(values: &[Value], to: SignalId) -> ArrayVec<Action, 8>
+    ensures { result.items ≡ forwarded_values to.0 values.now }
 {
-    match values {
-        [Value::Integer(n)] => send_integer(to, *n),
-        _ => idle(ArrayVec::new()),
+    let mut actions = ArrayVec::new();
+    if let [Value::Integer(n)] = values {
+        add_integer(&mut actions, to, *n);
     }
+    actions
 }
