@@ -65,6 +65,7 @@ impl<S: Agents, K: Keeps> BlockCore<S, K> {
     /// Lets an item arrive. It enters the port of the instance that its output named, or of the living one of the set at
     /// the end of its route at `pick` modulo their number, in order of creation. It is discarded where there is none.
     /// A refusal changes nothing and hands the item back. The instance is found without a scan over the living ones.
+    #[inline(always)]
     pub fn arrive(
         &mut self,
         routes: &Routes,

@@ -56,6 +56,7 @@ impl<K: Keeps> Counted<K> {
         requires { length (K.events self.old) < K.capacity self.old }
         ensures { K.events self.new ≡ K.events self.old ++ event.Entered item pid ∷ [] }
     {
+        // The number of events is one of 64 bits, so that one more can be counted.
         let _number = self.log.number();
         self.counts.add_entered();
         self.log.enter(item, pid);

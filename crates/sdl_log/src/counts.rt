@@ -33,7 +33,7 @@ pub struct Counts {
 
 impl Counts {
     /// Counts a signal that entered a port.
-    pub fn add_entered(&mut self)
+    pub(crate) fn add_entered(&mut self)
         requires { CanCount self.old }
         ensures adds { (i : Item) (p : Pid) → AddsEvent self.old (event.Entered i p) self.new }
         ensures within { (n : ℕ) → AreWithin n self.old → AreWithin (n + 1) self.new }
@@ -42,7 +42,7 @@ impl Counts {
     }
 
     /// Counts a signal that was discarded on its arrival.
-    pub fn add_discarded(&mut self, cause: Cause)
+    pub(crate) fn add_discarded(&mut self, cause: Cause)
         requires { CanCount self.old }
         ensures adds { (i : Item) → AddsEvent self.old (event.Discarded i cause) self.new }
         ensures within { (n : ℕ) → AreWithin n self.old → AreWithin (n + 1) self.new }
@@ -54,7 +54,12 @@ impl Counts {
     }
 
     /// Counts what a turn consumed, put out and dropped.
-    pub fn add_turn(&mut self, trigger: &Trigger, done: &ArrayVec<Done, 8>, stopped: Option<u64>)
+    pub(crate) fn add_turn(
+        &mut self,
+        trigger: &Trigger,
+        done: &ArrayVec<Done, 8>,
+        stopped: Option<u64>,
+    )
         requires { CanCount self.old }
         ensures adds { (p : Pid) (f : Frame) (s : Option Step) → AddsEvent self.old (event.Turn p trigger.now f s done.now stopped) self.new }
         ensures within { (n : ℕ) → AreWithin n self.old → AreWithin (n + 1) self.new }

@@ -51,7 +51,7 @@ pub trait Keeps: Drop {
         requires { length (events self.old) < capacity self.old }
         ensures { events self.new ≡ events self.old ++ event.Turn pid trigger frame step done stopped ∷ [] };
 
-    /// The events that are stored: all, or none. No memory is taken.
+    /// The events as a list, where they are stored as one: all, or none. No memory is taken.
     fn stored(&self) -> &[Event]
         ensures { (result.now ≡ events self.now) ⊎ (result.now ≡ []) };
 
