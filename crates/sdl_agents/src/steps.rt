@@ -77,21 +77,22 @@ pub fn forward(frame: &Frame, to: SignalId) -> Step
     ensures step { LeadsToIdle (forwarded to.0 frame.now.signal) result }
     ensures conforms { KeepsTo (OffersOne to.0 (sort.Integer ∷ [])) frame.now result }
 {
-    Step {
-        actions: forwarded_integer(values(frame), to),
+    let mut step = Step {
+        actions: ArrayVec::new(),
         vars: ArrayVec::new(),
         next: Next::State(StateId(0)),
-    }
+    };
+    add_forwarded(&mut step.actions, values(frame), to);
+    step
 }
 
-/// The output of the signal with the one of these values, where that is one Integer.
+/// Adds the output of the signal with the one of these values, where that is one Integer, as the first action.
 #[inline(always)]
-fn forwarded_integer(values: &[Value], to: SignalId) -> ArrayVec<Action, 8>
-    ensures { result.items ≡ forwarded_values to.0 values.now }
+fn add_forwarded(actions: &mut ArrayVec<Action, 8>, values: &[Value], to: SignalId)
+    requires { actions.old.items ≡ [] }
+    ensures { actions.new.items ≡ forwarded_values to.0 values.now }
 {
-    let mut actions = ArrayVec::new();
     if let [Value::Integer(n)] = values {
-        add_integer(&mut actions, to, *n);
+        add_integer(actions, to, *n);
     }
-    actions
 }

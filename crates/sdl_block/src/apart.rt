@@ -100,9 +100,9 @@ impl<S: Agents, K: Keeps> BlockWorker<S, K> {
         ensures parts { behaviours_of self.new ≡ behaviours_of self.old }
         ensures ends { IsSameEnds ends.old ends.new }
     {
-        match self.hand.kept.take() {
-            Some(item) => Some(item),
-            None => ends.take(rt),
+        if self.hand.kept.is_some() {
+            return self.hand.kept.take();
         }
+        ends.take(rt)
     }
 }

@@ -149,10 +149,10 @@ impl<S: Agents, K: Keeps> BlockWorker<S, K> {
         ensures emptied { worker_of self.new ≡ record (worker_of self.old) { kept = None } }
         ensures parts { behaviours_of self.new ≡ behaviours_of self.old }
     {
-        match self.hand.kept.take() {
-            Some(item) => Some(item),
-            None => board.take(Station::Inlet(self.core.block())),
+        if self.hand.kept.is_some() {
+            return self.hand.kept.take();
         }
+        board.take(Station::Inlet(self.core.block()))
     }
 
     /// Lets the item arrive. A refusal hands it back and changes nothing.

@@ -43,9 +43,9 @@ impl Forwarder {
         ensures feeds { ends.new.feeds ≡ ends.old.feeds }
         ensures ends { IsSameEnds ends.old ends.new }
     {
-        match self.held.take() {
-            Some(item) => Some(item),
-            None => ends.take(rt),
+        if self.held.is_some() {
+            return self.held.take();
         }
+        ends.take(rt)
     }
 }

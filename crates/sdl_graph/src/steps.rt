@@ -48,11 +48,10 @@ impl StepBuilder {
     fn ends(frame: &Frame, next: Next) -> StepBuilder
         ensures { result ≡ record { step = record { actions = record { items = [] }; vars = frame.now.vars; next = next }; fits = true } }
     {
-        let actions = ArrayVec::new();
         match fitting_values(frame.vars.as_slice()) {
             Some(vars) => StepBuilder {
                 step: Step {
-                    actions,
+                    actions: ArrayVec::new(),
                     vars,
                     next,
                 },

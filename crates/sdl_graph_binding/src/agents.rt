@@ -5,7 +5,7 @@ ghost use Rattle.sdl_graph.specs.Answers.{IsKept};
 
 use crate::marks::Marks;
 use sdl_behaviour::{Agents, Frame, Offer, Step};
-use sdl_graph::{Graph, judge};
+use sdl_graph::judge;
 use std::marker::PhantomData;
 
 /// The agents of a graph. Of each step it is promised that it meets its transition's offer, as of every step of a stored
@@ -19,15 +19,13 @@ impl<G> Agents for GraphAgents<G> {
     ghost may = { λ _ _ _. Unit {0} };
 }
 
-/// What the graph's transition answers where that conforms to the offer, and else the step that does nothing, which is
-/// then marked.
-pub fn marked_answer<G: Graph>(number: u32, offer: &Offer, frame: &Frame, marks: &Marks) -> Step
-    ensures kept { (own : _) × G.answers number frame.now own × IsKept offer.now frame.now own result }
-    ensures conforms { IsFrameOf offer.now frame.now → CanEnd offer.now → Conforms offer.now result }
+/// Leaves a step that conforms to the offer as it is, and puts the one that does nothing in the place of another, whose number
+/// is then marked.
+pub fn keep_to_offer(number: u32, offer: &Offer, frame: &Frame, step: &mut Step, marks: &Marks)
+    ensures kept { IsKept offer.now frame.now step.old step.new }
+    ensures conforms { IsFrameOf offer.now frame.now → CanEnd offer.now → Conforms offer.now step.new }
 {
-    let mut step = G::step(number, frame);
-    if !judge(offer, frame, &mut step) {
+    if !judge(offer, frame, step) {
         marks.note(number);
     }
-    step
 }

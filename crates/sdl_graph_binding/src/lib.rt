@@ -9,7 +9,7 @@ mod set_behaviour;
 pub mod sets;
 pub mod stored;
 
-pub use agents::{GraphAgents, marked_answer};
+pub use agents::{GraphAgents, keep_to_offer};
 pub use binding::bind_graph;
 pub use faults::GraphFault;
 pub use marks::{Broken, Marks};

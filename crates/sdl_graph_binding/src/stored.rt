@@ -6,7 +6,7 @@ ghost use Rattle.sdl_graph.specs.Answers.{IsKept};
 ghost use Rattle.sdl_graph_binding.specs.Transitions.{IsOfferFault};
 ghost use Rattle.sdl_graph_binding.specs.declared.faults.GraphFault.TheVariants.{Memory};
 
-use crate::agents::{GraphAgents, marked_answer};
+use crate::agents::{GraphAgents, keep_to_offer};
 use crate::faults::GraphFault;
 use crate::marks::Marks;
 use sdl_behaviour::{Frame, Offer, Run, Step, Transition};
@@ -58,12 +58,15 @@ impl<G: Graph> Answering<G> {
         copied_offer(&self.offer)
     }
 
-    /// `marked_answer` of the transition.
+    /// What the graph's transition answers, kept to its offer. The step is put together here, since each function on the way
+    /// would copy it once.
     pub fn answer(&self, frame: &Frame) -> Step
         ensures kept { (own : _) × G.answers self.now.number frame.now own × IsKept self.now.offer frame.now own result }
         ensures conforms { IsFrameOf self.now.offer frame.now → CanEnd self.now.offer → Conforms self.now.offer result }
     {
-        marked_answer::<G>(self.number, &self.offer, frame, &self.marks)
+        let mut step = G::step(self.number, frame);
+        keep_to_offer(self.number, &self.offer, frame, &mut step, &self.marks);
+        step
     }
 }
 

@@ -1,20 +1,23 @@
 //! What marked answers are, and what is marked.
 use super::breaking::{Breaking, CONFORMING, NUMBERS, breaking_frame};
-use sdl_graph_binding::sdl_behaviour::Next;
+use sdl_graph_binding::sdl_behaviour::{Next, Step};
 use sdl_graph_binding::sdl_graph::Graph;
 use sdl_graph_binding::sdl_signal::StateId;
-use sdl_graph_binding::{Broken, Marks, marked_answer};
+use sdl_graph_binding::{Broken, Marks, keep_to_offer};
 use std::test::Fail;
+
+/// The graph's answer of this number, kept to its offer.
+fn kept_answer(number: u32, marks: &Marks) -> Step {
+    let frame = breaking_frame();
+    let mut step = Breaking::step(number, &frame);
+    keep_to_offer(number, &Breaking::offer(number), &frame, &mut step, marks);
+    step
+}
 
 #[test]
 fn a_conforming_answer_stands_unmarked(rt: HostRuntime) -> Result<(), Fail> {
     let marks = Marks::new(rt.alloc())?;
-    let step = marked_answer::<Breaking>(
-        CONFORMING,
-        &Breaking::offer(CONFORMING),
-        &breaking_frame(),
-        &marks,
-    );
+    let step = kept_answer(CONFORMING, &marks);
     let own = Breaking::step(CONFORMING, &breaking_frame());
     assert!(rt; step.actions.as_slice() == own.actions.as_slice());
     assert!(rt; step.actions.len() == 2);
@@ -30,7 +33,7 @@ fn a_broken_answer_does_nothing(rt: HostRuntime) -> Result<(), Fail> {
     let frame = breaking_frame();
     for number in 1..NUMBERS {
         let marks = Marks::new(rt.alloc())?;
-        let step = marked_answer::<Breaking>(number, &Breaking::offer(number), &frame, &marks);
+        let step = kept_answer(number, &marks);
         assert_eq!(rt; step.actions.len(), 0, "transition {number}");
         assert!(rt; step.vars.as_slice() == frame.vars.as_slice());
         assert!(rt; step.next == Next::State(StateId(0)));
@@ -48,10 +51,9 @@ fn a_broken_answer_does_nothing(rt: HostRuntime) -> Result<(), Fail> {
 fn the_first_is_named_and_all_are_counted(rt: HostRuntime) -> Result<(), Fail> {
     let marks = Marks::new(rt.alloc())?;
     let share = marks.share()?;
-    let frame = breaking_frame();
     for number in [CONFORMING, 9, 3, CONFORMING, 9, 1] {
         let own = if number == 3 { &share } else { &marks };
-        let _step = marked_answer::<Breaking>(number, &Breaking::offer(number), &frame, own);
+        let _step = kept_answer(number, own);
     }
     let wanted = Some(Broken { first: 9, count: 4 });
     assert!(rt; marks.broken() == wanted);

@@ -19,7 +19,7 @@ use crate::living::Living;
 use crate::process_set::ProcessSet;
 use crate::ready::Look;
 use arrayvec::ArrayVec;
-use sdl_log::{Arrival, Cause, Counted, Counts, Keeps};
+use sdl_log::{Arrival, Cause, Counted, Counts, Done, Keeps};
 use sdl_parts::Structure;
 use sdl_processes::Instances;
 use sdl_processes::copies::copied_item;
@@ -38,6 +38,9 @@ pub struct Table<K: Keeps> {
     pub(crate) sets: Vec<ProcessSet>,
     pub(crate) living: Living,
     pub(crate) log: Counted<K>,
+    /// What the actions of the last turn did, as far as the log has not taken it. The list stays, so that none is made for each
+    /// turn.
+    pub(crate) done: ArrayVec<Done, 8>,
     pub(crate) outputs: u64,
     pub(crate) stamp: u64,
     pub(crate) made: u32,
@@ -82,6 +85,7 @@ impl<K: Keeps> Table<K> {
                 last,
             },
             log: Counted::new(alloc),
+            done: ArrayVec::new(),
             outputs: 0,
             stamp: 0,
             made: 0,

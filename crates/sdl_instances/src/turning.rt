@@ -66,7 +66,7 @@ impl<K: Keeps> Table<K> {
             Trigger::Implicit(item),
             frame,
             None,
-            ArrayVec::new(),
+            &mut ArrayVec::new(),
             None,
         );
     }
@@ -98,21 +98,21 @@ impl<K: Keeps> Table<K> {
             stamp: self.stamp,
             pick,
         };
-        let mut done = ArrayVec::new();
+        self.done.clear();
         act_all(
             &mut self.living,
             self.sets.as_slice(),
             actor,
             step.actions.as_slice(),
             mark,
-            &mut done,
+            &mut self.done,
         );
         let stopped = self.living.finish(actor.place, &step.vars, step.next);
-        add_sent(done.as_slice(), hand);
-        self.outputs += number_of_outputs(done.as_slice());
+        add_sent(self.done.as_slice(), hand);
+        self.outputs += number_of_outputs(self.done.as_slice());
         self.made += 1;
         let pid = frame.self_pid;
         self.log
-            .turn(pid, trigger, frame, Some(step), done, stopped);
+            .turn(pid, trigger, frame, Some(step), &mut self.done, stopped);
     }
 }

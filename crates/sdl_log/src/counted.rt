@@ -73,7 +73,7 @@ impl<K: Keeps> Counted<K> {
         self.log.discard(item, cause);
     }
 
-    /// Notes a turn, by its parts.
+    /// Notes a turn, by its parts. What its actions did may be taken out of the list.
     #[inline(always)]
     pub fn turn(
         &mut self,
@@ -81,14 +81,14 @@ impl<K: Keeps> Counted<K> {
         trigger: Trigger,
         frame: Frame,
         step: Option<Step>,
-        done: ArrayVec<Done, 8>,
+        done: &mut ArrayVec<Done, 8>,
         stopped: Option<u64>,
     )
         requires { length (K.events self.old) < K.capacity self.old }
-        ensures { K.events self.new ≡ K.events self.old ++ event.Turn pid trigger frame step done stopped ∷ [] }
+        ensures { K.events self.new ≡ K.events self.old ++ event.Turn pid trigger frame step done.old stopped ∷ [] }
     {
         let _number = self.log.number();
-        self.counts.add_turn(&trigger, &done, stopped);
+        self.counts.add_turn(&trigger, done, stopped);
         self.log.turn(pid, trigger, frame, step, done, stopped);
     }
 

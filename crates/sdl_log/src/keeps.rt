@@ -38,18 +38,18 @@ pub trait Keeps: Drop {
         requires { length (events self.old) < capacity self.old }
         ensures { events self.new ≡ events self.old ++ event.Discarded item cause ∷ [] };
 
-    /// Notes a turn, by its parts.
+    /// Notes a turn, by its parts. What its actions did may be taken out of the list, which is the caller's to fill anew.
     fn turn(
         &mut self,
         pid: Pid,
         trigger: Trigger,
         frame: Frame,
         step: Option<Step>,
-        done: ArrayVec<Done, 8>,
+        done: &mut ArrayVec<Done, 8>,
         stopped: Option<u64>,
     )
         requires { length (events self.old) < capacity self.old }
-        ensures { events self.new ≡ events self.old ++ event.Turn pid trigger frame step done stopped ∷ [] };
+        ensures { events self.new ≡ events self.old ++ event.Turn pid trigger frame step done.old stopped ∷ [] };
 
     /// The events as a list, where they are stored as one: all, or none. No memory is taken.
     fn stored(&self) -> &[Event]

@@ -37,7 +37,7 @@ impl Keeps for Vec<Event> {
         trigger: Trigger,
         frame: Frame,
         step: Option<Step>,
-        done: ArrayVec<Done, 8>,
+        done: &mut ArrayVec<Done, 8>,
         stopped: Option<u64>,
     ) {
         let event = Event::Turn {
@@ -45,7 +45,7 @@ impl Keeps for Vec<Event> {
             trigger,
             frame,
             step,
-            done,
+            done: done.take(),
             stopped,
         };
         self.push_reserved(event);

@@ -67,12 +67,12 @@ impl Keeps for Unstored {
         trigger: Trigger,
         frame: Frame,
         step: Option<Step>,
-        done: ArrayVec<Done, 8>,
+        done: &mut ArrayVec<Done, 8>,
         stopped: Option<u64>,
     ) {
         self.events += 1;
         let before = std::mem::replace(&mut self.history, History::new());
-        self.history = before.and_turn(pid, &trigger, &frame, &step, &done, stopped);
+        self.history = before.and_turn(pid, &trigger, &frame, &step, done, stopped);
     }
 
     fn stored(&self) -> &[Event] {

@@ -1,20 +1,18 @@
 -- The definitions, tried on a log of five events.
-use Rattle.std.proofs.Common.{◌≡◌, ℕ, List, [], ◌∷◌, Option, None, Some, refl, arith}
-use Rattle.std.specs.Prelude.{⊤}
+use Rattle.std.proofs.Common.{◌≡◌, List, [], ◌∷◌, None, Some, refl, arith}
 use Rattle.sdl_signal.specs.declared.values.Item.{Item}
 use Rattle.sdl_signal.specs.declared.values.Pid.{Pid}
 use Rattle.sdl_behaviour.specs.declared.step.Action.{Action}
 use Rattle.sdl_behaviour.specs.declared.step.Frame.{Frame}
 use Rattle.sdl_log.specs.declared.event.Cause.{Cause}
 use Rattle.sdl_log.specs.declared.event.Done.{Done}
-use Rattle.sdl_log.specs.declared.event.Event.{Event}
 use Rattle.sdl_log.specs.declared.event.Event.TheVariants as event
 use Rattle.sdl_log.specs.declared.event.Trigger.{Trigger}
 use Rattle.sdl_packed_log.specs.declared.packed.Note.{Note}
 use Rattle.sdl_packed_log.specs.declared.packed.Note.TheVariants as note
 use Rattle.sdl_packed_log.specs.declared.packed.Head.{Head}
 use Rattle.sdl_packed_log.specs.declared.packed.Last.{Last}
-use Rattle.sdl_packed_log.specs.Packed.{turn_of, events_in, AreParts, AreHeads, AreNotes}
+use Rattle.sdl_packed_log.specs.Packed.{events_in, AreParts, AreHeads, AreNotes}
 
 -- an arrival, a turn with two actions, one without any by the implicit transition, a discard, and a turn with one action
 module _ (i j : Item) (p q : Pid) (c : Cause) (t u v : Trigger) (f g : Frame) (last : Last) (a b d : Action) (x y z : Done) where

@@ -66,15 +66,16 @@ impl Model for Packed {
 }
 
 /// Moves all items of the short list to the end of the long one.
-fn move_all<T: Default + Drop>(from: ArrayVec<T, 8>, to: &mut Vec<T>)
+fn move_all<T: Default + Drop>(from: &mut ArrayVec<T, 8>, to: &mut Vec<T>)
     requires room { length to.old.items + 8 ≤ vec_capacity to.old }
-    ensures items { to.new.items ≡ to.old.items ++ from.items }
+    ensures items { to.new.items ≡ to.old.items ++ from.old.items }
     ensures few { length to.new.items ≤ length to.old.items + 8 }
     ensures capacity { vec_capacity to.new ≡ vec_capacity to.old }
 {
-    let mut rest = from;
-    while rest.len() > 0 {
-        to.push_reserved(rest.remove(0));
+    // That there are at most eight is known by it where they are moved.
+    let _few = from.len();
+    while from.len() > 0 {
+        to.push_reserved(from.remove(0));
     }
 }
 
@@ -87,7 +88,8 @@ fn keep_step(step: Option<Step>, actions: &mut Vec<Action>) -> Option<Last>
 {
     match step {
         Some(step) => {
-            move_all(step.actions, actions);
+            let mut step = step;
+            move_all(&mut step.actions, actions);
             Some(Last {
                 vars: step.vars,
                 next: step.next,
@@ -141,7 +143,7 @@ impl Keeps for Packed {
         trigger: Trigger,
         frame: Frame,
         step: Option<Step>,
-        done: ArrayVec<Done, 8>,
+        done: &mut ArrayVec<Done, 8>,
         stopped: Option<u64>,
     ) {
         self.room -= 1;

@@ -118,7 +118,7 @@ pub fn note<K: Keeps>(log: &mut K, number: u32) -> bool {
             Trigger::Fire(item_of(number)),
             frame_of(number),
             step_of(number),
-            done_of(number),
+            &mut done_of(number),
             None,
         ),
         _ => log.turn(
@@ -126,7 +126,7 @@ pub fn note<K: Keeps>(log: &mut K, number: u32) -> bool {
             Trigger::Start,
             frame_of(number),
             step_of(number),
-            done_of(number),
+            &mut done_of(number),
             Some(number as u64),
         ),
     }

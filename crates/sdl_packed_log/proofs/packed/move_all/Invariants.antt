@@ -3,10 +3,10 @@ use Rattle.sdl_packed_log.proofs.packed.move_all.Given as goal
 
 abbrev pub invariant-loop-to : goal.invariant-loop-to
 invariant-loop-to g l = record {
-  items : l.to.items ++ l.rest.items ≡ l.fn.to.items ++ l.fn.from.items;
-  room : length l.to.items + length l.rest.items ≤ vec_capacity l.to;
+  items : l.to.items ++ l.from.items ≡ l.fn.to.items ++ l.fn.from.items;
+  room : length l.to.items + length l.from.items ≤ vec_capacity l.to;
   capacity : vec_capacity l.to ≡ vec_capacity l.fn.to;
 }
 
 abbrev pub decreases-loop-to : goal.decreases-loop-to
-decreases-loop-to g l = length l.rest.items
+decreases-loop-to g l = length l.from.items

@@ -56,7 +56,7 @@ returns g c r at =
     let carried : CarriesOut may c.self.inside.sets.items routes rules place m c.args.step.actions.items [] did old.state mid =
     subst (λ (sets : List ProcessSet). CarriesOut may sets routes rules place m c.args.step.actions.items [] did old.state mid) c.as_slice.ensures.value
     (subst (λ (l : List Action). CarriesOut may c.as_slice.result.now routes rules place m l [] did old.state mid) c.as_slice-2.ensures.value
-    (subst (λ (l : List Done). CarriesOut may c.as_slice.result.now routes rules place m c.as_slice-2.result.now l did old.state mid) c.new-done.ensures c.act_all.ensures)) in
+    (subst (λ (l : List Done). CarriesOut may c.as_slice.result.now routes rules place m c.as_slice-2.result.now l did old.state mid) c.clear.ensures c.act_all.ensures)) in
     let hand_is = c.add_sent.ensures ∙ ap (λ (l : List _). l ++ flat_map sent_by c.as_slice-3.result.now) c.requires.hand ∙ ap (λ (ds : List Done). flat_map sent_by ds) c.as_slice-3.ensures.value in
     let few = c.as_slice-3.ensures.fits in
     subst (λ (h : CoreWithRoom). Completes may (system_of h.core routes rules) c.args.pick p c.args.trigger c.args.frame c.args.step h.core c.add_sent.new.sent.items new) c.self.view_is
