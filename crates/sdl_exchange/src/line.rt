@@ -45,84 +45,17 @@ pub const LINE_B: SetDesign = SetDesign {
     ..LINE_A
 };
 
+/// What is offered for the transition of this number. They are numbered by their states.
 pub fn offer(number: u32) -> Offer {
     let line = OfferBuilder::start(SETS, &[Sort::Pid]);
-    let number_sort = [Sort::Integer];
     match number {
         0 => line.next_state(IDLE).build(),
-        1 => line
-            .row(IDLE, OFFHOOK, &[])
-            .output(TONE, &number_sort, Via::Any)
-            .next_state(DIALLING)
-            .build(),
-        2 => line
-            .row(IDLE, ALERT, &[])
-            .output(RING, &[], Via::Any)
-            .output(RINGING_BACK, &[], Via::Any)
-            .next_state(RINGING)
-            .build(),
-        3 => line
-            .row(DIALLING, DIAL, &number_sort)
-            .output(SEIZE, &number_sort, Via::Any)
-            .next_state(CALLING)
-            .build(),
-        4 => line.row(DIALLING, ONHOOK, &[]).next_state(IDLE).build(),
-        5 => line
-            .row(CALLING, PROGRESS, &number_sort)
-            .output(TONE, &number_sort, Via::Any)
-            .next_state(CALLING)
-            .next_state(TALKING)
-            .build(),
-        6 => line
-            .row(CALLING, RELEASED, &number_sort)
-            .output(TONE, &number_sort, Via::Any)
-            .next_state(FINISHED)
-            .build(),
-        7 => line
-            .row(CALLING, ONHOOK, &[])
-            .output(RELEASE, &[], Via::Any)
-            .next_state(CLEARING)
-            .next_state(IDLE)
-            .build(),
-        8 => line
-            .row(CLEARING, PROGRESS, &number_sort)
-            .output(RELEASE, &[], Via::Any)
-            .next_state(IDLE)
-            .build(),
-        9 => line
-            .row(CLEARING, RELEASED, &number_sort)
-            .next_state(IDLE)
-            .build(),
-        10 => line
-            .row(RINGING, OFFHOOK, &[])
-            .output(ACCEPT, &[], Via::Any)
-            .next_state(TALKING)
-            .build(),
-        11 => line
-            .row(RINGING, RELEASED, &number_sort)
-            .output(QUIET, &[], Via::Any)
-            .next_state(IDLE)
-            .build(),
-        12 => line
-            .row(TALKING, SAY, &number_sort)
-            .output(SPEECH, &number_sort, Via::Any)
-            .next_state(TALKING)
-            .build(),
-        13 => line
-            .row(TALKING, SPEECH, &number_sort)
-            .output(HEAR, &number_sort, Via::Any)
-            .next_state(TALKING)
-            .build(),
-        14 => line
-            .row(TALKING, ONHOOK, &[])
-            .output(RELEASE, &[], Via::Any)
-            .next_state(IDLE)
-            .build(),
-        15 => line
-            .row(TALKING, RELEASED, &number_sort)
-            .output(TONE, &number_sort, Via::Any)
-            .next_state(FINISHED)
-            .build(),
+        1 | 2 => idle_offer(line, number),
+        3 | 4 => dialling_offer(line, number),
+        5 | 6 | 7 => calling_offer(line, number),
+        8 | 9 => clearing_offer(line, number),
+        10 | 11 => ringing_offer(line, number),
+        12 | 13 | 14 | 15 => talking_offer(line, number),
         16 => line.row(FINISHED, ONHOOK, &[]).next_state(IDLE).build(),
         _ => match engaged_state(number) {
             Some(state) => line
@@ -132,6 +65,109 @@ pub fn offer(number: u32) -> Offer {
                 .build(),
             None => no_offer(),
         },
+    }
+}
+
+fn idle_offer(line: OfferBuilder, number: u32) -> Offer {
+    match number {
+        1 => line
+            .row(IDLE, OFFHOOK, &[])
+            .output(TONE, &[Sort::Integer], Via::Any)
+            .next_state(DIALLING)
+            .build(),
+        _ => line
+            .row(IDLE, ALERT, &[])
+            .output(RING, &[], Via::Any)
+            .output(RINGING_BACK, &[], Via::Any)
+            .next_state(RINGING)
+            .build(),
+    }
+}
+
+fn dialling_offer(line: OfferBuilder, number: u32) -> Offer {
+    match number {
+        3 => line
+            .row(DIALLING, DIAL, &[Sort::Integer])
+            .output(SEIZE, &[Sort::Integer], Via::Any)
+            .next_state(CALLING)
+            .build(),
+        _ => line.row(DIALLING, ONHOOK, &[]).next_state(IDLE).build(),
+    }
+}
+
+fn calling_offer(line: OfferBuilder, number: u32) -> Offer {
+    match number {
+        5 => line
+            .row(CALLING, PROGRESS, &[Sort::Integer])
+            .output(TONE, &[Sort::Integer], Via::Any)
+            .next_state(CALLING)
+            .next_state(TALKING)
+            .build(),
+        6 => line
+            .row(CALLING, RELEASED, &[Sort::Integer])
+            .output(TONE, &[Sort::Integer], Via::Any)
+            .next_state(FINISHED)
+            .build(),
+        _ => line
+            .row(CALLING, ONHOOK, &[])
+            .output(RELEASE, &[], Via::Any)
+            .next_state(CLEARING)
+            .next_state(IDLE)
+            .build(),
+    }
+}
+
+fn clearing_offer(line: OfferBuilder, number: u32) -> Offer {
+    match number {
+        8 => line
+            .row(CLEARING, PROGRESS, &[Sort::Integer])
+            .output(RELEASE, &[], Via::Any)
+            .next_state(IDLE)
+            .build(),
+        _ => line
+            .row(CLEARING, RELEASED, &[Sort::Integer])
+            .next_state(IDLE)
+            .build(),
+    }
+}
+
+fn ringing_offer(line: OfferBuilder, number: u32) -> Offer {
+    match number {
+        10 => line
+            .row(RINGING, OFFHOOK, &[])
+            .output(ACCEPT, &[], Via::Any)
+            .next_state(TALKING)
+            .build(),
+        _ => line
+            .row(RINGING, RELEASED, &[Sort::Integer])
+            .output(QUIET, &[], Via::Any)
+            .next_state(IDLE)
+            .build(),
+    }
+}
+
+fn talking_offer(line: OfferBuilder, number: u32) -> Offer {
+    match number {
+        12 => line
+            .row(TALKING, SAY, &[Sort::Integer])
+            .output(SPEECH, &[Sort::Integer], Via::Any)
+            .next_state(TALKING)
+            .build(),
+        13 => line
+            .row(TALKING, SPEECH, &[Sort::Integer])
+            .output(HEAR, &[Sort::Integer], Via::Any)
+            .next_state(TALKING)
+            .build(),
+        14 => line
+            .row(TALKING, ONHOOK, &[])
+            .output(RELEASE, &[], Via::Any)
+            .next_state(IDLE)
+            .build(),
+        _ => line
+            .row(TALKING, RELEASED, &[Sort::Integer])
+            .output(TONE, &[Sort::Integer], Via::Any)
+            .next_state(FINISHED)
+            .build(),
     }
 }
 
