@@ -21,3 +21,6 @@ pub returns-in-Ok-run_in-clause-run : goal.returns-in-Ok-run_in-clause-run
 returns-in-Ok-run_in-clause-run g c =
     run_bound g.S.Agents.may c.args.bound c.into_blocks-checked.result.0 c.into_blocks-checked.result.1 c.into_blocks-checked.result.2.items c.args.budget c.args.schedule.now g.K.Keeps.events c.in-Ok-run_in.closing
     c.into_blocks-checked.ensures.structure c.into_blocks-checked.ensures.routes c.into_blocks-checked.ensures.blocks c.in-Ok-run_in.ensures.run
+
+pub run_in-requires-clause-system : goal.run_in-requires-clause-system
+run_in-requires-clause-system g c = c.into_blocks-checked.ensures.system c.requires.bound
