@@ -25,6 +25,14 @@ pub struct EnvironmentThread<'e, 'i, 'o, I, O> {
     pub started_output: Snapshot<O>,
 }
 
+impl<'e, 'i, 'o, I: Read, O: Write> EnvironmentThread<'e, 'i, 'o, I, O> {
+    /// Whether the next step is not held back until the others rest: it waits for no reader, or for one that had more to give when
+    /// it was read last, and broke off within a line, so that nobody waits there for an answer.
+    fn reads_on(&self) -> bool {
+        self.environment.is_ready() || self.environment.breaks_off()
+    }
+}
+
 impl<'e, 'i, 'o, I: Read, O: Write> Work for EnvironmentThread<'e, 'i, 'o, I, O> {
     ghost use Rattle.std.specs.Prelude.{◌≡◌, refl};
     ghost use Rattle.std.proofs.Common.{◌∙◌};
@@ -53,7 +61,7 @@ impl<'e, 'i, 'o, I: Read, O: Write> Work for EnvironmentThread<'e, 'i, 'o, I, O>
         may_ask: bool,
     ) -> Stepped {
         let routed = RoutedStructure { structure, routes };
-        if self.environment.is_ready() {
+        if self.reads_on() {
             return self
                 .environment
                 .step(rt, routed, &mut self.ends, pick, self.input, self.output);
@@ -69,7 +77,7 @@ impl<'e, 'i, 'o, I: Read, O: Write> Work for EnvironmentThread<'e, 'i, 'o, I, O>
     }
 
     fn asks_outside(&self) -> bool {
-        !self.environment.is_ready()
+        !self.reads_on()
     }
 
     fn mark(&self) -> Option<u32> {
