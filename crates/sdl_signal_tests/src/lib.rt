@@ -2,6 +2,8 @@
 #![tactic(auto)]
 
 #[cfg(test)]
+mod broken_lines;
+#[cfg(test)]
 mod failing_reads;
 #[cfg(test)]
 mod failing_writes;

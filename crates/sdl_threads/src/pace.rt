@@ -33,6 +33,9 @@ const NAP_MICROS: u64 = 8_000;
 /// Where a step takes long, their sleep ends by itself before.
 const MOST_UNTOLD: u32 = 512;
 
+/// After how many it does so the first time. It is twice as many each time after that, so that a run begins at once.
+const FIRST_UNTOLD: u32 = 8;
+
 /// After how many steps that did something a worker wakes who waits for room where it takes: half a ring.
 const MOST_ROOM: u32 = 32;
 
@@ -65,6 +68,8 @@ struct Idling {
     /// take there.
     untold: Marks,
     untold_steps: u32,
+    /// After how many such steps it wakes them.
+    most_untold: u32,
     /// How many of its steps did something since somebody waits for room where it takes.
     room_steps: u32,
     /// Its pauses since it last got up.
@@ -92,6 +97,7 @@ impl Idling {
             awake: true,
             untold: Marks::none(),
             untold_steps: 0,
+            most_untold: FIRST_UNTOLD,
             room_steps: 0,
             pause: Backoff::new(),
             yields: 0,
@@ -132,7 +138,8 @@ impl Idling {
         self.looks = 0;
         self.naps = 0;
         self.untold_steps = self.untold_steps.saturating_add(1);
-        if self.untold_steps >= MOST_UNTOLD {
+        if self.untold_steps >= self.most_untold {
+            self.most_untold = MOST_UNTOLD.min(self.most_untold.saturating_mul(2));
             self.tells(told);
         }
         if told.is_room_asked(self.mark) {
