@@ -1,21 +1,15 @@
 -- A run of a block: its log leads from the initial state to the state at the end, and numbers and stamps its outputs.
-use Rattle.std.specs.Prelude.{◌≡◌, ℕ, zero, suc, ◌+◌, ◌≤◌, List, [], ◌∷◌, ◌++◌, None, Some, length, map, sum_by, max, nat_eq, if◌then◌else◌}
-use Rattle.std.specs.List.{flat_map, AllByRecursion}
+use Rattle.std.specs.Prelude.{◌≡◌, ℕ, zero, suc, ◌+◌, ◌≤◌, List, [], ◌∷◌, ◌++◌, None, Some, length, map, sum_by, nat_eq, if◌then◌else◌}
 use Rattle.sdl_signal.specs.declared.ids.SetId.{SetId}
 use Rattle.sdl_signal.specs.declared.ids.BlockId.{BlockId}
 use Rattle.sdl_signal.specs.declared.values.Pid.{Pid}
 use Rattle.sdl_signal.specs.declared.values.Pid.TheVariants as pid
 use Rattle.sdl_signal.specs.declared.values.Value.{Value}
-use Rattle.sdl_signal.specs.declared.values.Item.{Item}
-use Rattle.sdl_signal.specs.declared.values.Origin.{Origin}
 use Rattle.sdl_instances.specs.declared.process_set.ProcessSet.{ProcessSet}
 use Rattle.sdl_behaviour.specs.declared.step.Frame.{Frame}
 use Rattle.sdl_behaviour.specs.declared.step.Step.{Step}
 use Rattle.sdl_transition.specs.Rules.{Rules, rules_for}
-use Rattle.sdl_log.specs.declared.event.Done.{Done}
-use Rattle.sdl_log.specs.declared.event.Done.TheVariants as done
 use Rattle.sdl_log.specs.declared.event.Event.{Event}
-use Rattle.sdl_log.specs.declared.event.Event.TheVariants as event
 use Rattle.sdl_processes.specs.Record.{Record, created_record}
 use Rattle.sdl_instances.specs.Machine.{State, System, next_any}
 pub use Rattle.sdl_log.specs.Log.{done_in, arrived_in, sent_by, origin_by, all_done, arrived, sent, origins, turn_in, turns, above, next_stamp, IsNumbered, IsStamped}

@@ -1,6 +1,7 @@
 //! The living instances of a block.
-ghost use Rattle.std.specs.Prelude.{◌≡◌, ◌+◌, ◌<◌, ◌≤◌, ◌^◌, ◌∷◌, List, length, slice_index, OnOk, OnErr, IfOk, IfErr, ◌++◌, []};
+ghost use Rattle.std.specs.Prelude.{◌≡◌, ◌+◌, ◌<◌, ◌≤◌, ◌^◌, ◌∷◌, List, length, slice_index, OnOk, OnErr, IfOk, IfErr, None, ◌++◌, []};
 ghost use Rattle.sdl_signal.specs.declared.values.Pid.{Pid};
+ghost use Rattle.sdl_signal.specs.declared.values.Pid.TheVariants as pid;
 ghost use Rattle.sdl_signal.specs.declared.values.Item.{Item};
 ghost use Rattle.sdl_processes.specs.Record.{Record, consumed};
 ghost use Rattle.sdl_instances.specs.Living.{state_of, creatable_of, StandsAt, HaveSerials, written, with_created, next_of, next_frame, CreatesAt, FinishesAt, OutputsAs};
@@ -26,27 +27,55 @@ pub struct Living {
     pub(crate) last: Vec<u32>,
 }
 
-/// What the next transition of the instance is shown, as the instance `pid`.
+/// Adds the values. There is room for them.
 #[inline(always)]
-fn next_frame(pid: Pid, instance: &Instance) -> Frame
-    ensures { result ≡ next_frame pid instance.now }
+fn add_values<const N: usize>(to: &mut ArrayVec<Value, N>, values: &[Value])
+    requires { length to.old.items + length values.now ≤ N }
+    ensures { to.new.items ≡ to.old.items ++ values.now }
 {
-    let front = instance.front();
-    Frame {
-        self_pid: pid,
-        parent: instance.parent(),
-        offspring: instance.offspring(),
-        sender: match front {
-            Some(item) => item.sender,
-            None => instance.sender(),
-        },
-        state: instance.state(),
-        vars: copied_values(instance.vars().as_slice()),
-        signal: match front {
-            Some(item) => Some(copied_signal(&item.signal)),
-            None => None,
-        },
+    for value in values {
+        to.push(*value);
     }
+}
+
+/// A frame that shows nothing yet.
+#[inline(always)]
+pub fn blank_frame() -> Frame
+    ensures { result ≡ record { self_pid = pid.Null; parent = pid.Null; offspring = pid.Null; sender = pid.Null; state = None; vars = record { items = [] }; signal = None } }
+{
+    Frame {
+        self_pid: Pid::Null,
+        parent: Pid::Null,
+        offspring: Pid::Null,
+        sender: Pid::Null,
+        state: None,
+        vars: ArrayVec::new(),
+        signal: None,
+    }
+}
+
+/// Shows in the blank frame what the next transition of the instance is shown, as the instance `pid`. It is filled where it
+/// stands, since each function that answers with a frame copies it once.
+#[inline(always)]
+fn show_next(pid: Pid, instance: &Instance, frame: &mut Frame)
+    requires { frame.old.vars.items ≡ [] }
+    ensures { frame.new ≡ next_frame pid instance.now }
+{
+    match instance.front() {
+        Some(item) => {
+            frame.sender = item.sender;
+            frame.signal = Some(copied_signal(&item.signal));
+        }
+        None => {
+            frame.sender = instance.sender();
+            frame.signal = None;
+        }
+    }
+    frame.self_pid = pid;
+    frame.parent = instance.parent();
+    frame.offspring = instance.offspring();
+    frame.state = instance.state();
+    add_values(&mut frame.vars, instance.vars().as_slice());
 }
 
 impl Living {
@@ -68,14 +97,15 @@ impl Living {
         pid
     }
 
-    /// What the next transition of the instance at this place is shown.
+    /// Shows in the blank frame what the next transition of the instance at this place is shown.
     #[inline(always)]
-    pub fn frame(&self, place: usize) -> Frame
-        requires { place < length (state_of self.now).living }
-        ensures { (p : Pid) (r : Record) → StandsAt (state_of self.now) place p r → result ≡ next_frame p r }
+    pub fn show(&self, place: usize, frame: &mut Frame)
+        requires within { place < length (state_of self.now).living }
+        requires blank { frame.old.vars.items ≡ [] }
+        ensures { (p : Pid) (r : Record) → StandsAt (state_of self.now) place p r → frame.new ≡ next_frame p r }
     {
         let (pid, instance) = self.instances.get(place);
-        next_frame(pid, instance)
+        show_next(pid, instance, frame);
     }
 
     /// Carries out an output of the instance at this place.

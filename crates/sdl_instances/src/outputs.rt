@@ -129,6 +129,8 @@ pub fn output(
     requires { (set : SetId) × (set_of pid ≡ Some set) }
     ensures { OutputsAs routes.now pid instance.now signal.now dest via mark result }
 {
+    // Copied first: where it is moved right after its values were written one by one, the processor waits for these.
+    let copy = copied_signal(signal);
     let wish = Wish {
         source: Source::Set(set_of(pid)),
         signal: signal.id,
@@ -139,7 +141,7 @@ pub fn output(
         Some(route) => Done::Sent(Item {
             origin: mark.origin,
             stamp: mark.stamp,
-            signal: copied_signal(signal),
+            signal: copy,
             sender: pid,
             to: addressee(pid, instance, dest),
             route,

@@ -94,6 +94,15 @@ impl<K: Keeps> Table<K> {
     }
 }
 
+/// The pick modulo the count. Most often there is one to pick, and a division takes long.
+#[inline(always)]
+fn at_pick(pick: u32, count: usize) -> usize
+    requires { 0 < count }
+    ensures { result ≡ pick % count }
+{
+    if count == 1 { 0 } else { pick as usize % count }
+}
+
 /// The set at the end of the item's route.
 fn end_of(routes: &Routes, route: RouteId) -> SetId
     requires { (set : SetId) × (row : TableRow) × (slice_get routes.now route.0 ≡ Some row) × (row.route.end ≡ ends.Set set) }
@@ -120,10 +129,11 @@ impl<K: Keeps> Table<K> {
         ensures rest { (self.new.core.block ≡ self.old.core.block) × (self.new.core.signals ≡ self.old.core.signals) × (self.new.core.sets ≡ self.old.core.sets) × (self.new.core.budget ≡ self.old.core.budget) }
         ensures err { IfErr result (λ e. (e.0 ≡ item) × (self.new.core ≡ self.old.core)) }
     {
+        // Copied first: where it is moved right after its values were written one by one, the processor waits for these.
+        let copy = copied_item(&item);
         if self.log.make_room().is_err() {
             return Err((item, AllocError));
         }
-        let copy = copied_item(&item);
         let pid = match self.living.instances.receive(place, copy) {
             Ok(pid) => pid,
             Err(_) => return Err((item, AllocError)),
@@ -184,7 +194,7 @@ impl<K: Keeps> Table<K> {
                     self.discard(Cause::NoInstance, item)?;
                     return Ok(Arrival::Discarded(Cause::NoInstance));
                 }
-                let place = self.living.instances.place_of(set, pick as usize % living);
+                let place = self.living.instances.place_of(set, at_pick(pick, living));
                 Ok(Arrival::Entered(self.enter(place, item)?))
             }
         }
@@ -215,7 +225,7 @@ impl<K: Keeps> Table<K> {
         if self.made == self.budget {
             return Look::Spent;
         }
-        Look::Next(self.living.instances.ready_at(pick as usize % ready))
+        Look::Next(self.living.instances.ready_at(at_pick(pick, ready)))
     }
 
     /// The number of turns so far. No memory is taken.

@@ -33,12 +33,14 @@ impl<K: Keeps> Table<K> {
         Ok(())
     }
 
-    /// What the next transition of the instance at this place is shown.
-    pub fn frame(&self, place: usize) -> Frame
-        requires { place < length self.now.core.state.living }
-        ensures { (p : Pid) (r : Record) → StandsAt self.now.core.state place p r → result ≡ next_frame p r }
+    /// Shows in the blank frame what the next transition of the instance at this place is shown.
+    #[inline(always)]
+    pub fn show(&self, place: usize, frame: &mut Frame)
+        requires within { place < length self.now.core.state.living }
+        requires blank { frame.old.vars.items ≡ [] }
+        ensures { (p : Pid) (r : Record) → StandsAt self.now.core.state place p r → frame.new ≡ next_frame p r }
     {
-        self.living.frame(place)
+        self.living.show(place, frame);
     }
 
     /// Takes the signal at the front of its port from the instance at this place, whose SENDER it sets.

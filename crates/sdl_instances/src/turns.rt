@@ -10,6 +10,7 @@ ghost use Rattle.sdl_instances.specs.Turning.{Fires};
 
 use crate::actions::Actor;
 use crate::block::BlockCore;
+use crate::living::blank_frame;
 use crate::outputs::{set_of, signal_of};
 use crate::ready::Look;
 use arrayvec::ArrayVec;
@@ -43,7 +44,8 @@ impl<S: Agents, K: Keeps> BlockCore<S, K> {
             Look::Spent => Ok(Turn::Spent),
             Look::Next(place) => {
                 self.table.make_room()?;
-                let frame = self.table.frame(place);
+                let mut frame = blank_frame();
+                self.table.show(place, &mut frame);
                 let pid = frame.self_pid;
                 self.turn_at(routes, pick, place, frame, hand);
                 Ok(Turn::Fired(pid))
