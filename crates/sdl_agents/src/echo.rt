@@ -42,7 +42,9 @@ macro_rules! echo_behaviours {
         let start: $crate::Run =
             Box::new(alloc, |frame: &$crate::Frame| $crate::steps::begin(frame))?;
         let ping: $crate::Run = Box::new(alloc, |frame: &$crate::Frame| {
-            $crate::steps::forward(frame, $crate::echo::PONG)
+            let mut step = $crate::idle_step!();
+            $crate::steps::fill_forward(&mut step, frame, $crate::echo::PONG);
+            step
         })?;
         let start_offer = $crate::offers::start_offer(sets);
         let ping_offer =

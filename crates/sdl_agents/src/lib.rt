@@ -12,6 +12,8 @@ pub mod spawn;
 pub mod steps;
 pub mod systems;
 
+pub use arrayvec::ArrayVec;
 pub use runner::Runner;
-pub use sdl_behaviour::{Frame, Run, Transition};
+pub use sdl_behaviour::{Frame, Next, Run, Step, Transition};
+pub use sdl_signal::StateId;
 pub use systems::{System, run, system_named};

@@ -61,15 +61,21 @@ macro_rules! relay_behaviours {
         let sets = $sets;
         let start_a: $crate::Run = Box::new(alloc, |frame: &$crate::Frame| $crate::steps::begin(frame))?;
         let put_a: $crate::Run = Box::new(alloc, |frame: &$crate::Frame| {
-            $crate::steps::forward(frame, $crate::relay::NUM)
+            let mut step = $crate::idle_step!();
+            $crate::steps::fill_forward(&mut step, frame, $crate::relay::NUM);
+            step
         })?;
         let start_c: $crate::Run = Box::new(alloc, |frame: &$crate::Frame| $crate::steps::begin(frame))?;
         let put_c: $crate::Run = Box::new(alloc, |frame: &$crate::Frame| {
-            $crate::steps::forward(frame, $crate::relay::NUM)
+            let mut step = $crate::idle_step!();
+            $crate::steps::fill_forward(&mut step, frame, $crate::relay::NUM);
+            step
         })?;
         let start_b: $crate::Run = Box::new(alloc, |frame: &$crate::Frame| $crate::steps::begin(frame))?;
         let num_b: $crate::Run = Box::new(alloc, |frame: &$crate::Frame| {
-            $crate::steps::forward(frame, $crate::relay::OUT)
+            let mut step = $crate::idle_step!();
+            $crate::steps::fill_forward(&mut step, frame, $crate::relay::OUT);
+            step
         })?;
         let put_a_offer =
             $crate::offers::forward_offer(sets, $crate::relay::PUT, $crate::relay::NUM);

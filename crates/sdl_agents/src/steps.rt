@@ -9,6 +9,18 @@ use sdl_behaviour::{Action, Dest, Frame, Next, Step};
 use sdl_routes::Via;
 use sdl_signal::{Signal, SignalId, StateId, Value};
 
+/// The step that goes to idle without an action, put together where it stands.
+#[macro_export]
+macro_rules! idle_step {
+    () => {
+        $crate::Step {
+            actions: $crate::ArrayVec::new(),
+            vars: $crate::ArrayVec::new(),
+            next: $crate::Next::State($crate::StateId(0)),
+        }
+    };
+}
+
 /// The step that does these actions.
 pub fn idle(actions: ArrayVec<Action, 8>) -> Step
     ensures { LeadsToIdle actions.items result }
@@ -70,20 +82,25 @@ pub fn begin(_frame: &Frame) -> Step
     idle(ArrayVec::new())
 }
 
-/// An output of the other signal with the Integer of the signal consumed. Its step is put together here, and this is built into
-/// the closures that call it, since each function on the way would copy the step once.
-#[inline(always)]
+/// An output of the other signal with the Integer of the signal consumed.
 pub fn forward(frame: &Frame, to: SignalId) -> Step
     ensures step { LeadsToIdle (forwarded to.0 frame.now.signal) result }
     ensures conforms { KeepsTo (OffersOne to.0 (sort.Integer ∷ [])) frame.now result }
 {
-    let mut step = Step {
-        actions: ArrayVec::new(),
-        vars: ArrayVec::new(),
-        next: Next::State(StateId(0)),
-    };
-    add_forwarded(&mut step.actions, values(frame), to);
+    let mut step = idle_step!();
+    fill_forward(&mut step, frame, to);
     step
+}
+
+/// The same, added to a step that goes to idle without an action. It is built into the closures that call it, which put their step
+/// together themselves, since each function on the way would copy it once.
+#[inline(always)]
+pub fn fill_forward(step: &mut Step, frame: &Frame, to: SignalId)
+    requires { LeadsToIdle [] step.old }
+    ensures step { LeadsToIdle (forwarded to.0 frame.now.signal) step.new }
+    ensures conforms { KeepsTo (OffersOne to.0 (sort.Integer ∷ [])) frame.now step.new }
+{
+    add_forwarded(&mut step.actions, values(frame), to);
 }
 
 /// Adds the output of the signal with the one of these values, where that is one Integer, as the first action.
