@@ -27,7 +27,7 @@ fresh last set n es at h =
     All-weaker (λ (e : Pid × Record). HasSerial last e.0) (λ (e : Pid × Record). pid.Inst set (n + 1) ≡ e.0 → ⊥)
     (λ e has is. next_is_new last set n at (subst (HasSerial last) (sym is) has)) es h
 
--- an instance that is added under the next serial number is with_created
+-- a state to which an instance is added under the next serial number is `with_created`
 pub created_is : (es after : List (Pid × Record)) (last : List ℕ) (set : SetId) (vars : List Value) (p : Pid) (n : ℕ) (r : Record)
     → n ≡ slice_index last set.0 → r ≡ created_record vars p → after ≡ es ++ (pid.Inst set (n + 1), r) ∷ []
     → record { living = after; last = slice_set last set.0 (n + 1) } ≡ with_created (record { living = es; last = last }) set vars p
@@ -43,7 +43,7 @@ written_same : (s t : State) (place : ℕ) (p : Pid) (a b : Record) → s ≡ t 
 written_same s t place p a b is same = ap (λ (x : State). written x place p a) is ∙ ap (λ (x : Record). written t place p x) same
 
 module _ (sets : List ProcessSet) (place : ℕ) (p : Pid) (r : Record) (set : SetId) (vars : List Value) (old : State) where
-  -- one more is with_created, and its creator's OFFSPRING is the new instance
+  -- with one more the state is `with_created`, and its creator's OFFSPRING is the new instance
   pub creates_one : (mid : State) (made parent : Pid) (d : ProcessSet) (new : State) → StandsAt old place p r → parent ≡ p
       → slice_get sets set.0 ≡ Some d → number_living set old < d.maximum
       → made ≡ next_of old set → mid ≡ with_created old set vars parent

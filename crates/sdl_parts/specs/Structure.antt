@@ -100,8 +100,8 @@ pub record HasFewInstances (t : Set) : Type 0 where
   pub some : 1 ≤ t.maximum
   pub maximum : t.maximum ≤ 1024
 
--- The parts are within this project's limits, with at most 8 gates for each agent and 1024 instances for each set. What one
--- part names of the others is there, and each end of a channel is where the channel may end.
+-- The parts are within this project's limits, with at most 8 gates for each agent on average and 1024 instances for each set.
+-- What one part names of the others is there, and each end of a channel is where the channel may end.
 pub record IsStructure (s : Structure) : Type 0 where
   pub few_signals : length s.signals ≤ 64
   pub few_blocks : length s.blocks ≤ 16

@@ -127,7 +127,8 @@ impl Structure {
         self.sets.as_slice()
     }
 
-    /// The gates of the system, and then those of blocks and sets, at most 8 of each. A gate's number is its place here.
+    /// The gates of the system, and then those of blocks and sets, at most 8 for each of these on average; one that is read from a
+    /// file has at most 8. A gate's number is its place here.
     pub fn gates(&self) -> &[Gate]
         ensures { result.now ≡ self.now.gates }
     {

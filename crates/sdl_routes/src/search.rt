@@ -27,7 +27,7 @@ pub struct Collected {
 }
 
 impl Collected {
-    /// AddsRoute a route. From the first refusal on routes are only counted.
+    /// Adds a route. From the first refusal on routes are only counted.
     fn add(&mut self, row: TableRow) -> Result<(), RouteFault>
         ensures ok { OnOk result (AddsRoute self.old row self.new × (self.old.count < 4096)) }
         ensures full { IfErr result (λ fault. (fault ≡ RouteFault.TooMany) × (4096 ≤ self.old.count)) }
@@ -69,7 +69,7 @@ fn with_hop(hops: &[Hop], hop: Hop) -> ArrayVec<Hop, 3>
     longer
 }
 
-/// AddsRoute the routes that begin with these hops to the routes before them.
+/// Adds the routes that begin with these hops to the routes before them.
 fn extend(
     structure: &Structure,
     signal: SignalId,

@@ -55,7 +55,7 @@ fn drive<S: Agents, K: Keeps, R: Read, W: Write>(
     driver.close(room, refused)
 }
 
-/// Runs the blocks in their start_room, where they all start.
+/// Runs the blocks, where all of them start in the room that was taken for them.
 fn run_in<S: Agents, K: Keeps, R: Read, W: Write>(
     alloc: Global,
     system: System<S>,
