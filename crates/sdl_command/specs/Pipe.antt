@@ -13,7 +13,8 @@ use Rattle.sdl_signal.specs.declared.ends.OutputEnd.TheVariants as output
 use Rattle.sdl_signal.specs.Names.{Lexicon}
 use Rattle.sdl_signal.specs.Line.{line_text}
 use Rattle.sdl_signal.specs.Bytes.{ended_line}
-use Rattle.sdl_signal.specs.Environment.{HasRead}
+use Rattle.sdl_signal.specs.declared.environment.EnvRead.TheVariants as env
+use Rattle.sdl_signal.specs.Environment.{HasRead, EndsItself}
 
 -- the gate `line`, and the signal `ping` with a parameter of the sort Integer
 abbrev pub pipe_lexicon : Lexicon
@@ -36,10 +37,12 @@ abbrev pub HasWrittenText : Option (List ℕ) → Option (List ℕ) → List ℕ
 HasWrittenText old new text output.Whole = Appends old new text
 HasWrittenText old new text output.WriteFault = (n : ℕ) × (n < length text) × Appends old new (take n text)
 
--- The lines of an input were read up to its end, and written again.
+-- The lines of an input were read up to its end, its first fault or the limit, and written again: the reading is not stopped
+-- short of these.
 abbrev pub IsPiped : Option (List ℕ) → Option (List ℕ) → Option (List ℕ) → Option (List ℕ) → InputEnd → OutputEnd → Type 0
 IsPiped unread rest old new end written =
-    (carried : List EnvLine) × HasRead pipe_lexicon unread rest carried end × HasWrittenText old new (piped_text pipe_lexicon carried) written
+    EndsItself (env.Ended end)
+    × ((carried : List EnvLine) × HasRead pipe_lexicon unread rest carried end × HasWrittenText old new (piped_text pipe_lexicon carried) written)
 
 -- The lines were piped, the output was flushed, and the status is that of both ends; or memory was refused, and nothing was
 -- written.

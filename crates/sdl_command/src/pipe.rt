@@ -4,7 +4,8 @@ ghost use Rattle.std.specs.List.{AllByRecursion};
 ghost use Rattle.std.specs.Io.KnownBytes.{Keeps};
 ghost use Rattle.sdl_signal.specs.Names.{Lexicon};
 ghost use Rattle.sdl_signal.specs.declared.values.EnvLine.{EnvLine};
-ghost use Rattle.sdl_signal.specs.Environment.{HasRead};
+ghost use Rattle.sdl_signal.specs.declared.environment.EnvRead.TheVariants as env;
+ghost use Rattle.sdl_signal.specs.Environment.{EndsItself, HasRead};
 ghost use Rattle.sdl_command.specs.Pipe.{pipe_lexicon, IsPiped, IsPipedAs, HasQueued, IsWritable, text_of, HasWrittenText, queued_item};
 
 use crate::ends::{flushed, report};
@@ -78,8 +79,9 @@ fn read_all<R: Read>(
     queue: &mut SerialQueue,
 ) -> Result<InputEnd, AllocError>
     requires { queue.old ≡ [] }
-    ensures { IfOk result (λ end. (carried : List EnvLine) × HasRead names.now (R.remaining input.old) (R.remaining input.new) carried end
+    ensures read { IfOk result (λ end. (carried : List EnvLine) × HasRead names.now (R.remaining input.old) (R.remaining input.new) carried end
         × HasQueued names.now carried queue.new) }
+    ensures end { IfOk result (λ end. EndsItself (env.Ended end)) }
 {
     let mut reader = EnvReader::new();
     let mut number: u64 = 0;

@@ -10,7 +10,7 @@ use Rattle.sdl_command.proofs.pipe.pipe.Goals as goal
 pub write_all-written-requires : goal.write_all-written-requires
 write_all-written-requires g c =
     let is : c.in_ok-names.names ≡ pipe_lexicon = c.in_ok-names.ensures in
-    let (carried, read, queued) = c.in_ok-read.ensures in
+    let (carried, read, queued) = c.in_ok-read.ensures.read in
     let P : Lexicon → Type 0 = λ names. HasQueued names carried c.read_all.new.queue in
     let (queue, each) = subst P is queued in
     let Q : List Item → Type 0 = AllByRecursion (IsWritable pipe_lexicon) in
@@ -20,11 +20,11 @@ write_all-written-requires g c =
 pub returns-clause-piped : goal.returns-clause-piped
 returns-clause-piped g c =
     let is : c.in_ok-names.names ≡ pipe_lexicon = c.in_ok-names.ensures in
-    let (carried, read, queued) = c.in_ok-read.ensures in
+    let (carried, read, queued) = c.in_ok-read.ensures.read in
     let P : Lexicon → Type 0 = λ names. HasRead names (g.R.Read.remaining c.args.input.now) (g.R.Read.remaining c.read_all.new.input) carried c.in_ok-read.read in
     let Q : Lexicon → Type 0 = λ names. HasQueued names carried c.read_all.new.queue in
     let (queue, each) = subst Q is queued in
     let W : List ℕ → Type 0 = λ text. HasWrittenText (g.W.Write.contents c.args.output.now) (g.W.Write.contents c.write_all-written.new.output) text c.write_all-written.result in
     let text : text_of c.in_ok-names.names c.read_all.new.queue ≡ piped_text pipe_lexicon carried =
     ap (λ names. text_of names c.read_all.new.queue) is ∙ ap (text_of pipe_lexicon) queue ∙ text_of-queued_items 0 carried each in
-    (carried, subst P is read, subst W text c.write_all-written.ensures)
+    (c.in_ok-read.ensures.end, (carried, subst P is read, subst W text c.write_all-written.ensures))
