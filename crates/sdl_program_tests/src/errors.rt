@@ -1,8 +1,9 @@
 //! The lines on standard error: each is handed to its writer in one call.
-use super::bytes::reader_of;
-use super::trial::{ECHO_TRIAL, Trial, run};
+use super::bytes::{reader_of, writer_of};
+use super::trial::{ECHO_TRIAL, PLENTY, Trial, run};
 use sdl_examples::ECHO;
 use sdl_program::program::{FAULTY, REFUSED};
+use sdl_program::sdl_file_commands::sdl_command::errors::write_error;
 use std::test::Fail;
 
 /// The block's gate lets no signal in.
@@ -71,5 +72,25 @@ fn each_end_is_written_in_one_call(rt: HostRuntime) -> Result<(), Fail> {
     assert!(rt; ran.status == FAULTY);
     assert!(rt; ran.errors.as_slice() == THREE_ENDS);
     assert!(rt; ran.error_calls == 3);
+    Ok(())
+}
+
+/// A part of a name of a design.
+const PART: &str = "a name of many letters";
+
+/// How many such parts a name has, and how many bytes the line has then: a name of 264 bytes has no room in it.
+const LONG_NAMES: [(usize, usize); 3] = [(10, 230), (11, 252), (12, 12)];
+
+#[test]
+fn a_text_that_is_too_long_ends_with_two_dots(rt: HostRuntime) -> Result<(), Fail> {
+    for (parts, bytes) in LONG_NAMES {
+        let mut errors = writer_of(rt.alloc(), PLENTY);
+        let name = PART.repeat(rt.alloc(), parts)?;
+        write_error(&mut errors, format_args!("G4 NoSet {name}"));
+        assert!(rt; errors.taken.len() == bytes);
+        assert!(rt; errors.taken.as_slice().starts_with(b"G4 NoSet "));
+        assert!(rt; errors.taken.as_slice().ends_with(b"..\n") == (parts == 12));
+        assert!(rt; errors.calls == 1);
+    }
     Ok(())
 }
