@@ -4,10 +4,51 @@ ghost use Rattle.std.specs.Prelude.{◌≡◌, IfSome};
 use sdl_command::errors::without_memory;
 use std::alloc::Global;
 use std::cell::RefCell;
-use std::io::{BufWriter, ErrorKind, Read, Result, Write};
+use std::io::{BufWriter, Error, ErrorKind, Read, Result, Write};
+
+/// How many interrupted writes are tried again in a run. (This project's own, as for a sink of lines.)
+const RETRIES: u32 = 1_000;
+
+/// A writer behind the buffer. Whoever writes to it tries an interrupted write again; so its interruptions are counted, and
+/// the one after 1,000 is a fault.
+#[derive(Drop)]
+pub struct Counting<W> {
+    writer: W,
+    interrupted: u32,
+}
+
+impl<W> Counting<W> {
+    /// The writer's fault, or its interruption where that may be tried again.
+    fn counted(&mut self, error: Error) -> Error {
+        if error.kind() != ErrorKind::Interrupted {
+            return error;
+        }
+        if self.interrupted >= RETRIES {
+            return ErrorKind::Other.into();
+        }
+        self.interrupted += 1;
+        error
+    }
+}
+
+impl<W: Write> Write for Counting<W> {
+    fn write(&mut self, bytes: &[u8]) -> Result<usize> {
+        match self.writer.write(bytes) {
+            Ok(count) => Ok(count),
+            Err(error) => Err(self.counted(error)),
+        }
+    }
+
+    fn flush(&mut self) -> Result<()> {
+        match self.writer.flush() {
+            Ok(()) => Ok(()),
+            Err(error) => Err(self.counted(error)),
+        }
+    }
+}
 
 /// A writer's buffer, which a reader and a writer share.
-pub type Shared<W> = RefCell<BufWriter<W>>;
+pub type Shared<W> = RefCell<BufWriter<Counting<W>>>;
 
 /// A buffer in front of the writer, for a reader and a writer to share. Where it finds no memory, a line of standard error says
 /// so.
@@ -18,7 +59,11 @@ pub fn shared_buffer<W: Write + Drop, E: Write>(
 ) -> Option<Shared<W>>
     ensures silent { IfSome result (λ buffer. errors.new ≡ errors.old) }
 {
-    match BufWriter::new(alloc, writer) {
+    let counting = Counting {
+        writer,
+        interrupted: 0,
+    };
+    match BufWriter::new(alloc, counting) {
         Ok(buffer) => Some(RefCell::new(buffer)),
         Err(_) => {
             without_memory(errors);

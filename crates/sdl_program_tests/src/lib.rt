@@ -6,6 +6,8 @@ mod bytes;
 #[cfg(test)]
 mod errors;
 #[cfg(test)]
+mod interrupted;
+#[cfg(test)]
 mod pipes;
 #[cfg(test)]
 mod runs;
