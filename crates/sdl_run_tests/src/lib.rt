@@ -1,4 +1,5 @@
-//! Whole runs of Ring, and of Echo where a schedule chooses or many signals wait; and the environment of Echo at work through ends of its own.
+//! Whole runs of Ring, and of Echo where a schedule chooses, many signals wait, or the writer fails; and the environment of Echo at
+//! work through ends of its own.
 #![tactic(auto)]
 
 #[cfg(test)]
@@ -7,6 +8,8 @@ mod choices;
 mod echo;
 #[cfg(test)]
 mod environment_step;
+#[cfg(test)]
+mod failing_writer;
 #[cfg(test)]
 mod left;
 #[cfg(test)]

@@ -1,6 +1,6 @@
 //! A thousand signals that wait at one station.
 use crate::echo;
-use crate::plan::{Left, Plan};
+use crate::plan::{Left, PLENTY, Plan};
 use sdl_examples::ECHO;
 use sdl_queue::Rest;
 use sdl_routes::Station;
@@ -21,6 +21,7 @@ fn run(alloc: Global, budget: u32) -> Result<Left, Stop> {
         budget,
         schedule: schedule.as_slice(),
         input: input.as_slice(),
+        room: PLENTY,
     };
     echo::run(alloc, ECHO, plan)
 }
