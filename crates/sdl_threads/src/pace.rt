@@ -39,11 +39,17 @@ const FIRST_UNTOLD: u32 = 8;
 /// After how many steps that did something a worker wakes who waits for room where it takes: half a ring.
 const MOST_ROOM: u32 = 32;
 
-/// After how many sleeps, or steps, a worker asks outside the system although the others are not at rest: some never are. That
-/// many sleeps take 80 ms.
+/// After how many sleeps in a row, in each of which another worker did something, a worker asks outside the system although the
+/// others are not at rest: some systems never are. That many take 80 ms. A sleep in which nobody did anything does not count:
+/// there the others wait for a processor.
 const MOST_NAPS: u32 = 10;
 
-const MOST_LISTENED: u32 = 4_096;
+/// After how many steps that did something a worker asks so too, where it took what came and might not ask.
+const MOST_HELD: u32 = 4_096;
+
+/// How many more these are for each of its steps before that did something when it might: what comes of the line that such a
+/// step read is awaited.
+const HELD_FOR_EACH: u32 = 64;
 
 /// How often a worker yields, once the pauses of `Backoff` are over, before it sleeps.
 const MOST_YIELDS: u32 = 25;
@@ -84,10 +90,14 @@ struct Idling {
     short_pauses: u32,
     /// There were few before that one.
     doubts: bool,
-    /// How often it has slept since it last did something.
+    /// How often it has slept, while others did something, since it last did something.
     naps: u32,
-    /// How many steps it made since it last might ask.
-    listened: u32,
+    /// How many steps of others did something up to the last of these sleeps.
+    moved: u64,
+    /// How many of its steps did something while it might ask, since it was last allowed to.
+    free_steps: u32,
+    /// How many did something after that, while it might not.
+    held_steps: u32,
 }
 
 impl Idling {
@@ -106,7 +116,9 @@ impl Idling {
             short_pauses: 0,
             doubts: false,
             naps: 0,
-            listened: 0,
+            moved: 0,
+            free_steps: 0,
+            held_steps: 0,
         }
     }
 
@@ -114,19 +126,23 @@ impl Idling {
     /// and all that comes of it. So it may where all others are at rest, and where it has waited for that long enough.
     fn may_ask(&mut self, told: &Told) -> bool {
         self.tells(told);
-        let may = told.all_but_one_rest()
-            || self.naps >= MOST_NAPS
-            || self.listened >= MOST_LISTENED;
-        self.listened = if may {
-            0
-        } else {
-            self.listened.saturating_add(1)
-        };
+        let more = self.free_steps.saturating_mul(HELD_FOR_EACH);
+        let most = MOST_HELD.saturating_add(more);
+        let may = told.all_but_one_rest() || self.naps >= MOST_NAPS || self.held_steps >= most;
+        if may {
+            self.free_steps = 0;
+            self.held_steps = 0;
+        }
         may
     }
 
-    /// A step did something.
-    fn stirs(&mut self, told: &Told) {
+    /// A step did something, when the worker might ask outside the system, or might not.
+    fn stirs(&mut self, told: &Told, might_ask: bool) {
+        if might_ask {
+            self.free_steps = self.free_steps.saturating_add(1);
+        } else {
+            self.held_steps = self.held_steps.saturating_add(1);
+        }
         if !self.awake {
             told.gets_up(self.mark);
             self.awake = true;
@@ -158,7 +174,10 @@ impl Idling {
 
     /// Wakes those that take what the worker put.
     fn tells(&mut self, told: &Told) {
-        self.untold_steps = 0;
+        if self.untold_steps > 0 {
+            told.moves_on(self.mark, self.untold_steps);
+            self.untold_steps = 0;
+        }
         if !self.untold.is_empty() {
             told.gets_up(self.mark);
             told.wakes_each(self.untold);
@@ -188,7 +207,11 @@ impl Idling {
         if !self.pauses_on(told) && !self.nods_off(told) {
             told.listens(self.mark);
             told.sleeps(rt, self.mark, LISTENING, NAP_MICROS);
-            self.naps = self.naps.saturating_add(1);
+            let moved = told.moved_beside(self.mark);
+            if moved != self.moved {
+                self.moved = moved;
+                self.naps = self.naps.saturating_add(1);
+            }
         }
     }
 
@@ -299,7 +322,7 @@ pub(crate) fn drive<W: Work, G: Gate, R: Wait>(
         }
         idling.untold.join(worker.touched());
         match stepped {
-            Stepped::Did => idling.stirs(told),
+            Stepped::Did => idling.stirs(told, may_ask),
             Stepped::Idle if !flushed => idling.waits(rt, told),
             Stepped::Idle if asks => idling.listens(rt, told),
             Stepped::Idle => idling.rests(rt, told),

@@ -54,6 +54,8 @@ pub(crate) struct Told {
     words: [CachePadded<AtomicU64>; MARKS],
     /// For each mark of a station, the mark of the worker that waits for room there, and one more. 0 where none does.
     rooms: [CachePadded<AtomicU64>; MARKS],
+    /// How many steps of each worker did something, as far as it has told, by the mark of the station where it takes.
+    moved: [CachePadded<AtomicU64>; MARKS],
     /// The number of the last worker whose thread could not start, and one more.
     turned_away: AtomicU64,
 }
@@ -69,6 +71,7 @@ impl Told {
             crowded: CachePadded::new(AtomicU64::new(1)),
             words: from_fn(|_| CachePadded::new(AtomicU64::new(AWAKE as u64))),
             rooms: from_fn(|_| CachePadded::new(AtomicU64::new(0))),
+            moved: from_fn(|_| CachePadded::new(AtomicU64::new(0))),
             turned_away: AtomicU64::new(0),
         }
     }
@@ -235,6 +238,22 @@ impl Told {
         let resting = self.resting.load(SeqCst).saturating_sub(NONE_RESTS);
         let stretch = CROWDED_NAPS.saturating_mul(resting.saturating_add(1));
         self.crowded.store(naps.saturating_add(stretch), SeqCst);
+    }
+
+    /// So many more steps of the worker with this mark did something.
+    pub(crate) fn moves_on(&self, mark: u32, steps: u32) {
+        self.moved[mark as usize % MARKS].fetch_add(steps as u64, SeqCst);
+    }
+
+    /// How many steps of the workers with other marks did something, as far as they have told.
+    pub(crate) fn moved_beside(&self, mark: u32) -> u64 {
+        let mut steps: u64 = 0;
+        for other in 0..MARKS {
+            if other != mark as usize % MARKS {
+                steps = steps.wrapping_add(self.moved[other].load(SeqCst));
+            }
+        }
+        steps
     }
 
     /// The worker of this number is called on this thread, as its own could not start.
