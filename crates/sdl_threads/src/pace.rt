@@ -39,10 +39,12 @@ const FIRST_UNTOLD: u32 = 8;
 /// After how many steps that did something a worker wakes who waits for room where it takes: half a ring.
 const MOST_ROOM: u32 = 32;
 
-/// After how many sleeps in a row, in each of which another worker did something, a worker asks outside the system although the
-/// others are not at rest: some systems never are. That many take 80 ms. A sleep in which nobody did anything does not count:
-/// there the others wait for a processor.
-const MOST_NAPS: u32 = 10;
+/// After how many sleeps in a row a worker asks outside the system although the others are not at rest: some systems never are.
+/// That many take half a second, in which nobody did anything, as the others wait for a processor or are in one long step.
+const MOST_NAPS: u32 = 60;
+
+/// For how many of these a sleep counts in which another worker did something: ten of them take 80 ms.
+const NAP_AMID_WORK: u32 = 6;
 
 /// After how many steps that did something a worker asks so too, where it took what came and might not ask.
 const MOST_HELD: u32 = 4_096;
@@ -90,7 +92,7 @@ struct Idling {
     short_pauses: u32,
     /// There were few before that one.
     doubts: bool,
-    /// How often it has slept, while others did something, since it last did something.
+    /// How often it has slept since it last did something, where a sleep amid the work of others counts several times.
     naps: u32,
     /// How many steps of others did something up to the last of these sleeps.
     moved: u64,
@@ -208,10 +210,13 @@ impl Idling {
             told.listens(self.mark);
             told.sleeps(rt, self.mark, LISTENING, NAP_MICROS);
             let moved = told.moved_beside(self.mark);
-            if moved != self.moved {
-                self.moved = moved;
-                self.naps = self.naps.saturating_add(1);
-            }
+            let counts = if moved == self.moved {
+                1
+            } else {
+                NAP_AMID_WORK
+            };
+            self.moved = moved;
+            self.naps = self.naps.saturating_add(counts);
         }
     }
 
