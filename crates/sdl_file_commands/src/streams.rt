@@ -10,36 +10,48 @@ use std::io::{BufWriter, Error, ErrorKind, Read, Result, Write};
 const RETRIES: u32 = 1_000;
 
 /// A writer behind the buffer. Whoever writes to it tries an interrupted write again; so its interruptions are counted, and
-/// the one after 1,000 is a fault.
+/// the one after 1,000 is a fault. After a fault nothing more is written: it is the same for ever, whoever met it.
 #[derive(Drop)]
 pub struct Counting<W> {
     writer: W,
     interrupted: u32,
+    failed: bool,
 }
 
 impl<W> Counting<W> {
     /// The writer's fault, or its interruption where that may be tried again.
     fn counted(&mut self, error: Error) -> Error {
-        if error.kind() != ErrorKind::Interrupted {
+        if error.kind() == ErrorKind::Interrupted && self.interrupted < RETRIES {
+            self.interrupted += 1;
             return error;
         }
-        if self.interrupted >= RETRIES {
-            return ErrorKind::Other.into();
+        self.failed = true;
+        ErrorKind::Other.into()
+    }
+
+    /// A fault, where there was one.
+    fn whole(&self) -> Result<()> {
+        if self.failed {
+            return Err(ErrorKind::Other.into());
         }
-        self.interrupted += 1;
-        error
+        Ok(())
     }
 }
 
 impl<W: Write> Write for Counting<W> {
     fn write(&mut self, bytes: &[u8]) -> Result<usize> {
+        self.whole()?;
         match self.writer.write(bytes) {
-            Ok(count) => Ok(count),
+            Ok(count) => {
+                self.failed = count == 0 && !bytes.is_empty();
+                Ok(count)
+            }
             Err(error) => Err(self.counted(error)),
         }
     }
 
     fn flush(&mut self) -> Result<()> {
+        self.whole()?;
         match self.writer.flush() {
             Ok(()) => Ok(()),
             Err(error) => Err(self.counted(error)),
@@ -62,6 +74,7 @@ pub fn shared_buffer<W: Write + Drop, E: Write>(
     let counting = Counting {
         writer,
         interrupted: 0,
+        failed: false,
     };
     match BufWriter::new(alloc, counting) {
         Ok(buffer) => Some(RefCell::new(buffer)),
@@ -82,7 +95,7 @@ pub struct Input<'a, R, W: Write + Drop> {
 impl<R: Read, W: Write + Drop> Read for Input<'_, R, W> {
     fn read(&mut self, bytes: &mut [u8]) -> Result<usize> {
         if let Ok(mut buffer) = self.buffer.try_borrow_mut() {
-            // What could not be written out stays in the buffer, and a later write or flush says so.
+            // A fault is remembered behind the buffer, and the next write says so.
             let _ = buffer.flush();
         }
         self.reader.read(bytes)
@@ -98,7 +111,10 @@ pub struct Output<'a, W: Write + Drop> {
 impl<W: Write + Drop> Write for Output<'_, W> {
     fn write(&mut self, bytes: &[u8]) -> Result<usize> {
         match self.buffer.try_borrow_mut() {
-            Ok(mut buffer) => buffer.write(bytes),
+            Ok(mut buffer) => {
+                buffer.get_ref().whole()?;
+                buffer.write(bytes)
+            }
             Err(_) => Err(ErrorKind::ResourceBusy.into()),
         }
     }

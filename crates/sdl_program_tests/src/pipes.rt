@@ -118,11 +118,13 @@ fn pipe_refuses_long_lines(rt: HostRuntime) -> Result<(), Fail> {
     Ok(())
 }
 
-/// With each allocation refused in turn, this test is run from outside: either all is written or nothing.
+/// Run it with each allocation refused in turn: either all is written, or nothing, and it says why.
 #[test]
-fn pipe_without_memory_writes_nothing(rt: HostRuntime) {
+fn pipe_without_memory_writes_nothing(rt: HostRuntime) -> Result<(), AllocError> {
     let mut output = writer_of(rt.alloc(), 100);
     let mut errors = writer_of(rt.alloc(), 100);
+    output.taken.reserve(100)?;
+    errors.taken.reserve(100)?;
     let status = pipe_command(
         rt.alloc(),
         &mut reader_of(TWO_LINES),
@@ -131,8 +133,11 @@ fn pipe_without_memory_writes_nothing(rt: HostRuntime) {
     );
     if status == WHOLE {
         assert!(rt; output.taken.as_slice() == TWO_LINES);
+        assert!(rt; errors.taken.is_empty());
     } else {
         assert!(rt; status == FAULTY);
-        assert!(rt; output.taken.is_empty() || errors.taken.is_empty());
+        assert!(rt; output.taken.is_empty());
+        assert!(rt; errors.taken.as_slice() == b"memory\n".as_slice());
     }
+    Ok(())
 }
