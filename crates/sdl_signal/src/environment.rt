@@ -1,7 +1,8 @@
 //! The environment's reading of an input: its lines, read as signals, up to the end, a fault or the limit.
-ghost use Rattle.std.specs.Prelude.{◌≡◌, ◌≤◌, ◌<◌, ℕ, true, false, List, length, [], Option, None};
+ghost use Rattle.std.specs.Prelude.{◌≡◌, ◌≤◌, ◌<◌, ℕ, true, false, List, length, [], Option, None, Some};
 ghost use Rattle.sdl_signal.specs.Bytes.{HasNoNewline};
 ghost use Rattle.sdl_signal.specs.declared.values.EnvLine.{EnvLine};
+ghost use Rattle.sdl_signal.specs.declared.sources.Ended.{Ended};
 ghost use Rattle.sdl_signal.specs.Source.{HoldsLine};
 ghost use Rattle.sdl_signal.specs.Environment.{Counts, EndsItself, GoesOn, HasCarried, IsEnvLine};
 
@@ -78,6 +79,9 @@ impl EnvReader {
         // Whatever was carried out of an input so far, the answer goes on from it.
         ensures reading { (start : Option (List ℕ)) (carried : List EnvLine) → HasCarried names.now start (R.remaining input.old) self.old carried
             → GoesOn names.now start (R.remaining input.new) self.new carried result }
+        // Where the next answer is told already, the reader is not asked.
+        ensures unread { self.old.source.ended ≡ None → HoldsLine self.old.source.ahead → input.new ≡ input.old }
+        ensures past { (e : Ended) → self.old.source.ended ≡ Some e → input.new ≡ input.old }
     {
         let full = self.carried == MOST_LINES;
         match self.source.see(input) {

@@ -72,3 +72,24 @@ returns-in-Fault-clause-reading g c start carried h =
     read_fault _ start (g.R.Read.remaining c.args.input.now) (g.R.Read.remaining c.see.new.input) (record { source = a.source; carried = a.carried }) c.see.new.self carried
     (λ e. let same = (c.in-Fault.ensures.ended _ e).0 in cc) (λ e. let n = c.in-Fault.ensures.next e in (n.0, n.1, n.2)) c.self.invariant
     (subst P (sym c.self.view_is) h)
+
+pub returns-in-Ok-clause-past : goal.returns-in-Ok-clause-past
+returns-in-Ok-clause-past g c e h = (c.in-Line.ensures.ended e (ap (λ (r : Reading). r.source.ended) c.self.view_is ∙ h)).2
+
+pub returns-in-Err-clause-past : goal.returns-in-Err-clause-past
+returns-in-Err-clause-past g c e h = (c.in-Line.ensures.ended e (ap (λ (r : Reading). r.source.ended) c.self.view_is ∙ h)).2
+
+pub returns-then-full-2-clause-past : goal.returns-then-full-2-clause-past
+returns-then-full-2-clause-past g c e h = (c.in-Line.ensures.ended e (ap (λ (r : Reading). r.source.ended) c.self.view_is ∙ h)).2
+
+pub returns-then-full-clause-past : goal.returns-then-full-clause-past
+returns-then-full-clause-past g c e h = (c.in-Over.ensures.ended e (ap (λ (r : Reading). r.source.ended) c.self.view_is ∙ h)).2
+
+pub returns-else-full-clause-past : goal.returns-else-full-clause-past
+returns-else-full-clause-past g c e h = (c.in-Over.ensures.ended e (ap (λ (r : Reading). r.source.ended) c.self.view_is ∙ h)).2
+
+pub returns-in-Done-clause-past : goal.returns-in-Done-clause-past
+returns-in-Done-clause-past g c e h = (c.in-Done.ensures.ended e (ap (λ (r : Reading). r.source.ended) c.self.view_is ∙ h)).2
+
+pub returns-in-Fault-clause-past : goal.returns-in-Fault-clause-past
+returns-in-Fault-clause-past g c e h = (c.in-Fault.ensures.ended e (ap (λ (r : Reading). r.source.ended) c.self.view_is ∙ h)).2
