@@ -8,6 +8,7 @@ pub enum RunEnd {
     Quiet,
     /// The budget of this block is used, of the least such block, and all else is settled.
     Spent(BlockId),
-    /// Memory was refused to the worker of this number, and the run stopped there.
+    /// Memory was refused to the worker of this number, or the thread of this worker could not start, and the run stopped there; or
+    /// memory was refused where what was left for this worker was taken over on one thread.
     Memory(u32),
 }

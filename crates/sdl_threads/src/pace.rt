@@ -11,8 +11,8 @@ use std::hint::spin_loop;
 use std::sync::Wait;
 
 /// Called before each step of each worker in a thread. Steps are counted from 0, and the count stays at `u64::MAX` once it is
-/// there. Where the environment waits for the others before it reads, and takes what comes meanwhile, that is no step. It is for
-/// tests, which hold a step back until another was made.
+/// there. Where the environment waits for the others before it reads, and takes what comes meanwhile, that is no step, unless it has
+/// a backlog. It is for tests, which hold a step back until another was made.
 pub trait Gate: Sync {
     /// The worker of this number is about to make the step of this number.
     fn before(&self, worker: u32, step: u64);
