@@ -109,3 +109,8 @@ IsBroken root (faults.UnknownName p) = BreaksAt root p (NamesUnknown root)
 IsBroken root (faults.TooMany p) = BreaksAt root p (HasTooManyElements root)
 IsBroken root (faults.OutOfRange p) = BreaksAt root p IsOutOfRange
 IsBroken root faults.Memory = ⊤
+
+-- the fault is one of the file's own, and no refused growth of memory
+abbrev pub IsOfFile : FileFault → Type 0
+IsOfFile faults.Memory = ⊥
+IsOfFile _ = ⊤

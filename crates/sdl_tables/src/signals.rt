@@ -7,7 +7,7 @@ ghost use Rattle.sdl_tables.specs.Keys.{kind_of, signals as list_of_signals, is_
 ghost use Rattle.sdl_tables.specs.Tables.{elements_at, tables_at, names_of, is_text, HasKindAt};
 ghost use Rattle.sdl_tables.specs.Places.{names_before};
 ghost use Rattle.sdl_tables.specs.Names.{IsSignalTable, ListsSignals, NamesSort, sort_text};
-ghost use Rattle.sdl_tables.specs.Faults.{IsBroken};
+ghost use Rattle.sdl_tables.specs.Faults.{IsBroken, IsOfFile};
 ghost use Rattle.sdl_tables.specs.Walks.{file_of, own, IsHere, name_texts};
 
 use crate::fault::FileFault;
@@ -72,6 +72,7 @@ fn read_sorts(walk: &Walk) -> Result<ArrayVec<Sort, 4>, FileFault>
     ensures read { IfOk result (λ sorts. AllZip NamesSort (elements_at Key.Sorts (own walk.now)) sorts.items) }
     ensures few { IfOk result (λ sorts. length sorts.items ≤ 4) }
     ensures fault { IfErr result (IsBroken (file_of walk.now)) }
+    ensures of_file { IfErr result IsOfFile }
 {
     let texts = walk.texts(Key::Sorts)?;
     let mut sorts = ArrayVec::new();
@@ -111,6 +112,7 @@ pub fn read_signal_list(
     ensures kind { IfOk result (λ _. HasKindAt (own walk.now) key) }
     ensures read { IfOk result (λ ids. ListsSignals signals.now key (own walk.now) ids.items) }
     ensures fault { IfErr result (IsBroken (file_of walk.now)) }
+    ensures of_file { IfErr result IsOfFile }
 {
     let texts = walk.texts(key)?;
     let mut ids: ArrayVec<SignalId, 64> = ArrayVec::new();

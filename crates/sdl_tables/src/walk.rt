@@ -21,14 +21,14 @@ pub struct Walk<'a> {
 }
 
 impl<'a> Walk<'a> {
-    ghost use Rattle.std.specs.Prelude.{◌≡◌, ◌≢◌, ◌++◌, [], ◌∷◌, ◌<◌, ◌≤◌, ◌≤ℤ◌, length, map, All, AllPairs, option_map, IfOk, IfErr, OnOk, true, false, Some};
+    ghost use Rattle.std.specs.Prelude.{◌≡◌, ◌≢◌, ◌++◌, [], ◌∷◌, ◌<◌, ◌≤◌, ◌≤ℤ◌, length, map, All, AllPairs, option_map, IfOk, IfErr, OnOk, OnErr, true, false, Some};
     ghost use Rattle.toml.specs.Data.{as_integer};
     ghost use Rattle.toml.specs.View.{view, table_view};
     ghost use Rattle.sdl_signal.specs.Names.{IsName};
     ghost use Rattle.sdl_tables.specs.Keys.{is_key, is_required, is_list, is_texts, is_over, kind_of, whole_number, text, flag, tables, least_of, greatest_of, keys_of};
     ghost use Rattle.sdl_tables.specs.Tables.{data_at, integer_at, text_at, integer_or, flag_or, elements_at, tables_at, the_table, table_in, is_of_kind, is_text, is_table, has_only, HasKindAt, IsArrayAt};
     ghost use Rattle.sdl_tables.specs.Places.{inside, names_before, IsPlace};
-    ghost use Rattle.sdl_tables.specs.Faults.{IsBroken};
+    ghost use Rattle.sdl_tables.specs.Faults.{IsBroken, IsOfFile};
     ghost use Rattle.sdl_tables.specs.Walks.{file_of, own, IsHere, name_texts};
 
     /// The walk over the top table.
@@ -69,7 +69,8 @@ impl<'a> Walk<'a> {
         requires listed { is_key self.now.place.part key ≡ true }
         requires there { data_at key (own self.now) ≡ Some (view value.now) }
         requires wrong { is_of_kind (kind_of key) (view value.now) ≡ false }
-        ensures { IsBroken (file_of self.now) result }
+        ensures fault { IsBroken (file_of self.now) result }
+        ensures of_file { IsOfFile result }
     {
         FileFault::WrongType(self.at(key))
     }
@@ -84,6 +85,7 @@ impl<'a> Walk<'a> {
         ensures held { IfOk result (λ z. integer_at key (own self.now) ≡ Some z) }
         ensures range { IfOk result (λ z. (least_of key ≤ℤ z) × (z ≤ℤ greatest_of key)) }
         ensures fault { IfErr result (IsBroken (file_of self.now)) }
+        ensures of_file { IfErr result IsOfFile }
     {
         match self.value(key) {
             None => Err(FileFault::MissingKey(self.at(key))),
@@ -103,6 +105,7 @@ impl<'a> Walk<'a> {
         ensures held { IfOk result (λ z. integer_or default key (own self.now) ≡ Some z) }
         ensures range { IfOk result (λ z. (least_of key ≤ℤ z) × (z ≤ℤ greatest_of key)) }
         ensures fault { IfErr result (IsBroken (file_of self.now)) }
+        ensures of_file { IfErr result IsOfFile }
     {
         match self.value(key) {
             None => Ok(default),
@@ -119,6 +122,7 @@ impl<'a> Walk<'a> {
         ensures held { IfOk result (λ z. as_integer (view value.now) ≡ Some z) }
         ensures range { IfOk result (λ z. (least_of key ≤ℤ z) × (z ≤ℤ greatest_of key)) }
         ensures fault { IfErr result (IsBroken (file_of self.now)) }
+        ensures of_file { IfErr result IsOfFile }
     {
         match value.as_integer() {
             None => Err(self.wrong_type(key, value)),
@@ -141,6 +145,7 @@ impl<'a> Walk<'a> {
         ensures kind { IfOk result (λ _. HasKindAt (own self.now) key) }
         ensures held { IfOk result (λ b. flag_or false key (own self.now) ≡ Some b) }
         ensures fault { IfErr result (IsBroken (file_of self.now)) }
+        ensures of_file { IfErr result IsOfFile }
     {
         match self.value(key) {
             None => Ok(false),
@@ -161,6 +166,7 @@ impl<'a> Walk<'a> {
         ensures held { IfOk result (λ n. text_at key (own self.now) ≡ Some n.bytes) }
         ensures legal { IfOk result (λ n. IsName n.bytes) }
         ensures fault { IfErr result (IsBroken (file_of self.now)) }
+        ensures of_file { IfErr result IsOfFile }
     {
         match self.value(key) {
             None => Err(FileFault::MissingKey(self.at(key))),
@@ -185,6 +191,7 @@ impl<'a> Walk<'a> {
         ensures joined { IfOk result (λ n. taken.new.items ≡ taken.old.items ++ n ∷ []) }
         ensures apart { IfOk result (λ n. All (λ m. m.bytes ≢ n.bytes) taken.old.items) }
         ensures fault { IfErr result (IsBroken (file_of self.now)) }
+        ensures kept { OnErr result (taken.new.items ≡ taken.old.items) }
     {
         let name = self.name(Key::Name)?;
         if let Some(_) = name_number(taken.as_slice(), name.as_str()) {
@@ -199,6 +206,7 @@ impl<'a> Walk<'a> {
         requires here { IsHere self.now }
         ensures ok { IfOk result (λ _. has_only (keys_of self.now.place.part) (own self.now) ≡ true) }
         ensures fault { IfErr result (IsBroken (file_of self.now)) }
+        ensures of_file { IfErr result IsOfFile }
     {
         if has_only(self.place.part.keys(), self.table) {
             Ok(())

@@ -13,7 +13,7 @@ impl<'a> Walk<'a> {
     ghost use Rattle.sdl_tables.specs.Keys.{is_key, is_required, is_list, is_texts, is_over, kind_of, whole_number, text, flag, tables, least_of, greatest_of, keys_of};
     ghost use Rattle.sdl_tables.specs.Tables.{data_at, integer_at, text_at, integer_or, flag_or, elements_at, tables_at, the_table, table_in, is_of_kind, is_text, is_table, has_only, HasKindAt, IsArrayAt};
     ghost use Rattle.sdl_tables.specs.Places.{inside, names_before, IsPlace};
-    ghost use Rattle.sdl_tables.specs.Faults.{IsBroken};
+    ghost use Rattle.sdl_tables.specs.Faults.{IsBroken, IsOfFile};
     ghost use Rattle.sdl_tables.specs.Walks.{file_of, own, IsHere, name_texts};
 
     /// The elements of the array at a key, of any type.
@@ -24,6 +24,7 @@ impl<'a> Walk<'a> {
         ensures held { IfOk result (λ vs. elements_at key (own self.now) ≡ map view vs.now) }
         ensures there { IfOk result (λ _. IsArrayAt (own self.now) key) }
         ensures fault { IfErr result (IsBroken (file_of self.now)) }
+        ensures of_file { IfErr result IsOfFile }
     {
         match self.value(key) {
             None => {
@@ -50,6 +51,7 @@ impl<'a> Walk<'a> {
         ensures each { IfOk result (λ vs. All (λ v. is_text (view v) ≡ true) vs.now) }
         ensures few { IfOk result (λ vs. is_over key (length vs.now) ≡ false) }
         ensures fault { IfErr result (IsBroken (file_of self.now)) }
+        ensures of_file { IfErr result IsOfFile }
     {
         let values = self.list(key)?;
         if !all_texts(values) {
@@ -72,6 +74,7 @@ impl<'a> Walk<'a> {
         ensures each { IfOk result (λ vs. All (λ v. is_table (view v) ≡ true) vs.now) }
         ensures few { IfOk result (λ vs. is_over key (length vs.now) ≡ false) }
         ensures fault { IfErr result (IsBroken (file_of self.now)) }
+        ensures of_file { IfErr result IsOfFile }
     {
         let values = self.list(key)?;
         if !all_tables(values) {
@@ -95,6 +98,7 @@ impl<'a> Walk<'a> {
         ensures few { IfOk result (λ vs. is_over key (length vs.now) ≡ false) }
         ensures some { IfOk result (λ vs. 0 < length vs.now) }
         ensures fault { IfErr result (IsBroken (file_of self.now)) }
+        ensures of_file { IfErr result IsOfFile }
     {
         let values = self.tables(key)?;
         if values.is_empty() {
