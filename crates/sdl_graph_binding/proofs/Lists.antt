@@ -1,5 +1,6 @@
 -- Transitions that move from a list to behaviours.
-use Rattle.std.proofs.Common.{◌≡◌, refl, List, [], ◌∷◌, ◌++◌, map, length, suc-ne-zero, ap, sym, ◌∙◌, append_assoc}
+use Rattle.std.proofs.Common.{◌≡◌, ◌-◌, ◌≤◌, refl, Bool, false, not, if◌then◌else◌, Result, is_ok, List, [], ◌∷◌, ◌++◌, map, length, take, drop, get_or, suc-ne-zero, ap, sym, ◌∙◌, append_assoc, arith}
+use Rattle.std.proofs.lemmas.Grind.{common_steps}
 use Rattle.std.proofs.lemmas.List.{append-nil}
 use Rattle.sdl_behaviour.specs.declared.transition.Transition.{Transition}
 use Rattle.sdl_behaviour.specs.declared.behaviour.Behaviour.{Behaviour}
@@ -10,6 +11,11 @@ pub moved : {A : Type 0} (after between before left rest old : List A) (t : A)
     → after ++ left ≡ between ++ rest → between ≡ before ++ t ∷ [] → old ≡ t ∷ rest → after ++ left ≡ before ++ old
 moved after between before left rest old t more last first =
     more ∙ ap (λ l. l ++ rest) last ∙ append_assoc before (t ∷ []) rest ∙ ap (λ l. before ++ l) (sym first)
+
+-- a push that did not fail took place
+pub pushed : {A T E : Type 0} (r : Result T E) (failed : Bool) (old new : List A) (a : A)
+    → new ≡ (if is_ok r then old ++ a ∷ [] else old) → is_ok r ≡ not failed → failed ≡ false → new ≡ old ++ a ∷ []
+pushed r failed old new a items ok none = items ∙ ap (λ (b : Bool). if b then old ++ a ∷ [] else old) (ok ∙ ap not none)
 
 -- nothing is left of the list
 pub none_left : {A : Type 0} (all left old : List A) → length left ≡ 0 → all ++ left ≡ old → all ≡ old
@@ -27,6 +33,16 @@ pub sets_on : {A B C : Type 0} (f : A → C) (g : B → C) (all more made : List
 sets_on f g all more made b sets rest d next last same first =
     next ∙ ap (λ l. map f l ++ map g rest) last ∙ ap (λ l. l ++ map g rest) (map_last f made b)
     ∙ append_assoc (map f made) (f b ∷ []) (map g rest) ∙ ap (λ c. map f made ++ c ∷ map g rest) same ∙ ap (λ l. map f made ++ map g l) (sym first)
+
+-- the first of a list that has one, and the others
+pub first_and_rest : {A : Type 0} (l : List A) (d : A) → 1 ≤ length l → l ≡ get_or l 0 d ∷ take (length l - 1) (drop 1 l)
+first_and_rest l d one = grind (arith, common_steps)
+
+-- the numbers that a design uses, one after the other
+pub uses_on : {A B C : Type 0} (f : A → C) (g : B → C) (all more made : List A) (b : B) (uses rest : List B)
+    → map f all ≡ map f more ++ map g rest → map f more ≡ map f made ++ g b ∷ [] → uses ≡ b ∷ rest → map f all ≡ map f made ++ map g uses
+uses_on f g all more made b uses rest next last first =
+    next ∙ ap (λ l. l ++ map g rest) last ∙ append_assoc (map f made) (g b ∷ []) (map g rest) ∙ ap (λ l. map f made ++ map g l) (sym first)
 
 module _ {S I : Type 0} {F : I → Type 0} {g : _} where
   -- a behaviour behind the others

@@ -48,7 +48,7 @@ fn behaviour_of<G>(
 ) -> Result<Behaviour<GraphAgents<G>>, GraphFault>
     requires { IsStructure structure.now }
     ensures allowed { IfOk result (IsAllowedBehaviour (λ _ _ _. Unit {0})) }
-    ensures set { IfOk result (λ b. made_as structure.now b ≡ meant set.now) }
+    ensures set { IfOk result (λ b. made_as structure.now b ≡ meant uses.now set.now) }
     ensures taken { IfOk result (λ b. transitions_in b ++ left.new.items ≡ left.old.items) }
 {
     let Some(number) = set_named(structure.sets(), set.name) else {
@@ -93,7 +93,7 @@ fn with_behaviours<G>(
     requires allowed { All (IsAllowedBehaviour (λ _ _ _. Unit {0})) made.items }
     requires few { place + length sets.now < 2 ^ 64 }
     ensures allowed { IfOk result (λ list. All (IsAllowedBehaviour (λ _ _ _. Unit {0})) list.items) }
-    ensures sets { IfOk result (λ list. map (made_as structure.now) list.items ≡ map (made_as structure.now) made.items ++ map meant sets.now) }
+    ensures sets { IfOk result (λ list. map (made_as structure.now) list.items ≡ map (made_as structure.now) made.items ++ map (meant uses.now) sets.now) }
     ensures taken { IfOk result (λ list. all_transitions list.items ++ left.new.items ≡ all_transitions made.items ++ left.old.items) }
 {
     match sets {
@@ -120,7 +120,7 @@ pub fn bind_graph<G>(
     ensures bound { IfOk result (IsBound (λ _ _ _. Unit {0})) }
     ensures structure { IfOk result (λ bound. structure_of bound ≡ checked) }
     ensures routes { IfOk result (λ bound. routes_of bound ≡ routes) }
-    ensures behaviours { IfOk result (λ bound. ∥ ((behaviours : _) × (map (made_as checked) behaviours ≡ map meant design.now.sets.now) × (all_transitions behaviours ≡ transitions.items) × AreDistributed checked behaviours (blocks_of bound)) ∥₁) }
+    ensures behaviours { IfOk result (λ bound. ∥ ((behaviours : _) × (map (made_as checked) behaviours ≡ map (meant design.now.uses.now) design.now.sets.now) × (all_transitions behaviours ≡ transitions.items) × AreDistributed checked behaviours (blocks_of bound)) ∥₁) }
 {
     let mut left = transitions;
     let structure = checked.structure();

@@ -3,7 +3,7 @@ ghost use Rattle.std.specs.Prelude.{◌≡◌, ◌+◌, ◌<◌, ◌≤◌, [], 
 ghost use Rattle.std.specs.List.{AllByRecursion};
 ghost use Rattle.sdl_signal.specs.Reading.{IsNamedAt, IsNowhere};
 ghost use Rattle.sdl_behaviour.specs.Transitions.{IsAllowedBehaviour};
-ghost use Rattle.sdl_graph_binding.specs.Transitions.{IsByOffer, transitions_in};
+ghost use Rattle.sdl_graph_binding.specs.Transitions.{IsByOffer, transitions_in, use_meant, use_made};
 
 use crate::agents::GraphAgents;
 use crate::faults::GraphFault;
@@ -56,6 +56,7 @@ fn with_use<G>(
 ) -> Result<Behaviour<GraphAgents<G>>, GraphFault>
     requires { IsAllowedBehaviour (λ _ _ _. Unit {0}) behaviour }
     ensures allowed { IfOk result (IsAllowedBehaviour (λ _ _ _. Unit {0})) }
+    ensures added { IfOk result (λ b. map use_made b.uses.items ≡ map use_made behaviour.uses.items ++ use_meant used.entry ∷ []) }
     ensures same { IfOk result (λ b. b ≡ record behaviour { uses = b.uses }) }
 {
     let mut behaviour = behaviour;
@@ -79,6 +80,7 @@ pub fn with_uses<G>(
 ) -> Result<Behaviour<GraphAgents<G>>, GraphFault>
     requires { IsAllowedBehaviour (λ _ _ _. Unit {0}) behaviour }
     ensures allowed { IfOk result (IsAllowedBehaviour (λ _ _ _. Unit {0})) }
+    ensures uses { IfOk result (λ b. map use_made b.uses.items ≡ map use_made behaviour.uses.items ++ map use_meant uses.now) }
     ensures same { IfOk result (λ b. b ≡ record behaviour { uses = b.uses }) }
 {
     match uses {

@@ -1,10 +1,10 @@
 //! The stored transitions of a graph.
-ghost use Rattle.std.specs.Prelude.{◌≡◌, ◌⊎◌, true, false, [], ◌∷◌, ◌++◌, map, IfSome, IfOk, IfErr, IsOk, IsErr, Err, MatchOption, MatchResult};
+ghost use Rattle.std.specs.Prelude.{◌≡◌, ◌⊎◌, ◌==◌, if◌then◌else◌, true, false, [], ◌∷◌, ◌++◌, map, IfSome, IfOk, IfErr, IsOk, IsErr, Err, MatchOption, MatchResult};
 ghost use Rattle.sdl_behaviour.specs.Offers.{IsFrameOf, Conforms};
 ghost use Rattle.sdl_conformance.specs.Stay.{CanEnd};
 ghost use Rattle.sdl_graph.specs.Answers.{IsKept};
-ghost use Rattle.sdl_graph_binding.specs.Transitions.{IsOfferFault};
-ghost use Rattle.sdl_graph_binding.specs.declared.faults.GraphFault.TheVariants.{Memory};
+ghost use Rattle.sdl_graph_binding.specs.Transitions.{IsOfferFault, IsOneMore};
+ghost use Rattle.sdl_graph_binding.specs.declared.faults.GraphFault.TheVariants.{Memory, NoOffer, NoEnd};
 
 use crate::agents::{GraphAgents, keep_to_offer};
 use crate::faults::GraphFault;
@@ -16,7 +16,7 @@ use std::alloc::Global;
 use std::marker::PhantomData;
 
 /// The transitions of a graph so far, by number, with the marks that they share; or the first fault that was met. After a
-/// fault none is kept any more, and what is stored is refused when it is run.
+/// fault no transition is begun any more, `keep` stores on, and the fault is all that is given back.
 #[derive(Drop)]
 pub struct Stored<G> {
     transitions: Vec<Transition<GraphAgents<G>>>,
@@ -40,7 +40,15 @@ pub fn ending_offer<G: Graph>(number: u32) -> Result<Offer, GraphFault>
     ensures ends { IfOk result CanEnd }
     ensures none { IfErr result (IsOfferFault number) }
 {
-    let offer = G::offer(number);
+    ending(number, G::offer(number))
+}
+
+/// The offer of the number, where it can stop or go on. One of no sets stands for none.
+fn ending(number: u32, offer: Offer) -> Result<Offer, GraphFault>
+    ensures ends { IfOk result (λ own. (own ≡ offer) × CanEnd offer) }
+    ensures refused { IfErr result (λ _. ¬ CanEnd offer) }
+    ensures fault { IfErr result (λ fault. fault ≡ (if offer.sets == 0 then NoOffer number else NoEnd number)) }
+{
     if can_end(&offer) {
         Ok(offer)
     } else if offer.sets == 0 {
@@ -78,6 +86,8 @@ impl<G: Graph> Stored<G> {
         ensures offered { IfSome result (λ own. (own.number ≡ number) × CanEnd own.offer) }
         ensures begun { MatchOption result (IsErr self.new.marks) (λ _. IsOk self.new.marks × (self.new.begun ≡ true)) }
         ensures fault { IfErr self.new.marks (λ fault. MatchResult self.old.marks (λ _. (fault ≡ Memory) ⊎ IsOfferFault number fault) (λ first. fault ≡ first)) }
+        ensures unkept { self.old.begun ≡ true → IsErr self.new.marks }
+        ensures memory { self.old.begun ≡ true → IfErr self.new.marks (λ fault. MatchResult self.old.marks (λ _. fault ≡ Memory) (λ first. fault ≡ first)) }
         ensures same { self.new.transitions ≡ self.old.transitions }
     {
         match self.begin(number) {
@@ -95,6 +105,8 @@ impl<G: Graph> Stored<G> {
     /// What answers the frames of the transition of this number, or the first fault.
     fn begin(&self, number: u32) -> Result<Answering<G>, GraphFault>
         ensures offered { IfOk result (λ own. (own.number ≡ number) × CanEnd own.offer × IsOk self.now.marks) }
+        ensures kept { IfOk result (λ _. self.now.begun ≡ false) }
+        ensures memory { self.now.begun ≡ true → IfErr result (λ fault. MatchResult self.now.marks (λ _. fault ≡ Memory) (λ first. fault ≡ first)) }
         ensures fault { IfErr result (λ fault. MatchResult self.now.marks (λ _. (fault ≡ Memory) ⊎ IsOfferFault number fault) (λ first. fault ≡ first)) }
     {
         let shared = match &self.marks {
@@ -119,6 +131,7 @@ impl<G> Stored<G> {
     pub fn new(alloc: Global) -> Stored<G>
         ensures none { result.transitions.items ≡ [] }
         ensures begun { result.begun ≡ false }
+        ensures fault { IfErr result.marks (λ fault. fault ≡ Memory) }
     {
         let marks = match Marks::new(alloc) {
             Ok(marks) => Ok(marks),
@@ -137,6 +150,7 @@ impl<G> Stored<G> {
         requires callable { (f : _) → IsFrameOf offer f.now → Run.pre run f }
         requires conforms { (f : _) (step : _) → IsFrameOf offer f.now → Run.post run f step → Conforms offer step }
         ensures kept { IfOk self.new.marks (λ _. map (λ t. t.number) self.new.transitions.items ≡ map (λ t. t.number) self.old.transitions.items ++ number ∷ []) }
+        ensures last { IfOk self.new.marks (λ _. IsOneMore self.old.transitions.items number offer self.new.transitions.items) }
         ensures fault { IfErr self.new.marks (λ fault. MatchResult self.old.marks (λ _. fault ≡ Memory) (λ first. fault ≡ first)) }
         ensures before { IfErr self.old.marks (λ _. IsErr self.new.marks) }
         ensures begun { self.new.begun ≡ false }
