@@ -29,6 +29,13 @@ impl Gate for OpenGate {
 /// A sleep ends after this time, whether or not somebody ended it.
 const NAP_MICROS: u64 = 8_000;
 
+/// After how many such sleeps in a row a worker at rest sleeps deeply, where all others but one rest too. So a quiet system costs
+/// next to no processor time.
+const LIGHT_NAPS: u32 = 32;
+
+/// A deep sleep ends after this time.
+const DEEP_NAP_MICROS: u64 = 1_000_000;
+
 /// After how many steps that did something a worker wakes those that take what it put, unless it has nothing more to do before.
 /// Where a step takes long, their sleep ends by itself before.
 const MOST_UNTOLD: u32 = 512;
@@ -96,6 +103,10 @@ struct Idling {
     naps: u32,
     /// How many steps of others did something up to the last of these sleeps.
     moved: u64,
+    /// How often it has slept at rest since it last did something.
+    rests: u32,
+    /// It has said that it sleeps deeply from its next sleep on.
+    is_deep: bool,
     /// How many of its steps did something while it might ask, since it was last allowed to.
     free_steps: u32,
     /// How many did something after that, while it might not.
@@ -119,6 +130,8 @@ impl Idling {
             doubts: false,
             naps: 0,
             moved: 0,
+            rests: 0,
+            is_deep: false,
             free_steps: 0,
             held_steps: 0,
         }
@@ -149,6 +162,8 @@ impl Idling {
             told.gets_up(self.mark);
             self.awake = true;
             self.pause.reset();
+            self.rests = 0;
+            self.sleeps_deeply(told, false);
         }
         let earlier = self.usual_yields - self.usual_yields / 4;
         self.usual_yields = earlier.saturating_add(self.yields);
@@ -158,6 +173,8 @@ impl Idling {
         self.untold_steps = self.untold_steps.saturating_add(1);
         if self.untold_steps >= self.most_untold {
             self.most_untold = MOST_UNTOLD.min(self.most_untold.saturating_mul(2));
+            self.tells(told);
+        } else if told.has_deep_sleepers() {
             self.tells(told);
         }
         if told.is_room_asked(self.mark) {
@@ -226,7 +243,29 @@ impl Idling {
         self.gives_room(told);
         if !self.pauses_on(told) && !self.nods_off(told) {
             told.falls_asleep(self.mark);
-            told.sleeps(rt, self.mark, ASLEEP, NAP_MICROS);
+            let micros = self.nap(told);
+            told.sleeps(rt, self.mark, ASLEEP, micros);
+        }
+    }
+
+    /// How long it is to sleep at rest. Before it sleeps deeply it says so, and looks once more at what there is to do: whoever
+    /// puts something for it after that wakes it at once.
+    fn nap(&mut self, told: &Told) -> u64 {
+        self.rests = self.rests.saturating_add(1);
+        let said_so = self.is_deep;
+        self.sleeps_deeply(told, self.rests >= LIGHT_NAPS && told.all_but_one_rest());
+        if said_so && self.is_deep {
+            DEEP_NAP_MICROS
+        } else {
+            NAP_MICROS
+        }
+    }
+
+    /// Says whether it sleeps deeply from its next sleep on.
+    fn sleeps_deeply(&mut self, told: &Told, is_deep: bool) {
+        if is_deep != self.is_deep {
+            told.changes_depth(is_deep);
+            self.is_deep = is_deep;
         }
     }
 

@@ -48,6 +48,9 @@ pub(crate) struct Told {
     stop: AtomicU64,
     /// How many sleeps ended by themselves. While a worker sleeps that nobody wakes, this is a clock.
     naps: CachePadded<AtomicU64>,
+    /// How many workers sleep deeply, or look a last time before they do. Meanwhile, whoever puts something wakes who takes it after
+    /// the very step.
+    deep: CachePadded<AtomicU64>,
     /// The number of such ends until which no worker pauses, as others want the processors, or as there was no clock yet.
     crowded: CachePadded<AtomicU64>,
     /// Each worker's word, by the mark of the station where it takes.
@@ -68,6 +71,7 @@ impl Told {
             listener: AtomicU64::new(0),
             stop: AtomicU64::new(0),
             naps: CachePadded::new(AtomicU64::new(0)),
+            deep: CachePadded::new(AtomicU64::new(0)),
             crowded: CachePadded::new(AtomicU64::new(1)),
             words: from_fn(|_| CachePadded::new(AtomicU64::new(AWAKE as u64))),
             rooms: from_fn(|_| CachePadded::new(AtomicU64::new(0))),
@@ -221,6 +225,20 @@ impl Told {
         if word.load(SeqCst) == state as u64 {
             self.naps.fetch_add(1, SeqCst);
         }
+    }
+
+    /// One worker more sleeps deeply from its next sleep on, or one fewer.
+    pub(crate) fn changes_depth(&self, is_deep: bool) {
+        if is_deep {
+            self.deep.fetch_add(1, SeqCst);
+        } else {
+            self.deep.fetch_sub(1, SeqCst);
+        }
+    }
+
+    /// Whether some worker sleeps deeply, or is about to.
+    pub(crate) fn has_deep_sleepers(&self) -> bool {
+        self.deep.load(SeqCst) != 0
     }
 
     /// How many sleeps ended by themselves so far.
