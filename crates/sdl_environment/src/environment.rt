@@ -24,7 +24,7 @@ use sdl_outcome::EnvOut;
 use sdl_parts::Structure;
 use sdl_routes::{Routes, Station};
 use sdl_signal::{EnvRead, EnvReader, InputEnd, Item, LineSink, Names, Origin, OutputEnd};
-use std::alloc::Global;
+use std::alloc::{AllocError, Global};
 use std::io::{Read, Write};
 use std::marker::Model;
 
@@ -32,7 +32,8 @@ use std::marker::Model;
 #[derive(Drop)]
 pub struct EnvWorker {
     number: u32,
-    reader: EnvReader,
+    /// In a box, since it has a buffer of 128 KB: so the worker is handed on without that.
+    reader: Box<EnvReader>,
     pub(crate) ended: Option<InputEnd>,
     pub(crate) put: Vec<EnvOut>,
     pub(crate) hand: Hand,
@@ -47,19 +48,22 @@ impl Model for EnvWorker {
 
     ghost Value = { EnvWorking };
 
-    ghost view = { λ w. record { number = w.number; reading = w.reader; ended = w.ended; put = w.put.items; outgoing = w.hand.outgoing.items; received = w.received.items; output = w.output } };
+    ghost view = { λ w. record { number = w.number; reading = w.reader.value; ended = w.ended; put = w.put.items; outgoing = w.hand.outgoing.items; received = w.received.items; output = w.output } };
 
-    ghost invariant = { λ w. (length w.put.items ≡ w.reader.carried) × (w.reader.carried ≤ 16384) × (w.hand.kept ≡ None) × OwnEnd w.ended };
+    ghost invariant = { λ w. (length w.put.items ≡ w.reader.value.carried) × (w.reader.value.carried ≤ 16384) × (w.hand.kept ≡ None) × OwnEnd w.ended };
 }
 
 impl EnvWorker {
-    /// The environment's worker of this number, before anything was read. No memory is taken.
-    pub fn new(alloc: Global, number: u32) -> EnvWorker
-        ensures { IsEnvFresh number result }
+    /// The environment's worker of this number, before anything was read.
+    pub fn new(alloc: Global, number: u32) -> Result<EnvWorker, AllocError>
+        ensures { IfOk result (IsEnvFresh number) }
     {
-        EnvWorker {
+        let Ok(reader) = Box::new(alloc, EnvReader::new()) else {
+            return Err(AllocError);
+        };
+        Ok(EnvWorker {
             number,
-            reader: EnvReader::new(),
+            reader,
             ended: None,
             put: Vec::new(alloc),
             hand: Hand {
@@ -69,7 +73,7 @@ impl EnvWorker {
             received: Vec::new(alloc),
             sink: LineSink::new(),
             output: OutputEnd::Whole,
-        }
+        })
     }
 
     /// Whether a step waits for no reader.

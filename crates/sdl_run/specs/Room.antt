@@ -4,6 +4,7 @@ use Rattle.sdl_parts.specs.Structure.{Structure}
 use Rattle.sdl_routes.specs.declared.route.TableRow.{TableRow}
 use Rattle.sdl_opening.specs.Opens.{AreOpen}
 use Rattle.sdl_serial_run.specs.sdl_outcome.Plan.{lines_from}
+use Rattle.sdl_serial_run.specs.sdl_outcome.EnvironmentWork.{IsEnvFresh}
 use Rattle.sdl_serial_run.specs.Starting.{idle_at}
 use Rattle.sdl_serial_run.specs.sdl_block.Workers.{behaviours_of}
 use Rattle.sdl_serial_run.specs.sdl_driver.Closings.{HasRoom}
@@ -39,6 +40,7 @@ pub record IsOpened {S K I : Type 0} {F : I → Type 0} {g : _} (s : Structure) 
 -- there is all that a run in threads needs beside its blocks
 pub record IsThreadRoom {S K I : Type 0} {F : I → Type 0} {g : _} (s : Structure) (routes : List TableRow) (r : ThreadRoom S K I F g) : Type 0 where
   pub opened : IsOpened s routes r.opened
+  pub environment : IsEnvFresh (length s.blocks) r.environment
   pub room : HasRoom (length s.blocks) (length s.blocks + (length r.opened.forwarders.items + 1)) r.room
   pub room_empty : (r.room.parts.items ≡ []) × (r.room.logs.items ≡ []) × (r.room.hands.items ≡ [])
   pub started_empty : r.started.items ≡ []

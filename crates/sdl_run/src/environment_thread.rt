@@ -14,7 +14,7 @@ use std::sync::Wait;
 /// The environment with its ends, what it reads from, and what it writes to.
 #[derive(Drop)]
 pub struct EnvironmentThread<'e, 'i, 'o, I, O> {
-    /// Lent, since it has a buffer of its own, and the recursion over the workers hands this on for each of them.
+    /// Lent, since the recursion over the workers hands this on for each of them.
     pub environment: &'e mut EnvApart,
     pub ends: Ends,
     pub input: &'i mut I,

@@ -12,6 +12,7 @@ use sdl_parts::Checked;
 use sdl_routes::Routes;
 use sdl_serial_run::sdl_block::BlockWorker;
 use sdl_serial_run::sdl_driver::closing::Room;
+use sdl_serial_run::sdl_environment::EnvWorker;
 use sdl_serial_run::start::forwarders_of;
 use sdl_threads::{AtWork, BlockThread, ForwarderThread, Returned};
 use sdl_transition::Agents;
@@ -49,6 +50,8 @@ pub struct ApartRoom<S, K: Keeps = Vec<Event>> {
 #[derive(Drop)]
 pub struct ThreadRoom<S, K: Keeps = Vec<Event>> {
     pub opened: Opened<S, K>,
+    /// The environment's worker.
+    pub environment: EnvWorker,
     /// Room for the closing.
     pub room: Room<S, K>,
     /// Room for the blocks as they start.
@@ -135,9 +138,12 @@ pub fn make_thread_room<S: Agents, K: Keeps, T: Wait>(
 {
     let opened = open_all(rt, alloc, checked, routes, blocks)?;
     let room = make_closing_room(alloc, blocks, blocks + 1 + opened.forwarders.len())?;
+    checked.structure();
+    let environment = EnvWorker::new(alloc, blocks as u32)?;
     let started = Vec::with_capacity(alloc, blocks)?;
     Ok(ThreadRoom {
         opened,
+        environment,
         room,
         started,
     })

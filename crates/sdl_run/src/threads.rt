@@ -16,7 +16,6 @@ use sdl_parts::Checked;
 use sdl_routes::Routes;
 use sdl_serial_run::blocks::{gather, start_blocks};
 use sdl_serial_run::sdl_driver::closing::{Closing, StartFault};
-use sdl_serial_run::sdl_environment::EnvWorker;
 use sdl_threads::Gate;
 use sdl_transition::{Agents, BlockParts, Bound};
 use std::alloc::Global;
@@ -65,10 +64,10 @@ fn run_in<S: Agents + Send, K: Keeps + Send, G: Gate, T: Threads + Wait + Sync, 
     routes.len();
     let ThreadRoom {
         opened,
+        environment,
         room,
         started,
     } = thread_room;
-    let environment = EnvWorker::new(alloc, blocks.len() as u32);
     match start_blocks(alloc, &checked, budget, blocks, started) {
         Ok(blocks) => {
             let starting = Starting {

@@ -15,7 +15,7 @@ use sdl_parts::{Checked, Structure};
 use sdl_routes::{Hop, Routes, Station};
 use sdl_signal::{ChannelId, Item, Origin, Pid, RouteId, SetId, Signal, SignalId, Value};
 use sdl_test_systems::{Stop, routes_of};
-use std::alloc::Global;
+use std::alloc::{AllocError, Global};
 use std::process::Abort;
 use std::sync::Wait;
 use std::test::Fail;
@@ -107,17 +107,22 @@ fn comes<R: Wait>(rt: &R, before: &mut Ends) -> Result<(), Stop> {
 }
 
 /// The environment, which has not made a step.
-fn new_environment(alloc: Global, structure: &Structure, routes: &Routes, own: &Ends) -> EnvApart
+fn new_environment(
+    alloc: Global,
+    structure: &Structure,
+    routes: &Routes,
+    own: &Ends,
+) -> Result<EnvApart, AllocError>
     requires fresh { AreFresh own.now }
     requires ways { HasGateWays routes.now own.now }
-    ensures { IsEnvPuttingOut structure.now routes.now result.worker.number result.worker result.astray own.now }
+    ensures { IfOk result (λ e. IsEnvPuttingOut structure.now routes.now e.worker.number e.worker e.astray own.now) }
 {
     new_environments_are_putting_out();
     structure.names();
     routes.len();
     own.has_feed(Station::Outlet);
-    let worker = EnvWorker::new(alloc, ENVIRONMENT);
-    EnvApart::new(worker)
+    let worker = EnvWorker::new(alloc, ENVIRONMENT)?;
+    Ok(EnvApart::new(worker))
 }
 
 /// With a line to read and the answer at the outlet, one step reads the line and writes the answer's.
@@ -134,7 +139,7 @@ fn step_once<R: Wait + Abort>(
     requires ways { HasGateWays routes.now own }
 {
     let mut own = own;
-    let mut environment = new_environment(alloc, structure, routes, &own);
+    let mut environment = new_environment(alloc, structure, routes, &own)?;
     let routed = RoutedStructure { structure, routes };
     let mut input: &[u8] = b"line ping 8\n";
     let mut written = Vec::new(alloc);

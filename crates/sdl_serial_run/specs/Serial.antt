@@ -20,6 +20,7 @@ use Rattle.sdl_driver.specs.declared.closing.StartFault.TheVariants as fault
 use Rattle.sdl_serial_run.specs.declared.start.StartRoom.{StartRoom}
 use Rattle.sdl_driver.specs.Closings.{IsSameBound, HasRoom}
 use Rattle.sdl_driver.specs.sdl_outcome.Plan.{Plan, lines_from}
+use Rattle.sdl_driver.specs.sdl_outcome.EnvironmentWork.{IsEnvFresh}
 use Rattle.sdl_serial_run.specs.Starting.{idle_at}
 
 -- the first core of a block with these parts
@@ -44,6 +45,7 @@ pub record IsStartRoom {S K I : Type 0} {F : I → Type 0} {g : _} (s : Structur
   pub board : IsBoardOf routes start_room.board
   pub empty : (t : Station) → waiting start_room.board t ≡ []
   pub forwarders : start_room.forwarders.items ≡ map idle_at (lines_from 0 s.channels)
+  pub environment : IsEnvFresh blocks start_room.environment
   pub room : HasRoom blocks (blocks + (length start_room.forwarders.items + 1)) start_room.room
   pub room_empty : (start_room.room.parts.items ≡ []) × (start_room.room.logs.items ≡ []) × (start_room.room.hands.items ≡ [])
   pub workers : start_room.workers.items ≡ []

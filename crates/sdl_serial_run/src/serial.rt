@@ -13,7 +13,6 @@ use crate::blocks::{gather, start_blocks};
 use crate::start::{StartRoom, make_start_room};
 use sdl_driver::Driver;
 use sdl_driver::closing::{Closing, Room, StartFault};
-use sdl_driver::sdl_environment::EnvWorker;
 use sdl_driver::sdl_instances::bounds::parts_are_bound;
 use sdl_driver::sdl_log::Keeps;
 use sdl_driver::sdl_parts::Checked;
@@ -88,10 +87,10 @@ fn run_in<S: Agents, K: Keeps, R: Read, W: Write>(
     let StartRoom {
         board,
         forwarders,
+        environment,
         room,
         workers,
     } = start_room;
-    let environment = EnvWorker::new(alloc, blocks.len() as u32);
     match start_blocks(alloc, &checked, budget, blocks, workers) {
         Ok(blocks) => Ok(drive(
             Driver {

@@ -7,6 +7,7 @@ ghost use Rattle.sdl_serial_run.specs.Starting.{idle_at};
 
 use sdl_driver::closing::Room;
 use sdl_driver::sdl_block::BlockWorker;
+use sdl_driver::sdl_environment::EnvWorker;
 use sdl_driver::sdl_forward::{Board, Forwarder};
 use sdl_driver::sdl_log::{Event, Keeps};
 use sdl_driver::sdl_parts::{Channel, Checked};
@@ -15,11 +16,12 @@ use sdl_driver::sdl_signal::{ChannelId, SignalId};
 use sdl_driver::sdl_transition::Agents;
 use std::alloc::{AllocError, Global};
 
-/// What a run takes before its blocks: the board, the forwarders, the lists of its closing, and room for the blocks.
+/// What a run takes before its blocks: the board, the forwarders, the environment, the lists of its closing, and room for the blocks.
 #[derive(Drop)]
 pub(crate) struct StartRoom<S, K: Keeps = Vec<Event>> {
     pub board: Board,
     pub forwarders: Vec<Forwarder>,
+    pub environment: EnvWorker,
     pub room: Room<S, K>,
     pub workers: Vec<BlockWorker<S, K>>,
 }
@@ -58,11 +60,13 @@ pub(crate) fn make_start_room<S: Agents, K: Keeps>(
     let structure = checked.structure();
     let board = Board::new(alloc, routes)?;
     let forwarders = forwarders_of(alloc, structure.channels())?;
+    let environment = EnvWorker::new(alloc, blocks as u32)?;
     let room = make_room(alloc, blocks, blocks + 1 + forwarders.len())?;
     let workers = Vec::with_capacity(alloc, blocks)?;
     Ok(StartRoom {
         board,
         forwarders,
+        environment,
         room,
         workers,
     })

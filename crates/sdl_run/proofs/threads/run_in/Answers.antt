@@ -5,7 +5,7 @@ use Rattle.sdl_serial_run.specs.sdl_block.Workers.{behaviours_of}
 use Rattle.sdl_serial_run.specs.sdl_driver.Closings.{outcome_in}
 use Rattle.sdl_serial_run.proofs.driving.Closes.{system_kept}
 use Rattle.sdl_serial_run.proofs.Begins.{room_for}
-use Rattle.sdl_serial_run.proofs.Fresh.{all_same, parts_count, env_fresh}
+use Rattle.sdl_serial_run.proofs.Fresh.{all_same, parts_count}
 use Rattle.sdl_run.proofs.Whole.{can_fire, system_parked, room_parked, ended_parked, bound_parked, reading_parked, writing_parked}
 use Rattle.sdl_run.proofs.threads.run_in.Goals as goal
 
@@ -27,15 +27,15 @@ run_apart-stopped-requires-clause-fire g c κs outlives =
 
 pub run_apart-stopped-requires-clause-environment : goal.run_apart-stopped-requires-clause-environment
 run_apart-stopped-requires-clause-environment g c κs outlives =
-    env_fresh c.len-2.result (length c.args.system.checked.blocks) c.new-environment.result (omega (arith, c.len-2.ensures, c.requires.system.distributed.blocks_are)) c.new-environment.ensures
+    c.requires.room.environment
 
 pub settle-requires-clause-system : goal.settle-requires-clause-system
 settle-requires-clause-system g c =
-    system_parked g.S.Agents.may (record { checked = c.args.system.checked; routes = c.args.system.routes; blocks = c.in-Ok.blocks; environment = c.new-environment.result; budget = c.args.system.budget }) c.args.system.blocks.items c.run_apart-stopped.result.parked c.run_apart-stopped.ensures.same c.in-Ok.ensures.parts c.requires.system
+    system_parked g.S.Agents.may (record { checked = c.args.system.checked; routes = c.args.system.routes; blocks = c.in-Ok.blocks; environment = c.args.thread_room.environment; budget = c.args.system.budget }) c.args.system.blocks.items c.run_apart-stopped.result.parked c.run_apart-stopped.ensures.same c.in-Ok.ensures.parts c.requires.system
 
 pub settle-requires-clause-room : goal.settle-requires-clause-room
 settle-requires-clause-room g c =
-    room_parked g.S.Agents.may (record { checked = c.args.system.checked; routes = c.args.system.routes; blocks = c.in-Ok.blocks; environment = c.new-environment.result; budget = c.args.system.budget }) c.args.system.blocks.items c.run_apart-stopped.result.parked c.run_apart-stopped.ensures.same c.in-Ok.ensures.parts
+    room_parked g.S.Agents.may (record { checked = c.args.system.checked; routes = c.args.system.routes; blocks = c.in-Ok.blocks; environment = c.args.thread_room.environment; budget = c.args.system.budget }) c.args.system.blocks.items c.run_apart-stopped.result.parked c.run_apart-stopped.ensures.same c.in-Ok.ensures.parts
     c.args.thread_room.room c.args.thread_room.opened.forwarders.items c.requires.room.opened.forwarders c.requires.system.distributed.blocks_are c.run_apart-stopped.ensures.parked c.requires.room.room
 
 pub gather-parts-requires-clause-room : goal.gather-parts-requires-clause-room
@@ -50,20 +50,20 @@ of_blocks-requires g c =
 
 pub returns-in-Ok-clause-ended : goal.returns-in-Ok-clause-ended
 returns-in-Ok-clause-ended g c =
-    ended_parked g.S.Agents.may (record { checked = c.args.system.checked; routes = c.args.system.routes; blocks = c.in-Ok.blocks; environment = c.new-environment.result; budget = c.args.system.budget }) c.args.system.blocks.items c.run_apart-stopped.result.parked c.run_apart-stopped.ensures.same c.in-Ok.ensures.parts
+    ended_parked g.S.Agents.may (record { checked = c.args.system.checked; routes = c.args.system.routes; blocks = c.in-Ok.blocks; environment = c.args.thread_room.environment; budget = c.args.system.budget }) c.args.system.blocks.items c.run_apart-stopped.result.parked c.run_apart-stopped.ensures.same c.in-Ok.ensures.parts
     (outcome_in g.K.Keeps.events c.settle.result) c.settle.result.end c.settle.result.ledger c.settle.ensures.ended
 
 pub returns-in-Ok-clause-reading : goal.returns-in-Ok-clause-reading
 returns-in-Ok-clause-reading g c =
-    reading_parked g.S.Agents.may (record { checked = c.args.system.checked; routes = c.args.system.routes; blocks = c.in-Ok.blocks; environment = c.new-environment.result; budget = c.args.system.budget }) c.args.system.blocks.items c.run_apart-stopped.result.parked c.run_apart-stopped.ensures.same c.in-Ok.ensures.parts
+    reading_parked g.S.Agents.may (record { checked = c.args.system.checked; routes = c.args.system.routes; blocks = c.in-Ok.blocks; environment = c.args.thread_room.environment; budget = c.args.system.budget }) c.args.system.blocks.items c.run_apart-stopped.result.parked c.run_apart-stopped.ensures.same c.in-Ok.ensures.parts
     c.settle.result _ _ _ c.run_apart-stopped.ensures.reading c.settle.ensures.reading
 
 pub returns-in-Ok-clause-writing : goal.returns-in-Ok-clause-writing
 returns-in-Ok-clause-writing g c =
-    writing_parked g.S.Agents.may (record { checked = c.args.system.checked; routes = c.args.system.routes; blocks = c.in-Ok.blocks; environment = c.new-environment.result; budget = c.args.system.budget }) c.args.system.blocks.items c.run_apart-stopped.result.parked c.run_apart-stopped.ensures.same c.in-Ok.ensures.parts
+    writing_parked g.S.Agents.may (record { checked = c.args.system.checked; routes = c.args.system.routes; blocks = c.in-Ok.blocks; environment = c.args.thread_room.environment; budget = c.args.system.budget }) c.args.system.blocks.items c.run_apart-stopped.result.parked c.run_apart-stopped.ensures.same c.in-Ok.ensures.parts
     c.settle.result _ _ _ c.run_apart-stopped.ensures.writing c.settle.ensures.writing
 
 pub returns-in-Ok-clause-bound : goal.returns-in-Ok-clause-bound
 returns-in-Ok-clause-bound g c =
-    bound_parked g.S.Agents.may (record { checked = c.args.system.checked; routes = c.args.system.routes; blocks = c.in-Ok.blocks; environment = c.new-environment.result; budget = c.args.system.budget }) c.args.system.blocks.items c.run_apart-stopped.result.parked c.run_apart-stopped.ensures.same c.in-Ok.ensures.parts
+    bound_parked g.S.Agents.may (record { checked = c.args.system.checked; routes = c.args.system.routes; blocks = c.in-Ok.blocks; environment = c.args.thread_room.environment; budget = c.args.system.budget }) c.args.system.blocks.items c.run_apart-stopped.result.parked c.run_apart-stopped.ensures.same c.in-Ok.ensures.parts
     c.settle.result.bound c.settle.ensures.bound

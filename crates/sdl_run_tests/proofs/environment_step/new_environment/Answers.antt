@@ -7,8 +7,8 @@ returns c =
     let s = c.args.structure.now in
     let rows = c.args.routes.now in
     let own = c.args.own.now in
-    let w = c.new-worker.result in
-    let first = c.new_environments_are_putting_out.ensures s rows _ w own c.new-worker.ensures c.requires.fresh c.requires.ways in
-    subst (λ a. IsEnvPuttingOut s rows c.new.result.worker.number c.new.result.worker a own) (sym c.new.ensures.astray)
-    (subst (λ v. IsEnvPuttingOut s rows v.number v None own) (sym c.new.ensures.worker)
-    (subst (λ n. IsEnvPuttingOut s rows n w None own) (sym c.new-worker.ensures.number) first))
+    let w = c.in_ok-worker.worker in
+    let first = c.new_environments_are_putting_out.ensures s rows _ w own c.in_ok-worker.ensures c.requires.fresh c.requires.ways in
+    subst (λ a. IsEnvPuttingOut s rows c.new-2.result.worker.number c.new-2.result.worker a own) (sym c.new-2.ensures.astray)
+    (subst (λ v. IsEnvPuttingOut s rows v.number v None own) (sym c.new-2.ensures.worker)
+    (subst (λ n. IsEnvPuttingOut s rows n w None own) (sym c.in_ok-worker.ensures.number) first))

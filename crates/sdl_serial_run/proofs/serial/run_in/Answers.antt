@@ -19,18 +19,18 @@ start_blocks-requires-clause-bound g c =
 
 pub drive-requires-clause-driving : goal.drive-requires-clause-driving
 drive-requires-clause-driving g c =
-    let count : c.len-2.result ≡ length c.args.system.checked.blocks = omega (arith, c.len-2.ensures, c.requires.system.distributed.blocks_are) in
+    let count : length c.args.system.blocks.items ≡ length c.args.system.checked.blocks = omega (arith, c.requires.system.distributed.blocks_are) in
     let system = system_kept g.S.Agents.may c.args.system.checked c.args.system.routes c.args.system.blocks.items (map behaviours_of c.in-Ok.blocks.items) c.in-Ok.ensures.parts c.requires.system in
-    driving g.S.Agents.may (record { checked = c.args.system.checked; routes = c.args.system.routes; blocks = c.in-Ok.blocks; environment = c.new-environment.result; forwarders = c.args.start_room.forwarders; board = c.args.start_room.board; budget = c.args.budget })
-    c.in-Ok.ensures.new system (env_fresh c.len-2.result (length c.args.system.checked.blocks) c.new-environment.result count c.new-environment.ensures) c.requires.start_room.forwarders c.requires.start_room.board c.requires.start_room.empty c.as_slice.result.now (c.as_slice.ensures.value ∙ sym c.in-Ok.ensures.parts)
+    driving g.S.Agents.may (record { checked = c.args.system.checked; routes = c.args.system.routes; blocks = c.in-Ok.blocks; environment = c.args.start_room.environment; forwarders = c.args.start_room.forwarders; board = c.args.start_room.board; budget = c.args.budget })
+    c.in-Ok.ensures.new system (env_fresh (length c.args.system.blocks.items) (length c.args.system.checked.blocks) c.args.start_room.environment count c.requires.start_room.environment) c.requires.start_room.forwarders c.requires.start_room.board c.requires.start_room.empty c.as_slice.result.now (c.as_slice.ensures.value ∙ sym c.in-Ok.ensures.parts)
     c.structure.ensures.is_structure c.len.ensures.table c.parts_are_bound.ensures.allowed c.parts_are_bound.ensures.indexed
 
 pub drive-requires-clause-fresh : goal.drive-requires-clause-fresh
 drive-requires-clause-fresh g c =
-    let count : c.len-2.result ≡ length c.args.system.checked.blocks = omega (arith, c.len-2.ensures, c.requires.system.distributed.blocks_are) in
+    let count : length c.args.system.blocks.items ≡ length c.args.system.checked.blocks = omega (arith, c.requires.system.distributed.blocks_are) in
     let system = system_kept g.S.Agents.may c.args.system.checked c.args.system.routes c.args.system.blocks.items (map behaviours_of c.in-Ok.blocks.items) c.in-Ok.ensures.parts c.requires.system in
-    fresh g.S.Agents.may (record { checked = c.args.system.checked; routes = c.args.system.routes; blocks = c.in-Ok.blocks; environment = c.new-environment.result; forwarders = c.args.start_room.forwarders; board = c.args.start_room.board; budget = c.args.budget })
-    c.in-Ok.ensures.new system (env_fresh c.len-2.result (length c.args.system.checked.blocks) c.new-environment.result count c.new-environment.ensures) c.requires.start_room.forwarders c.requires.start_room.board c.requires.start_room.empty
+    fresh g.S.Agents.may (record { checked = c.args.system.checked; routes = c.args.system.routes; blocks = c.in-Ok.blocks; environment = c.args.start_room.environment; forwarders = c.args.start_room.forwarders; board = c.args.start_room.board; budget = c.args.budget })
+    c.in-Ok.ensures.new system (env_fresh (length c.args.system.blocks.items) (length c.args.system.checked.blocks) c.args.start_room.environment count c.requires.start_room.environment) c.requires.start_room.forwarders c.requires.start_room.board c.requires.start_room.empty
 
 pub drive-requires-clause-system : goal.drive-requires-clause-system
 drive-requires-clause-system g c = system_kept g.S.Agents.may c.args.system.checked c.args.system.routes c.args.system.blocks.items (map behaviours_of c.in-Ok.blocks.items) c.in-Ok.ensures.parts c.requires.system
@@ -53,10 +53,10 @@ of_blocks-requires g c = system_kept g.S.Agents.may c.args.system.checked c.args
 
 pub returns-in-Ok-clause-ended : goal.returns-in-Ok-clause-ended
 returns-in-Ok-clause-ended g c =
-    ended_of g.S.Agents.may (record { checked = c.args.system.checked; routes = c.args.system.routes; blocks = c.in-Ok.blocks; environment = c.new-environment.result; forwarders = c.args.start_room.forwarders; board = c.args.start_room.board; budget = c.args.budget })
+    ended_of g.S.Agents.may (record { checked = c.args.system.checked; routes = c.args.system.routes; blocks = c.in-Ok.blocks; environment = c.args.start_room.environment; forwarders = c.args.start_room.forwarders; board = c.args.start_room.board; budget = c.args.budget })
     c.args.system.blocks.items (outcome_in g.K.Keeps.events c.drive.result) c.drive.result.end c.drive.result.ledger c.in-Ok.ensures.parts c.drive.ensures.ended
 
 pub returns-in-Ok-clause-run : goal.returns-in-Ok-clause-run
 returns-in-Ok-clause-run g c =
-    run_of g.S.Agents.may (record { checked = c.args.system.checked; routes = c.args.system.routes; blocks = c.in-Ok.blocks; environment = c.new-environment.result; forwarders = c.args.start_room.forwarders; board = c.args.start_room.board; budget = c.args.budget })
+    run_of g.S.Agents.may (record { checked = c.args.system.checked; routes = c.args.system.routes; blocks = c.in-Ok.blocks; environment = c.args.start_room.environment; forwarders = c.args.start_room.forwarders; board = c.args.start_room.board; budget = c.args.budget })
     c.args.system.blocks.items c.args.schedule.now g.K.Keeps.events c.drive.result c.in-Ok.ensures.parts c.drive.ensures.run

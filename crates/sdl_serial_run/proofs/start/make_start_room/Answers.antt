@@ -12,6 +12,7 @@ returns g c =
       board = c.in_ok-board.ensures.stations;
       empty = c.in_ok-board.ensures.empty;
       forwarders = c.in_ok-forwarders.ensures ∙ ap (λ (cs : List Channel). map idle_at (lines_from 0 cs)) (c.channels.ensures ∙ ap (λ (s : Structure). s.channels) c.structure-structure.ensures.structure);
+      environment = c.in_ok-environment.ensures;
       room = room_as c.in_ok-room.room c.args.blocks _ c.args.blocks (c.args.blocks + (length c.in_ok-forwarders.forwarders.items + 1)) refl (omega (arith, c.len.ensures)) c.in_ok-room.ensures.room;
       room_empty = c.in_ok-room.ensures.empty;
       workers = c.in_ok-workers.ensures.items;

@@ -14,7 +14,7 @@ returns-in-Line-clause-reading g c = λ start read.
     let new : EnvWorking =
     record { number = c.self.inside.number; reading = c.next.new.self; ended = c.self.inside.ended; put = c.push_reserved.new.self.items; outgoing = c.send.new.hand.outgoing.items; received = c.self.inside.received.items; output = c.self.inside.output } in
     let none : c.self.inside.ended ≡ None = search rules in
-    let reading : c.self.inside.reader ≡ old.reading = ap (λ (w : EnvWorking). w.reading) c.self.view_is in
+    let reading : c.deref_mut.result.now ≡ old.reading = c.deref_mut.ensures.value ∙ ap (λ (w : EnvWorking). w.reading) c.self.view_is in
     let was : c.self.inside.put.items ≡ old.put = ap (λ (w : EnvWorking). w.put) c.self.view_is in
     let put : c.push_reserved.new.self.items ≡ old.put ++ out ∷ [] = c.push_reserved.ensures.items ∙ ap (λ items. items ++ out ∷ []) (c.reserve.ensures.items ∙ was) in
     let items : c.reserve.new.self.items ≡ old.put = c.reserve.ensures.items ∙ was in
