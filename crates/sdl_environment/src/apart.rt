@@ -3,6 +3,8 @@ ghost use Rattle.std.specs.Prelude.{◌≡◌, ◌≢◌, ◌≤◌, ◌<◌, �
 ghost use Rattle.sdl_signal.specs.declared.values.Item.{Item};
 ghost use Rattle.sdl_signal.specs.Bytes.{HasNoNewline};
 ghost use Rattle.sdl_signal.specs.Source.{HoldsLine};
+ghost use Rattle.sdl_signal.specs.declared.sources.Ended.{Ended};
+ghost use Rattle.sdl_signal.specs.declared.ends.InputEnd.{InputEnd};
 ghost use Rattle.sdl_parts.specs.Structure.{IsStructure};
 ghost use Rattle.sdl_routes.specs.Routes.{AreRoutesOf};
 ghost use Rattle.sdl_ends.specs.Ends.{IsSameEnds};
@@ -84,6 +86,11 @@ impl EnvApart {
             → HasWrittenSoFar routed.entry.structure.now routed.entry.routes.now self.old.worker.number start (W.contents output.new) self.new.worker }
         ensures keeps { IsEnvPuttingOut routed.entry.structure.now routed.entry.routes.now self.new.worker.number self.new.worker self.new.astray ends.new }
         ensures number { self.new.worker.number ≡ self.old.worker.number }
+        // Where the reading has ended, where its next answer is told already, and where an item is astray, the reader is not asked.
+        ensures ended { (e : InputEnd) → self.old.worker.ended ≡ Some e → input.new ≡ input.old }
+        ensures past { (e : Ended) → self.old.worker.reading.source.ended ≡ Some e → input.new ≡ input.old }
+        ensures unread { self.old.worker.reading.source.ended ≡ None → HoldsLine self.old.worker.reading.source.ahead → input.new ≡ input.old }
+        ensures untouched { (i : Item) → self.old.astray ≡ Some i → (input.new ≡ input.old) × (output.new ≡ output.old) }
         ensures ends { IsSameEnds ends.old ends.new }
     {
         if self.astray.is_some() {
@@ -162,6 +169,9 @@ impl EnvApart {
             → HasReadSoFar routed.entry.structure.now routed.entry.routes.now self.old.worker.number start (R.remaining input.new) self.new.worker }
         ensures writing { (start : Option (List ℕ)) → HasWrittenSoFar routed.entry.structure.now routed.entry.routes.now self.old.worker.number start (W.contents output.old) self.old.worker
             → HasWrittenSoFar routed.entry.structure.now routed.entry.routes.now self.old.worker.number start (W.contents output.new) self.new.worker }
+        ensures ended { (e : InputEnd) → self.old.worker.ended ≡ Some e → input.new ≡ input.old }
+        ensures past { (e : Ended) → self.old.worker.reading.source.ended ≡ Some e → input.new ≡ input.old }
+        ensures unread { self.old.worker.reading.source.ended ≡ None → HoldsLine self.old.worker.reading.source.ahead → input.new ≡ input.old }
         ensures ends { IsSameEnds ends.old ends.new }
     {
         let RoutedStructure { structure, routes } = routed;
@@ -194,6 +204,9 @@ impl EnvWorker {
         ensures on { IfOk result (λ did. SentOn self.old self.new) }
         ensures reading { (start : Option (List ℕ)) → HasReadSoFar structure.now routes.now self.old.number start (R.remaining input.old) self.old
             → HasReadSoFar structure.now routes.now self.old.number start (R.remaining input.new) self.new }
+        ensures ended { (e : InputEnd) → self.old.ended ≡ Some e → input.new ≡ input.old }
+        ensures past { (e : Ended) → self.old.reading.source.ended ≡ Some e → input.new ≡ input.old }
+        ensures unread { self.old.reading.source.ended ≡ None → HoldsLine self.old.reading.source.ahead → input.new ≡ input.old }
         ensures ends { IsSameEnds ends.old ends.new }
     {
         let names = structure.names();

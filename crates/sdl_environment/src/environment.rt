@@ -1,7 +1,9 @@
 //! The environment at work: it reads lines and outputs their signals, and writes what it receives as lines.
-ghost use Rattle.std.specs.Prelude.{◌≡◌, ◌≢◌, ◌≤◌, ◌<◌, ℕ, List, length, [], true, false, Option, None, All, IfOk};
+ghost use Rattle.std.specs.Prelude.{◌≡◌, ◌≢◌, ◌≤◌, ◌<◌, ℕ, List, length, [], true, false, Option, Some, None, All, IfOk};
 ghost use Rattle.sdl_signal.specs.Bytes.{HasNoNewline};
 ghost use Rattle.sdl_signal.specs.Source.{HoldsLine};
+ghost use Rattle.sdl_signal.specs.declared.sources.Ended.{Ended};
+ghost use Rattle.sdl_signal.specs.declared.ends.InputEnd.{InputEnd};
 ghost use Rattle.sdl_signal.specs.declared.values.Item.{Item};
 ghost use Rattle.sdl_parts.specs.Structure.{IsStructure};
 ghost use Rattle.sdl_routes.specs.declared.route.Station.{Station};
@@ -119,6 +121,10 @@ impl EnvWorker {
             → HasReadSoFar structure.now routes.now self.old.number start (R.remaining input.new) self.new }
         ensures writing { (start : Option (List ℕ)) → HasWrittenSoFar structure.now routes.now self.old.number start (W.contents output.old) self.old
             → HasWrittenSoFar structure.now routes.now self.old.number start (W.contents output.new) self.new }
+        // Where the reading has ended, and where its next answer is told already, the reader is not asked.
+        ensures ended { (e : InputEnd) → self.old.ended ≡ Some e → input.new ≡ input.old }
+        ensures past { (e : Ended) → self.old.reading.source.ended ≡ Some e → input.new ≡ input.old }
+        ensures unread { self.old.reading.source.ended ≡ None → HoldsLine self.old.reading.source.ahead → input.new ≡ input.old }
         ensures board { IsBoardOf routes.now board.new }
     {
         answer_of(self.try_step(structure, routes, board, pick, input, output))
@@ -146,6 +152,9 @@ impl EnvWorker {
             → HasReadSoFar structure.now routes.now self.old.number start (R.remaining input.new) self.new }
         ensures writing { (start : Option (List ℕ)) → HasWrittenSoFar structure.now routes.now self.old.number start (W.contents output.old) self.old
             → HasWrittenSoFar structure.now routes.now self.old.number start (W.contents output.new) self.new }
+        ensures ended { (e : InputEnd) → self.old.ended ≡ Some e → input.new ≡ input.old }
+        ensures past { (e : Ended) → self.old.reading.source.ended ≡ Some e → input.new ≡ input.old }
+        ensures unread { self.old.reading.source.ended ≡ None → HoldsLine self.old.reading.source.ahead → input.new ≡ input.old }
         ensures board { IsBoardOf routes.now board.new }
     {
         let names = structure.names();
@@ -182,6 +191,10 @@ impl EnvWorker {
         ensures pick { ReadsAt routes.now pick self.old self.new }
         ensures reading { (start : Option (List ℕ)) → HasReadBy names.now routes.now self.old.number start (R.remaining input.old) self.old
             → HasReadBy names.now routes.now self.old.number start (R.remaining input.new) self.new }
+        // Where the reading has ended, and where its next answer is told already, the reader is not asked.
+        ensures ended { (e : InputEnd) → self.old.ended ≡ Some e → input.new ≡ input.old }
+        ensures past { (e : Ended) → self.old.reading.source.ended ≡ Some e → input.new ≡ input.old }
+        ensures unread { self.old.reading.source.ended ≡ None → HoldsLine self.old.reading.source.ahead → input.new ≡ input.old }
     {
         if self.ended.is_some() {
             return Ok(false);
