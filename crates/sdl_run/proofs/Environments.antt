@@ -1,13 +1,17 @@
 -- What the environment's steps keep, from the start of the run on.
-use Rattle.std.proofs.Common.{ℕ, List, Option, ◌≡◌, sym, ◌∙◌, subst}
+use Rattle.std.proofs.Common.{ℕ, List, Option, ◌≡◌, sym, ◌∙◌, subst, take}
+use Rattle.std.proofs.KnownBytes.{Appends-kept}
+use Rattle.std.specs.Io.KnownBytes.{Keeps}
 use Rattle.sdl_signal.specs.declared.values.Item.{Item}
-use Rattle.sdl_parts.specs.Structure.{Structure}
+use Rattle.sdl_signal.specs.declared.ends.OutputEnd.{OutputEnd}
+use Rattle.sdl_signal.specs.declared.ends.OutputEnd.TheVariants as output
+use Rattle.sdl_parts.specs.Structure.{Structure, lexicon_of}
 use Rattle.sdl_routes.specs.declared.route.TableRow.{TableRow}
 use Rattle.sdl_routes.specs.declared.route.Station.{Station}
 use Rattle.sdl_ends.specs.Ends.{WorkerEnds, IsSameEnds, put_at}
 use Rattle.sdl_hand.proofs.FrontsApart.{has_feed_still}
 use Rattle.sdl_threads.proofs.Flushes.{taken_same}
-use Rattle.sdl_serial_run.specs.sdl_outcome.EnvironmentWork.{EnvWorking, HasReadSoFar, HasWrittenSoFar}
+use Rattle.sdl_serial_run.specs.sdl_outcome.EnvironmentWork.{EnvWorking, HasReadSoFar, HasWritten, HasWrittenSoFar, received_text}
 use Rattle.sdl_serial_run.specs.sdl_environment.EnvApart.{IsEnvPuttingOut}
 use Rattle.sdl_run.specs.Environment.{KeepsEnvironment}
 
@@ -53,3 +57,26 @@ flushed s rows w astray old new read_from read_to written_from written_to puts t
       reading = kept.reading;
       writing = kept.writing;
     }
+
+-- bytes that were written stay written where what is known of them stays
+written_still : (start now later : Option (List ℕ)) (text : List ℕ) (end : OutputEnd) → HasWritten start now text end → Keeps now later → HasWritten start later text end
+written_still start now later text output.Whole h keeps = Appends-kept start now later text h keeps
+written_still start now later text output.WriteFault h keeps = (h.0, h.1, Appends-kept start now later (take h.0 text) h.2 keeps)
+
+-- where its output is flushed, and all else is as it was
+pub written_out : (s : Structure) (rows : List TableRow) (old new : EnvWorking) (was is : Option Item) (before after : WorkerEnds) (read_from read_to read_later written_from written_to written_later : Option (List ℕ))
+    → KeepsEnvironment s rows old was before read_from read_to written_from written_to → new ≡ old → is ≡ was → after ≡ before → read_later ≡ read_to → Keeps written_to written_later
+    → KeepsEnvironment s rows new is after read_from read_later written_from written_later
+written_out s rows old new was is before after read_from read_to read_later written_from written_to written_later kept same_worker same_astray same_ends same_reading keeps =
+    let flushed : KeepsEnvironment s rows old was before read_from read_to written_from written_later =
+    record {
+      structure = kept.structure;
+      routes = kept.routes;
+      putting = kept.putting;
+      reading = kept.reading;
+      writing = written_still written_from written_to written_later (received_text (lexicon_of s) rows old.received) old.output kept.writing keeps;
+    } in
+    subst (λ (w : EnvWorking). KeepsEnvironment s rows w is after read_from read_later written_from written_later) (sym same_worker)
+    (subst (λ (a : Option Item). KeepsEnvironment s rows old a after read_from read_later written_from written_later) (sym same_astray)
+    (subst (λ (e : WorkerEnds). KeepsEnvironment s rows old was e read_from read_later written_from written_later) (sym same_ends)
+    (subst (λ (r : Option (List ℕ)). KeepsEnvironment s rows old was before read_from r written_from written_later) (sym same_reading) flushed)))

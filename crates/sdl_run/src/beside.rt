@@ -111,6 +111,7 @@ pub fn run_beside<
         output,
         started_input,
         started_output,
+        idle_steps: 0,
     };
     let team = Team {
         workers,
@@ -126,6 +127,7 @@ pub fn run_beside<
         output,
         started_input: _started_input,
         started_output: _started_output,
+        idle_steps: _idle_steps,
     } = environment;
     take_back(environment);
     take_back(input);

@@ -1,5 +1,6 @@
 //! The environment at work on the thread that starts the others.
 ghost use Rattle.std.specs.Prelude.{◌≡◌};
+ghost use Rattle.std.specs.Io.KnownBytes.{Keeps};
 
 use sdl_ends::{Ends, Marks};
 use sdl_hand::Stepped;
@@ -23,13 +24,39 @@ pub struct EnvironmentThread<'e, 'i, 'o, I, O> {
     pub started_input: Snapshot<I>,
     /// The output as it was when the run started, for contracts alone.
     pub started_output: Snapshot<O>,
+    /// How many steps in a row found nothing to take, as the reader might not be asked yet.
+    pub idle_steps: u32,
 }
+
+/// At which of such steps the output is flushed: what came before goes out while the others are at work, and not once for each
+/// signal where the next one comes at once.
+const FLUSHED_AT: u32 = 4;
 
 impl<'e, 'i, 'o, I: Read, O: Write> EnvironmentThread<'e, 'i, 'o, I, O> {
     /// Whether the next step is not held back until the others rest: it waits for no reader, or for one that had more to give when
     /// it was read last, and broke off within a line, so that nobody waits there for an answer.
     fn reads_on(&self) -> bool {
         self.environment.is_ready() || self.environment.breaks_off()
+    }
+
+    /// A step that asks no reader took an item or found none. Where several in a row found none, the output is flushed. A fault of
+    /// the writer is told by whoever writes next.
+    fn lets_out(&mut self, received: Stepped)
+        ensures environment { self.new.environment ≡ self.old.environment }
+        ensures ends { self.new.ends ≡ self.old.ends }
+        ensures input { self.new.input ≡ self.old.input }
+        ensures started { (self.new.started_input ≡ self.old.started_input) × (self.new.started_output ≡ self.old.started_output) }
+        ensures name { self.new.output.ghost_name ≡ self.old.output.ghost_name }
+        ensures output { Keeps (O.contents self.old.output.now) (O.contents self.new.output.now) }
+    {
+        if received != Stepped::Idle {
+            self.idle_steps = 0;
+            return;
+        }
+        self.idle_steps = self.idle_steps.saturating_add(1);
+        if self.idle_steps == FLUSHED_AT {
+            let _ = self.output.flush();
+        }
     }
 }
 
@@ -62,6 +89,7 @@ impl<'e, 'i, 'o, I: Read, O: Write> Work for EnvironmentThread<'e, 'i, 'o, I, O>
     ) -> Stepped {
         let routed = RoutedStructure { structure, routes };
         if self.reads_on() {
+            self.idle_steps = 0;
             return self
                 .environment
                 .step(rt, routed, &mut self.ends, pick, self.input, self.output);
@@ -70,8 +98,10 @@ impl<'e, 'i, 'o, I: Read, O: Write> Work for EnvironmentThread<'e, 'i, 'o, I, O>
             .environment
             .receive(rt, structure, routes, &mut self.ends, self.output);
         if !may_ask || received != Stepped::Idle {
+            self.lets_out(received);
             return received;
         }
+        self.idle_steps = 0;
         self.environment
             .step(rt, routed, &mut self.ends, pick, self.input, self.output)
     }

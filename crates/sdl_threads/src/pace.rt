@@ -26,15 +26,12 @@ impl Gate for OpenGate {
     fn before(&self, _worker: u32, _step: u64) {}
 }
 
-/// A sleep ends after this time, whether or not somebody ended it.
-const NAP_MICROS: u64 = 8_000;
-
-/// After how many such sleeps in a row a worker at rest sleeps deeply, where all others but one rest too. So a quiet system costs
-/// next to no processor time.
+/// After how many sleeps in a row a worker at rest sleeps deeply, where all others but one rest too. So a quiet system costs next
+/// to no processor time.
 const LIGHT_NAPS: u32 = 32;
 
-/// A deep sleep ends after this time.
-const DEEP_NAP_MICROS: u64 = 1_000_000;
+/// As long as so many other sleeps a deep one takes, unless somebody ends it: a second.
+const DEEP_NAPS: u64 = 125;
 
 /// After how many steps that did something a worker wakes those that take what it put, unless it has nothing more to do before.
 /// Where a step takes long, their sleep ends by itself before.
@@ -46,18 +43,25 @@ const FIRST_UNTOLD: u32 = 8;
 /// After how many steps that did something a worker wakes who waits for room where it takes: half a ring.
 const MOST_ROOM: u32 = 32;
 
-/// After how many sleeps in a row a worker asks outside the system although the others are not at rest: some systems never are.
-/// That many take half a second, in which nobody did anything, as the others wait for a processor or are in one long step.
-const MOST_NAPS: u32 = 60;
+/// After how many sleeps in a row that ended by themselves a worker asks outside the system although the others are not at rest, where
+/// they made many steps meanwhile: some systems never rest. So many take 80 ms.
+const FEW_NAPS: u32 = 10;
 
-/// For how many of these a sleep counts in which another worker did something: ten of them take 80 ms.
-const NAP_AMID_WORK: u32 = 6;
+/// How many steps these are, for each of its own before that did something when it might ask, and for one more: what comes of the
+/// line that such a step read is awaited, however slowly it comes.
+const STEPS_FOR_EACH: u64 = 64;
 
-/// After how many steps that did something a worker asks so too, where it took what came and might not ask.
+/// After how many such sleeps in a row it asks so too where nobody did anything meanwhile: a second, in which the others were in one
+/// long step, or waited for a processor.
+const STILL_NAPS: u32 = 125;
+
+/// After how many it asks in any case: five seconds, in which little was done.
+const MOST_NAPS: u32 = 625;
+
+/// After how many of its own steps that did something it asks so too, where it took what came and might not ask.
 const MOST_HELD: u32 = 4_096;
 
-/// How many more these are for each of its steps before that did something when it might: what comes of the line that such a
-/// step read is awaited.
+/// How many more these are for each of its steps before that did something when it might.
 const HELD_FOR_EACH: u32 = 64;
 
 /// How often a worker yields, once the pauses of `Backoff` are over, before it sleeps.
@@ -99,9 +103,14 @@ struct Idling {
     short_pauses: u32,
     /// There were few before that one.
     doubts: bool,
-    /// How often it has slept since it last did something, where a sleep amid the work of others counts several times.
+    /// How many of its steps did something.
+    steps: u64,
+    /// How many of its sleeps ended by themselves, as it might not ask, since it last did something or was allowed to; and in how many
+    /// of the last ones nobody did anything.
     naps: u32,
-    /// How many steps of others did something up to the last of these sleeps.
+    still_naps: u32,
+    /// How many steps of others did something up to the first and to the last of these sleeps.
+    moved_before: u64,
     moved: u64,
     /// How often it has slept at rest since it last did something.
     rests: u32,
@@ -128,7 +137,10 @@ impl Idling {
             looks: 0,
             short_pauses: 0,
             doubts: false,
+            steps: 0,
             naps: 0,
+            still_naps: 0,
+            moved_before: 0,
             moved: 0,
             rests: 0,
             is_deep: false,
@@ -141,14 +153,39 @@ impl Idling {
     /// and all that comes of it. So it may where all others are at rest, and where it has waited for that long enough.
     fn may_ask(&mut self, told: &Told) -> bool {
         self.tells(told);
-        let more = self.free_steps.saturating_mul(HELD_FOR_EACH);
-        let most = MOST_HELD.saturating_add(more);
-        let may = told.all_but_one_rest() || self.naps >= MOST_NAPS || self.held_steps >= most;
+        let may = told.all_but_one_rest() || self.has_waited();
         if may {
             self.free_steps = 0;
             self.held_steps = 0;
+            self.naps = 0;
+            self.still_naps = 0;
         }
         may
+    }
+
+    /// Whether it has waited long enough for the others to rest. A short time alone does not tell, as they may want for processors:
+    /// they have made many steps meanwhile, or none for long, or it has taken much.
+    fn has_waited(&self) -> bool {
+        let many = (self.free_steps as u64 + 1) * STEPS_FOR_EACH;
+        let steps = self.moved.wrapping_sub(self.moved_before);
+        let more = self.free_steps.saturating_mul(HELD_FOR_EACH);
+        (self.naps >= FEW_NAPS && steps >= many)
+            || self.still_naps >= STILL_NAPS
+            || self.naps >= MOST_NAPS
+            || self.held_steps >= MOST_HELD.saturating_add(more)
+    }
+
+    /// A sleep ended by itself, as the worker might not ask.
+    fn counts_nap(&mut self, told: &Told) {
+        let moved = told.moved_beside(self.mark);
+        if self.naps == 0 {
+            self.moved_before = moved;
+        } else if moved != self.moved {
+            self.still_naps = 0;
+        }
+        self.naps = self.naps.saturating_add(1);
+        self.still_naps = self.still_naps.saturating_add(1);
+        self.moved = moved;
     }
 
     /// A step did something, when the worker might ask outside the system, or might not.
@@ -170,6 +207,9 @@ impl Idling {
         self.yields = 0;
         self.looks = 0;
         self.naps = 0;
+        self.still_naps = 0;
+        self.steps = self.steps.saturating_add(1);
+        told.shows_steps(self.mark, self.steps);
         self.untold_steps = self.untold_steps.saturating_add(1);
         if self.untold_steps >= self.most_untold {
             self.most_untold = MOST_UNTOLD.min(self.most_untold.saturating_mul(2));
@@ -193,10 +233,7 @@ impl Idling {
 
     /// Wakes those that take what the worker put.
     fn tells(&mut self, told: &Told) {
-        if self.untold_steps > 0 {
-            told.moves_on(self.mark, self.untold_steps);
-            self.untold_steps = 0;
-        }
+        self.untold_steps = 0;
         if !self.untold.is_empty() {
             told.gets_up(self.mark);
             told.wakes_each(self.untold);
@@ -215,7 +252,7 @@ impl Idling {
             told.asks_room(self.untold, self.mark);
         } else {
             told.waits(self.mark);
-            told.sleeps(rt, self.mark, LISTENING, NAP_MICROS);
+            told.sleeps(rt, self.mark, LISTENING, 1);
         }
     }
 
@@ -225,15 +262,9 @@ impl Idling {
         self.gives_room(told);
         if !self.pauses_on(told) && !self.nods_off(told) {
             told.listens(self.mark);
-            told.sleeps(rt, self.mark, LISTENING, NAP_MICROS);
-            let moved = told.moved_beside(self.mark);
-            let counts = if moved == self.moved {
-                1
-            } else {
-                NAP_AMID_WORK
-            };
-            self.moved = moved;
-            self.naps = self.naps.saturating_add(counts);
+            if told.sleeps(rt, self.mark, LISTENING, 1) {
+                self.counts_nap(told);
+            }
         }
     }
 
@@ -243,21 +274,21 @@ impl Idling {
         self.gives_room(told);
         if !self.pauses_on(told) && !self.nods_off(told) {
             told.falls_asleep(self.mark);
-            let micros = self.nap(told);
-            told.sleeps(rt, self.mark, ASLEEP, micros);
+            let naps = self.naps_at_rest(told);
+            told.sleeps(rt, self.mark, ASLEEP, naps);
         }
     }
 
-    /// How long it is to sleep at rest. Before it sleeps deeply it says so, and looks once more at what there is to do: whoever
-    /// puts something for it after that wakes it at once.
-    fn nap(&mut self, told: &Told) -> u64 {
+    /// How long it is to sleep at rest, in sleeps. Before it sleeps deeply it says so, and looks once more at what there is to do:
+    /// whoever puts something for it after that wakes it at once, or after one step more, where he did not see yet that it said so.
+    fn naps_at_rest(&mut self, told: &Told) -> u64 {
         self.rests = self.rests.saturating_add(1);
         let said_so = self.is_deep;
         self.sleeps_deeply(told, self.rests >= LIGHT_NAPS && told.all_but_one_rest());
         if said_so && self.is_deep {
-            DEEP_NAP_MICROS
+            DEEP_NAPS
         } else {
-            NAP_MICROS
+            1
         }
     }
 

@@ -4,7 +4,7 @@ use sdl_ends::{MARKS, Marks};
 use std::array::from_fn;
 use std::sync::Wait;
 use std::sync::atomic::AtomicU64;
-use std::sync::atomic::Ordering::SeqCst;
+use std::sync::atomic::Ordering::{Relaxed, SeqCst};
 use std::time::Duration;
 
 /// The states of a worker's word. Awake: it makes steps, or pauses between them.
@@ -21,6 +21,9 @@ pub(crate) const LISTENING: u32 = 3;
 
 /// The states in which a worker sleeps are this one and those above.
 const SLEEPS: u32 = ASLEEP;
+
+/// A sleep ends after this time, whether or not somebody ended it, and a longer one after so many times as much.
+const NAP_MICROS: u64 = 8_000;
 
 /// The count of those at rest while there are none. It lies above zero, as a worker may be woken before it is counted.
 const NONE_RESTS: u64 = 4_294_967_296;
@@ -57,7 +60,7 @@ pub(crate) struct Told {
     words: [CachePadded<AtomicU64>; MARKS],
     /// For each mark of a station, the mark of the worker that waits for room there, and one more. 0 where none does.
     rooms: [CachePadded<AtomicU64>; MARKS],
-    /// How many steps of each worker did something, as far as it has told, by the mark of the station where it takes.
+    /// How many steps of each worker did something, by the mark of the station where it takes.
     moved: [CachePadded<AtomicU64>; MARKS],
     /// The number of the last worker whose thread could not start, and one more.
     turned_away: AtomicU64,
@@ -218,13 +221,19 @@ impl Told {
             .is_ok()
     }
 
-    /// Sleeps while the worker with this mark is in this state, at most for this time.
-    pub(crate) fn sleeps<R: Wait>(&self, rt: &R, mark: u32, state: u32, micros: u64) {
+    /// Sleeps while the worker with this mark is in this state, at most for so many sleeps, and says whether that ended by itself.
+    pub(crate) fn sleeps<R: Wait>(&self, rt: &R, mark: u32, state: u32, naps: u64) -> bool {
         let word = self.word(mark);
-        word.park_timeout(rt, state, Duration::from_micros(micros));
-        if word.load(SeqCst) == state as u64 {
-            self.naps.fetch_add(1, SeqCst);
+        word.park_timeout(
+            rt,
+            state,
+            Duration::from_micros(NAP_MICROS.saturating_mul(naps)),
+        );
+        let by_itself = word.load(SeqCst) == state as u64;
+        if by_itself {
+            self.naps.fetch_add(naps, SeqCst);
         }
+        by_itself
     }
 
     /// One worker more sleeps deeply from its next sleep on, or one fewer.
@@ -258,17 +267,17 @@ impl Told {
         self.crowded.store(naps.saturating_add(stretch), SeqCst);
     }
 
-    /// So many more steps of the worker with this mark did something.
-    pub(crate) fn moves_on(&self, mark: u32, steps: u32) {
-        self.moved[mark as usize % MARKS].fetch_add(steps as u64, SeqCst);
+    /// So many steps of the worker with this mark did something.
+    pub(crate) fn shows_steps(&self, mark: u32, steps: u64) {
+        self.moved[mark as usize % MARKS].store(steps, Relaxed);
     }
 
-    /// How many steps of the workers with other marks did something, as far as they have told.
+    /// How many steps of the workers with other marks did something.
     pub(crate) fn moved_beside(&self, mark: u32) -> u64 {
         let mut steps: u64 = 0;
         for other in 0..MARKS {
             if other != mark as usize % MARKS {
-                steps = steps.wrapping_add(self.moved[other].load(SeqCst));
+                steps = steps.wrapping_add(self.moved[other].load(Relaxed));
             }
         }
         steps

@@ -1,5 +1,6 @@
+use Rattle.std.proofs.Common.{ℕ, List, Option, ap, subst, sym}
 use Rattle.sdl_run.specs.Environment.{KeepsEnvironment}
-use Rattle.sdl_run.proofs.Environments.{goes_over}
+use Rattle.sdl_run.proofs.Environments.{goes_over, written_out}
 use Rattle.sdl_run.proofs.environment_thread.EnvironmentThreadWork.step.Goals as goal
 
 pub returns-then-reads_on-clause-keeps : goal.returns-then-reads_on-clause-keeps
@@ -10,8 +11,17 @@ returns-then-reads_on-clause-keeps g c =
 pub returns-then-not-may_ask-clause-keeps : goal.returns-then-not-may_ask-clause-keeps
 returns-then-not-may_ask-clause-keeps g c =
     let taken = c.receive-received in
+    let kept =
     goes_over c.args.structure.now c.args.routes.now c.args.self.now.environment.now.worker c.args.self.now.environment.now.astray c.args.self.now.ends _ _ _ _ c.requires
-    taken.new.self.worker taken.new.self.astray taken.new.ends _ _ taken.ensures.number taken.ensures.keeps (λ start. taken.ensures.reading start _) taken.ensures.writing
+    taken.new.self.worker taken.new.self.astray taken.new.ends _ _ taken.ensures.number taken.ensures.keeps (λ start. taken.ensures.reading start _) taken.ensures.writing in
+    let out = c.lets_out.ensures in
+    let flushed =
+    written_out c.args.structure.now c.args.routes.now taken.new.self.worker _ taken.new.self.astray _ taken.new.ends _ _ _ _ _ _ _ kept (ap (λ e. e.now.worker) out.environment) (ap (λ e. e.now.astray) out.environment) out.ends (ap (λ i. g.I.Read.remaining i.now) out.input) out.output in
+    let end = c.lets_out.new.self in
+    let keeping : Option (List ℕ) → Option (List ℕ) → Type 0 =
+    λ read_from written_from. KeepsEnvironment c.args.structure.now c.args.routes.now end.environment.now.worker end.environment.now.astray end.ends read_from (g.I.Read.remaining end.input.now) written_from (g.O.Write.contents end.output.now) in
+    subst (λ i. keeping (g.I.Read.remaining i.value) (g.O.Write.contents end.started_output.value)) (sym out.started.0)
+    (subst (λ o. keeping (g.I.Read.remaining c.args.self.now.started_input.value) (g.O.Write.contents o.value)) (sym out.started.1) flushed)
 
 pub returns-clause-keeps : goal.returns-clause-keeps
 returns-clause-keeps g c =
