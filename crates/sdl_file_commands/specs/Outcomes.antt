@@ -1,13 +1,16 @@
 -- How a run ended, as its exit status tells it. (This project's own.)
-use Rattle.std.specs.Prelude.{◌≡◌, ℕ, ◌+◌, ◌<◌, ◌≤◌, ◌⊎◌, List, ◌++◌, Some, length, slice_get, max}
+use Rattle.std.specs.Prelude.{◌≡◌, ℕ, ◌+◌, ◌<◌, ◌≤◌, ◌⊎◌, List, ◌++◌, Option, Some, false, length, slice_get, max}
 use Rattle.std.specs.List.{AllByRecursion}
+use Rattle.std.specs.Io.KnownBytes.{Keeps}
 use Rattle.sdl_run.specs.sdl_signal.declared.values.Item.{Item}
 use Rattle.sdl_run.specs.sdl_signal.declared.values.Origin.{Origin}
 use Rattle.sdl_run.specs.sdl_signal.declared.ends.InputEnd.{InputEnd}
 use Rattle.sdl_run.specs.sdl_signal.declared.ends.OutputEnd.{OutputEnd}
-use Rattle.sdl_run.specs.sdl_parts.Structure.{Structure}
+use Rattle.sdl_run.specs.sdl_parts.Structure.{Structure, lexicon_of}
 use Rattle.sdl_run.specs.sdl_routes.declared.route.TableRow.{TableRow}
 use Rattle.sdl_run.specs.sdl_transition.Rules.{Rules}
+use Rattle.sdl_run.specs.sdl_behaviour.declared.step.Frame.{Frame}
+use Rattle.sdl_run.specs.sdl_behaviour.declared.step.Step.{Step}
 use Rattle.sdl_run.specs.sdl_log.declared.event.Event.{Event}
 use Rattle.sdl_run.specs.sdl_instances.Machine.{State}
 use Rattle.sdl_run.specs.sdl_instances.Run.{turns}
@@ -17,10 +20,13 @@ use Rattle.sdl_run.specs.sdl_outcome.Books.{NoOther, outs, came, left}
 use Rattle.sdl_run.specs.sdl_outcome.Causes.{IsCause}
 use Rattle.sdl_run.specs.sdl_outcome.Ends.{EndsAs}
 use Rattle.sdl_run.specs.sdl_outcome.Outcome.{Outcome, IsComplete, LeftsAreLegal, all_origins, books_of, log_at}
-use Rattle.sdl_run.specs.sdl_outcome.Plan.{Plan, ways_of}
+use Rattle.sdl_run.specs.sdl_outcome.Plan.{Plan, ways_of, blocks_in}
+use Rattle.sdl_run.specs.sdl_outcome.EnvironmentWork.{HasReadAll, HasWritten, received_text}
+use Rattle.sdl_run.specs.sdl_driver.Ended.{HasEnded}
 use Rattle.sdl_run.specs.sdl_ledger.declared.ledger.Ledger.{Ledger}
 use Rattle.sdl_run.specs.sdl_ledger.Counts.{IsLedgerOf, Balances, waiting_in}
 use Rattle.sdl_run.specs.sdl_driver.Closings.{StopsByMemory}
+use Rattle.sdl_command.specs.declared.arguments.Options.{Options}
 use Rattle.sdl_command.specs.Status.{HasFlushed, status_of}
 
 -- 0 where nothing was left to do, and 3 where a budget was used or memory was refused
@@ -70,3 +76,27 @@ pub record HasRun (s : Structure) (routes : List TableRow) (status : ℕ) : Type
 -- a run was refused before it began, or made to an end
 abbrev pub HasRunOrNot : Structure → List TableRow → ℕ → Type 0
 HasRunOrNot s routes status = (status ≡ 1) ⊎ HasRun s routes status
+
+-- A run was made by this plan: all that holds of every run that has ended holds of it, it read and wrote so, and the status tells
+-- how it ended.
+pub record WasRun (may : ℕ → Frame → Step → Type 0) (plan : Plan) (unread rest old new : Option (List ℕ)) (status : ℕ) : Type 0 where
+  pub outcome : Outcome
+  pub end : RunEnd
+  pub ledger : Ledger
+  pub read : InputEnd
+  pub written : OutputEnd
+  pub ended : HasEnded may plan outcome end ledger
+  pub reading : HasReadAll plan.structure plan.routes (blocks_in plan) unread rest outcome.env_put read
+  pub writing : HasWritten old new (received_text (lexicon_of plan.structure) plan.routes outcome.env_received) written
+  pub stopped : StopsByMemory read end
+  pub told : IsToldBy read written end status
+
+-- A run was made by this plan, and after it the ledger and the trace were written, where they were asked for, and else nothing.
+abbrev pub HasMade : (ℕ → Frame → Step → Type 0) → Plan → Options → Option (List ℕ) → Option (List ℕ) → Option (List ℕ) → Option (List ℕ) → ℕ → Type 0
+HasMade may plan options unread rest old new status =
+    (ended : Option (List ℕ)) × WasRun may plan unread rest old ended status × (options.ledger ≡ false → options.trace ≡ false → Keeps ended new)
+
+-- Such a run of the structure along its routes, with its own budget, by agents that answer as they may. Which rules the behaviours
+-- of these agents give its blocks is not said here: there are some.
+abbrev pub HasRunBy : (ℕ → Frame → Step → Type 0) → Structure → List TableRow → Options → Option (List ℕ) → Option (List ℕ) → Option (List ℕ) → Option (List ℕ) → ℕ → Type 0
+HasRunBy may s routes options unread rest old new status = (rules : List (List Rules)) × HasMade may (plan_with s routes rules) options unread rest old new status

@@ -1,8 +1,10 @@
 //! A run of a bound system in threads.
-ghost use Rattle.std.specs.Prelude.{◌≡◌};
-ghost use Rattle.sdl_file_commands.specs.Outcomes.{HasRunOrNot};
+ghost use Rattle.std.specs.Prelude.{◌≡◌, ◌⊎◌};
+ghost use Rattle.std.specs.Io.KnownBytes.{Keeps};
+ghost use Rattle.sdl_file_commands.specs.Outcomes.{HasRunOrNot, HasMade};
 ghost use Rattle.sdl_file_commands.specs.Running.{HasBudget};
 ghost use Rattle.sdl_run.specs.sdl_transition.Bound.{IsBound, structure_of, routes_of};
+ghost use Rattle.sdl_run.specs.sdl_driver.Closings.{plan_of_bound};
 
 use crate::closing::report_closing;
 use crate::running::{Settings, run_bound};
@@ -29,7 +31,10 @@ pub fn run_bound_in_threads<
     requires bound { IsBound S.may bound }
     requires budget { HasBudget (structure_of bound) }
     ensures run { HasRunOrNot (structure_of bound) (routes_of bound) result }
+    ensures made { (result ≡ 1) ⊎ HasMade S.may (plan_of_bound bound (structure_of bound).budget) settings.entry.options
+        (R.remaining input.old) (R.remaining input.new) (W.contents output.old) (W.contents output.new) result }
     ensures refused { result ≡ 1 → (input.new ≡ input.old) × (output.new ≡ output.old) }
+    ensures silent { result ≡ 0 → Keeps (E.contents errors.old) (E.contents errors.new) }
 {
     if settings.options.serial {
         run_bound(settings, bound, input, output, errors)
@@ -52,7 +57,10 @@ fn run_with<
     requires bound { IsBound S.may bound }
     requires budget { HasBudget (structure_of bound) }
     ensures run { HasRunOrNot (structure_of bound) (routes_of bound) result }
+    ensures made { (result ≡ 1) ⊎ HasMade S.may (plan_of_bound bound (structure_of bound).budget) settings.entry.options
+        (R.remaining input.old) (R.remaining input.new) (W.contents output.old) (W.contents output.new) result }
     ensures refused { result ≡ 1 → (input.new ≡ input.old) × (output.new ≡ output.old) }
+    ensures silent { result ≡ 0 → Keeps (E.contents errors.old) (E.contents errors.new) }
 {
     let structure = bound.checked().structure();
     let budget = structure.budget();

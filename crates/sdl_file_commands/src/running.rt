@@ -1,8 +1,10 @@
 //! A run of a bound system on one thread.
-ghost use Rattle.std.specs.Prelude.{◌≡◌};
-ghost use Rattle.sdl_file_commands.specs.Outcomes.{HasRunOrNot};
+ghost use Rattle.std.specs.Prelude.{◌≡◌, ◌⊎◌};
+ghost use Rattle.std.specs.Io.KnownBytes.{Keeps};
+ghost use Rattle.sdl_file_commands.specs.Outcomes.{HasRunOrNot, HasMade};
 ghost use Rattle.sdl_file_commands.specs.Running.{HasBudget};
 ghost use Rattle.sdl_run.specs.sdl_transition.Bound.{IsBound, structure_of, routes_of};
+ghost use Rattle.sdl_run.specs.sdl_driver.Closings.{plan_of_bound};
 
 use crate::closing::report_closing;
 use sdl_command::arguments::Options;
@@ -36,7 +38,10 @@ pub fn run_bound<S: Agents + Drop, R: Read, W: Write, E: Write>(
     requires bound { IsBound S.may bound }
     requires budget { HasBudget (structure_of bound) }
     ensures run { HasRunOrNot (structure_of bound) (routes_of bound) result }
+    ensures made { (result ≡ 1) ⊎ HasMade S.may (plan_of_bound bound (structure_of bound).budget) settings.entry.options
+        (R.remaining input.old) (R.remaining input.new) (W.contents output.old) (W.contents output.new) result }
     ensures refused { result ≡ 1 → (input.new ≡ input.old) × (output.new ≡ output.old) }
+    ensures silent { result ≡ 0 → Keeps (E.contents errors.old) (E.contents errors.new) }
 {
     if settings.options.trace {
         run_with::<S, Packed, R, W, E>(settings, bound, input, output, errors)
@@ -56,7 +61,10 @@ fn run_with<S: Agents + Drop, K: Shows, R: Read, W: Write, E: Write>(
     requires bound { IsBound S.may bound }
     requires budget { HasBudget (structure_of bound) }
     ensures run { HasRunOrNot (structure_of bound) (routes_of bound) result }
+    ensures made { (result ≡ 1) ⊎ HasMade S.may (plan_of_bound bound (structure_of bound).budget) settings.entry.options
+        (R.remaining input.old) (R.remaining input.new) (W.contents output.old) (W.contents output.new) result }
     ensures refused { result ≡ 1 → (input.new ≡ input.old) × (output.new ≡ output.old) }
+    ensures silent { result ≡ 0 → Keeps (E.contents errors.old) (E.contents errors.new) }
 {
     let structure = bound.checked().structure();
     let budget = structure.budget();

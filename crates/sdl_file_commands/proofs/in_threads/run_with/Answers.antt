@@ -2,7 +2,7 @@ use Rattle.std.proofs.Common.{rules, inr, map}
 use Rattle.sdl_run.specs.sdl_transition.Rules.{block_rules}
 use Rattle.sdl_run.specs.sdl_transition.Bound.{structure_of, routes_of, blocks_of}
 use Rattle.sdl_run.specs.sdl_driver.Closings.{outcome_in}
-use Rattle.sdl_file_commands.proofs.Told.{run_told}
+use Rattle.sdl_file_commands.proofs.Told.{run_told, was_run}
 use Rattle.sdl_file_commands.proofs.in_threads.run_with.Goals as goal
 
 pub returns-in-Ok-clause-run : goal.returns-in-Ok-clause-run
@@ -10,3 +10,13 @@ returns-in-Ok-clause-run g c =
     inr (run_told g.S.Agents.may (structure_of c.args.bound) (routes_of c.args.bound) (map block_rules (blocks_of c.args.bound)) c.budget-budget.result
     (outcome_in g.K.Keeps.events c.in-Ok.closing) c.in-Ok.closing.end c.in-Ok.closing.ledger c.in-Ok.closing.input c.in-Ok.closing.output c.report_closing.result
     (search rules) c.in-Ok.ensures.ended c.in-Ok.ensures.stopped c.report_closing.ensures.status)
+
+pub returns-in-Ok-clause-made : goal.returns-in-Ok-clause-made
+returns-in-Ok-clause-made g c =
+    inr (
+      _,
+      was_run g.S.Agents.may (structure_of c.args.bound) (routes_of c.args.bound) (map block_rules (blocks_of c.args.bound)) c.budget-budget.result _ _ _ _
+          (outcome_in g.K.Keeps.events c.in-Ok.closing) c.in-Ok.closing.end c.in-Ok.closing.ledger c.in-Ok.closing.input c.in-Ok.closing.output c.report_closing.result
+          (search rules) c.in-Ok.ensures.ended c.in-Ok.ensures.reading c.in-Ok.ensures.writing c.in-Ok.ensures.stopped c.report_closing.ensures.status,
+      c.report_closing.ensures.no_books,
+    )
