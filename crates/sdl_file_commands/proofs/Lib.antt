@@ -1,2 +1,3 @@
 mod Told
 mod Fronts
+mod Printed

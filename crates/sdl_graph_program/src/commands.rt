@@ -7,7 +7,7 @@ ghost use Rattle.sdl_file_commands.specs.Outcomes.{HasRun};
 ghost use Rattle.sdl_file_commands.specs.Running.{CanRun};
 ghost use Rattle.sdl_graph_program.specs.Outcomes.{IsDoneAtOnce, IsToldOf};
 
-use sdl_file_commands::commands::{checked_file, routes_command, routes_in, write_check, written};
+use sdl_file_commands::commands::{check_command, checked_file, routes_command, routes_in};
 use sdl_file_commands::files::{FileRead, read_file};
 use sdl_file_commands::sdl_command::arguments::{Arguments, Command, Options, read_arguments};
 use sdl_file_commands::sdl_command::errors::{without_memory, write_error};
@@ -45,11 +45,13 @@ pub fn prepare_file<W: Write, E: Write>(
     ensures declared { IfOk result (λ p. Declares file.now p.checked) }
     ensures asked { IfOk result (λ p. p.options ≡ options) }
     // Only a run is prepared, and a run that is not is refused.
-    ensures done { options.command ≢ Command.Run → IfErr result (IsDone HasRun options.command file.now) }
+    ensures done { options.command ≢ Command.Run → IfErr result (IsDone HasRun (W.contents output.old) (W.contents output.new) options.command file.now) }
     ensures run { options.command ≡ Command.Run → IfErr result (λ status. status ≡ 1) }
     ensures others { options.command ≢ Command.Run → IsErr result }
-    ensures told { IfErr result (IsToldOf file.now) }
+    ensures prepared { IfOk result (λ p. p.options.command ≡ Command.Run) }
+    ensures told { IfErr result (IsToldOf (W.contents output.old) (W.contents output.new) file.now) }
     ensures unwritten { IfOk result (λ p. output.new ≡ output.old) }
+    ensures quiet { IfOk result (λ p. errors.new ≡ errors.old) }
     ensures refused { IfErr result (λ status. status ≡ 1 → output.new ≡ output.old) }
     ensures silent { IfErr result (λ status. status ≡ 0 → Keeps (E.contents errors.old) (E.contents errors.new)) }
 {
@@ -57,10 +59,7 @@ pub fn prepare_file<W: Write, E: Write>(
         return Err(REFUSED);
     };
     match options.command {
-        Command::Check => {
-            let text = write_check(output, checked.structure());
-            Err(written(text, output, errors))
-        }
+        Command::Check => Err(check_command(&checked, output, errors)),
         Command::Routes => Err(routes_command(alloc, &checked, output, errors)),
         Command::Run => match routes_in(alloc, &checked, errors) {
             Some(routes) => Ok(Prepared {
@@ -84,9 +83,12 @@ pub fn prepare<H: Env + Files + AllocGlobal, W: Write, E: Write>(
 ) -> Result<Prepared, u8>
     ensures ready { IfOk result (λ p. CanRun p.checked p.routes) }
     ensures declared { IfOk result (λ p. (file : List ℕ) × Declares file p.checked) }
-    ensures done { IfErr result IsDoneAtOnce }
+    ensures run { IfOk result (λ p. p.options.command ≡ Command.Run) }
+    ensures done { IfErr result (IsDoneAtOnce (W.contents output.old) (W.contents output.new)) }
     ensures unwritten { IfOk result (λ p. output.new ≡ output.old) }
+    ensures quiet { IfOk result (λ p. errors.new ≡ errors.old) }
     ensures refused { IfErr result (λ status. status ≡ 1 → output.new ≡ output.old) }
+    ensures silent { IfErr result (λ status. status ≡ 0 → Keeps (E.contents errors.old) (E.contents errors.new)) }
 {
     match prepare_words(rt, alloc, output, errors) {
         Ok(prepared) => prepared,
@@ -106,10 +108,13 @@ fn prepare_words<H: Env + Files + AllocGlobal, W: Write, E: Write>(
 ) -> Result<Result<Prepared, u8>, AllocError>
     ensures ready { IfOk result (λ r. IfOk r (λ p. CanRun p.checked p.routes)) }
     ensures declared { IfOk result (λ r. IfOk r (λ p. (file : List ℕ) × Declares file p.checked)) }
-    ensures done { IfOk result (λ r. IfErr r IsDoneAtOnce) }
+    ensures run { IfOk result (λ r. IfOk r (λ p. p.options.command ≡ Command.Run)) }
+    ensures done { IfOk result (λ r. IfErr r (IsDoneAtOnce (W.contents output.old) (W.contents output.new))) }
     ensures unwritten { IfOk result (λ r. IfOk r (λ p. output.new ≡ output.old)) }
+    ensures quiet { IfOk result (λ r. IfOk r (λ p. errors.new ≡ errors.old)) }
     ensures refused { IfOk result (λ r. IfErr r (λ status. status ≡ 1 → output.new ≡ output.old)) }
     ensures memory { IsErr result → output.new ≡ output.old }
+    ensures silent { IfOk result (λ r. IfErr r (λ status. status ≡ 0 → Keeps (E.contents errors.old) (E.contents errors.new))) }
 {
     let Some(words) = words_of(rt, alloc)? else {
         return Ok(Err(wrong_arguments(errors)));
@@ -128,9 +133,12 @@ fn prepare_shown<H: Files, W: Write, E: Write>(
 ) -> Result<Prepared, u8>
     ensures ready { IfOk result (λ p. CanRun p.checked p.routes) }
     ensures declared { IfOk result (λ p. (file : List ℕ) × Declares file p.checked) }
-    ensures done { IfErr result IsDoneAtOnce }
+    ensures run { IfOk result (λ p. p.options.command ≡ Command.Run) }
+    ensures done { IfErr result (IsDoneAtOnce (W.contents output.old) (W.contents output.new)) }
     ensures unwritten { IfOk result (λ p. output.new ≡ output.old) }
+    ensures quiet { IfOk result (λ p. errors.new ≡ errors.old) }
     ensures refused { IfErr result (λ status. status ≡ 1 → output.new ≡ output.old) }
+    ensures silent { IfErr result (λ status. status ≡ 0 → Keeps (E.contents errors.old) (E.contents errors.new)) }
 {
     match read_arguments(words) {
         Some(Arguments::File(options, place)) => match words.get(place) {
@@ -152,9 +160,12 @@ fn prepare_path<H: Files, W: Write, E: Write>(
 ) -> Result<Prepared, u8>
     ensures ready { IfOk result (λ p. CanRun p.checked p.routes) }
     ensures declared { IfOk result (λ p. (file : List ℕ) × Declares file p.checked) }
-    ensures done { IfErr result IsDoneAtOnce }
+    ensures run { IfOk result (λ p. p.options.command ≡ Command.Run) }
+    ensures done { IfErr result (IsDoneAtOnce (W.contents output.old) (W.contents output.new)) }
     ensures unwritten { IfOk result (λ p. output.new ≡ output.old) }
+    ensures quiet { IfOk result (λ p. errors.new ≡ errors.old) }
     ensures refused { IfErr result (λ status. status ≡ 1 → output.new ≡ output.old) }
+    ensures silent { IfErr result (λ status. status ≡ 0 → Keeps (E.contents errors.old) (E.contents errors.new)) }
 {
     match read_file(rt, alloc, path) {
         FileRead::Bytes(file) => prepare_file(alloc, file.as_slice(), options, output, errors),

@@ -1,5 +1,6 @@
 //! The command `run` of a graph's program, once its transitions are stored.
 ghost use Rattle.std.specs.Prelude.{◌≡◌, ◌⊎◌, MatchOption};
+ghost use Rattle.std.specs.Io.KnownBytes.{Keeps};
 ghost use Rattle.sdl_graph_binding.specs.sdl_transition.Bound.{IsBound, structure_of, routes_of};
 ghost use Rattle.sdl_file_commands.specs.Running.{CanRun, HasBudget};
 ghost use Rattle.sdl_graph_program.specs.Outcomes.{HasRunGraphOrNot};
@@ -43,9 +44,11 @@ pub fn run_prepared<G: Send, T: Threads + Wait + Sync, R: Read, W: Write, E: Wri
     errors: &mut E,
 ) -> u8
     requires { CanRun prepared.checked prepared.routes }
-    ensures run { HasRunGraphOrNot prepared.checked prepared.routes result }
+    ensures run { HasRunGraphOrNot prepared.options (R.remaining input.old) (R.remaining input.new)
+        (W.contents output.old) (W.contents output.new) prepared.checked prepared.routes result }
     // Where nothing was run, nothing was read or written.
     ensures refused { result ≡ 1 → (input.new ≡ input.old) × (output.new ≡ output.old) }
+    ensures silent { result ≡ 0 → Keeps (E.contents errors.old) (E.contents errors.new) }
 {
     let Prepared {
         alloc,
@@ -81,8 +84,10 @@ fn run_marked<G: Send, T: Threads + Wait + Sync, R: Read, W: Write, E: Write>(
 ) -> u8
     requires bound { IsBound (λ _ _ _. Unit {0}) bound }
     requires budget { HasBudget (structure_of bound) }
-    ensures run { HasRunGraphOrNot (structure_of bound) (routes_of bound) result }
+    ensures run { HasRunGraphOrNot settings.entry.options (R.remaining input.old) (R.remaining input.new)
+        (W.contents output.old) (W.contents output.new) (structure_of bound) (routes_of bound) result }
     ensures refused { result ≡ 1 → (input.new ≡ input.old) × (output.new ≡ output.old) }
+    ensures silent { result ≡ 0 → Keeps (E.contents errors.old) (E.contents errors.new) }
 {
     let status = run_bound_in_threads(rt, settings, bound, input, output, &mut *errors);
     if status == REFUSED {
@@ -100,6 +105,7 @@ fn report_broken<E: Write>(
 ) -> u8
     ensures which { MatchOption broken (result ≡ status) (λ b. result ≡ 4) }
     ensures either { (result ≡ status) ⊎ (result ≡ 4) }
+    ensures silent { result ≡ 0 → errors.new ≡ errors.old }
 {
     match broken {
         None => status,

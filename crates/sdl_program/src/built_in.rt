@@ -1,9 +1,11 @@
 //! The built-in systems: the behaviours of each are made, bound to the structure and run.
-ghost use Rattle.std.specs.Prelude.{IfOk, IfSome, IsSome};
+ghost use Rattle.std.specs.Prelude.{◌≡◌, IfOk, IfSome, IsErr, IsSome};
 ghost use Rattle.std.specs.List.{AllByRecursion};
-ghost use Rattle.sdl_file_commands.specs.Outcomes.{HasRunOrNot};
+ghost use Rattle.std.specs.Io.KnownBytes.{Keeps};
+ghost use Rattle.sdl_agents.specs.Tables.{EchoMay, RelayMay, SpawnMay, RingMay};
 ghost use Rattle.sdl_file_commands.specs.Running.{CanRun};
 ghost use Rattle.sdl_file_commands.specs.sdl_run.sdl_transition.Transitions.{IsAllowedBehaviour};
+ghost use Rattle.sdl_program.specs.Commands.{HasRunJob, may_of};
 
 use crate::running::Job;
 use sdl_agents::{System, echo_behaviours, relay_behaviours, ring_behaviours, spawn_behaviours};
@@ -21,19 +23,25 @@ use std::thread::Threads;
 pub fn run_system<T: Threads + Wait + Sync, R: Read, W: Write, E: Write>(
     rt: &T,
     system: System,
-    job: Job<R, W, E>,
+    job: Job,
+    input: &mut R,
+    output: &mut W,
+    errors: &mut E,
 ) -> Result<u8, AllocError>
     requires { CanRun job.checked job.routes }
-    ensures { IfOk result (HasRunOrNot job.entry.checked job.entry.routes) }
+    ensures made { IfOk result (HasRunJob (may_of system) (R.remaining input.old) (R.remaining input.new) (W.contents output.old) (W.contents output.new) job.entry) }
+    ensures refused { IfOk result (λ status. status ≡ 1 → (input.new ≡ input.old) × (output.new ≡ output.old)) }
+    ensures memory { IsErr result → (input.new ≡ input.old) × (output.new ≡ output.old) }
+    ensures silent { IfOk result (λ status. status ≡ 0 → Keeps (E.contents errors.old) (E.contents errors.new)) }
 {
     let sets = job.checked.structure().sets().len() as u32;
     let alloc = job.settings.alloc;
     let mut waiting = Some(job);
     match system {
-        System::Echo => run_echo(rt, alloc, sets, &mut waiting),
-        System::Relay => run_relay(rt, alloc, sets, &mut waiting),
-        System::Spawn => run_spawn(rt, alloc, sets, &mut waiting),
-        System::Ring => run_ring(rt, alloc, sets, &mut waiting),
+        System::Echo => run_echo(rt, alloc, sets, &mut waiting, input, output, errors),
+        System::Relay => run_relay(rt, alloc, sets, &mut waiting, input, output, errors),
+        System::Spawn => run_spawn(rt, alloc, sets, &mut waiting, input, output, errors),
+        System::Ring => run_ring(rt, alloc, sets, &mut waiting, input, output, errors),
     }
 }
 
@@ -42,14 +50,21 @@ fn run_echo<T: Threads + Wait + Sync, R: Read, W: Write, E: Write>(
     rt: &T,
     alloc: Global,
     sets: u32,
-    waiting: &mut Option<Job<R, W, E>>,
+    waiting: &mut Option<Job>,
+    input: &mut R,
+    output: &mut W,
+    errors: &mut E,
 ) -> Result<u8, AllocError>
     requires waits { IsSome waiting.old }
     requires runs { IfSome waiting.old (λ job. CanRun job.checked job.routes) }
-    ensures { IfOk result (λ status. IfSome waiting.old (λ job. HasRunOrNot job.checked job.routes status)) }
+    ensures made { IfOk result (λ status. IfSome waiting.old (λ job.
+        HasRunJob EchoMay (R.remaining input.old) (R.remaining input.new) (W.contents output.old) (W.contents output.new) job status)) }
+    ensures refused { IfOk result (λ status. status ≡ 1 → (input.new ≡ input.old) × (output.new ≡ output.old)) }
+    ensures memory { IsErr result → (input.new ≡ input.old) × (output.new ≡ output.old) }
+    ensures silent { IfOk result (λ status. status ≡ 0 → Keeps (E.contents errors.old) (E.contents errors.new)) }
 {
     let behaviours = echo_behaviours!(alloc, sets);
-    Ok(run_waiting(rt, waiting, behaviours))
+    Ok(run_waiting(rt, waiting, behaviours, input, output, errors))
 }
 
 /// Runs Relay: the same.
@@ -57,14 +72,21 @@ fn run_relay<T: Threads + Wait + Sync, R: Read, W: Write, E: Write>(
     rt: &T,
     alloc: Global,
     sets: u32,
-    waiting: &mut Option<Job<R, W, E>>,
+    waiting: &mut Option<Job>,
+    input: &mut R,
+    output: &mut W,
+    errors: &mut E,
 ) -> Result<u8, AllocError>
     requires waits { IsSome waiting.old }
     requires runs { IfSome waiting.old (λ job. CanRun job.checked job.routes) }
-    ensures { IfOk result (λ status. IfSome waiting.old (λ job. HasRunOrNot job.checked job.routes status)) }
+    ensures made { IfOk result (λ status. IfSome waiting.old (λ job.
+        HasRunJob RelayMay (R.remaining input.old) (R.remaining input.new) (W.contents output.old) (W.contents output.new) job status)) }
+    ensures refused { IfOk result (λ status. status ≡ 1 → (input.new ≡ input.old) × (output.new ≡ output.old)) }
+    ensures memory { IsErr result → (input.new ≡ input.old) × (output.new ≡ output.old) }
+    ensures silent { IfOk result (λ status. status ≡ 0 → Keeps (E.contents errors.old) (E.contents errors.new)) }
 {
     let behaviours = relay_behaviours!(alloc, sets);
-    Ok(run_waiting(rt, waiting, behaviours))
+    Ok(run_waiting(rt, waiting, behaviours, input, output, errors))
 }
 
 /// Runs Spawn: the same.
@@ -72,14 +94,21 @@ fn run_spawn<T: Threads + Wait + Sync, R: Read, W: Write, E: Write>(
     rt: &T,
     alloc: Global,
     sets: u32,
-    waiting: &mut Option<Job<R, W, E>>,
+    waiting: &mut Option<Job>,
+    input: &mut R,
+    output: &mut W,
+    errors: &mut E,
 ) -> Result<u8, AllocError>
     requires waits { IsSome waiting.old }
     requires runs { IfSome waiting.old (λ job. CanRun job.checked job.routes) }
-    ensures { IfOk result (λ status. IfSome waiting.old (λ job. HasRunOrNot job.checked job.routes status)) }
+    ensures made { IfOk result (λ status. IfSome waiting.old (λ job.
+        HasRunJob SpawnMay (R.remaining input.old) (R.remaining input.new) (W.contents output.old) (W.contents output.new) job status)) }
+    ensures refused { IfOk result (λ status. status ≡ 1 → (input.new ≡ input.old) × (output.new ≡ output.old)) }
+    ensures memory { IsErr result → (input.new ≡ input.old) × (output.new ≡ output.old) }
+    ensures silent { IfOk result (λ status. status ≡ 0 → Keeps (E.contents errors.old) (E.contents errors.new)) }
 {
     let behaviours = spawn_behaviours!(alloc, sets);
-    Ok(run_waiting(rt, waiting, behaviours))
+    Ok(run_waiting(rt, waiting, behaviours, input, output, errors))
 }
 
 /// Runs Ring: the same.
@@ -87,30 +116,42 @@ fn run_ring<T: Threads + Wait + Sync, R: Read, W: Write, E: Write>(
     rt: &T,
     alloc: Global,
     sets: u32,
-    waiting: &mut Option<Job<R, W, E>>,
+    waiting: &mut Option<Job>,
+    input: &mut R,
+    output: &mut W,
+    errors: &mut E,
 ) -> Result<u8, AllocError>
     requires waits { IsSome waiting.old }
     requires runs { IfSome waiting.old (λ job. CanRun job.checked job.routes) }
-    ensures { IfOk result (λ status. IfSome waiting.old (λ job. HasRunOrNot job.checked job.routes status)) }
+    ensures made { IfOk result (λ status. IfSome waiting.old (λ job.
+        HasRunJob RingMay (R.remaining input.old) (R.remaining input.new) (W.contents output.old) (W.contents output.new) job status)) }
+    ensures refused { IfOk result (λ status. status ≡ 1 → (input.new ≡ input.old) × (output.new ≡ output.old)) }
+    ensures memory { IsErr result → (input.new ≡ input.old) × (output.new ≡ output.old) }
+    ensures silent { IfOk result (λ status. status ≡ 0 → Keeps (E.contents errors.old) (E.contents errors.new)) }
 {
     let behaviours = ring_behaviours!(alloc, sets);
-    Ok(run_waiting(rt, waiting, behaviours))
+    Ok(run_waiting(rt, waiting, behaviours, input, output, errors))
 }
 
 /// Binds the behaviours to the structure of the job that waits and runs the system, and answers the exit status. The job waits
 /// behind a reference while the closures are made, since whoever owns it would drop it wherever memory is refused.
 fn run_waiting<S: Agents + Send + Drop, T: Threads + Wait + Sync, R: Read, W: Write, E: Write>(
     rt: &T,
-    waiting: &mut Option<Job<R, W, E>>,
+    waiting: &mut Option<Job>,
     behaviours: Vec<Behaviour<S>>,
+    input: &mut R,
+    output: &mut W,
+    errors: &mut E,
 ) -> u8
     requires waits { IsSome waiting.old }
     requires runs { IfSome waiting.old (λ job. CanRun job.checked job.routes) }
     requires allowed { AllByRecursion (IsAllowedBehaviour S.may) behaviours.items }
-    ensures { IfSome waiting.old (λ job. HasRunOrNot job.checked job.routes result) }
+    ensures made { IfSome waiting.old (λ job. HasRunJob S.may (R.remaining input.old) (R.remaining input.new) (W.contents output.old) (W.contents output.new) job result) }
+    ensures refused { result ≡ 1 → (input.new ≡ input.old) × (output.new ≡ output.old) }
+    ensures silent { result ≡ 0 → Keeps (E.contents errors.old) (E.contents errors.new) }
 {
     match waiting.take() {
-        Some(job) => run_behaviours(rt, job, behaviours),
+        Some(job) => run_behaviours(rt, job, behaviours, input, output, errors),
         None => unreachable!(),
     }
 }
@@ -119,20 +160,22 @@ fn run_waiting<S: Agents + Send + Drop, T: Threads + Wait + Sync, R: Read, W: Wr
 /// Binds the behaviours to the structure and runs the system, and answers the exit status.
 fn run_behaviours<S: Agents + Send + Drop, T: Threads + Wait + Sync, R: Read, W: Write, E: Write>(
     rt: &T,
-    job: Job<R, W, E>,
+    job: Job,
     behaviours: Vec<Behaviour<S>>,
+    input: &mut R,
+    output: &mut W,
+    errors: &mut E,
 ) -> u8
     requires runs { CanRun job.checked job.routes }
     requires allowed { AllByRecursion (IsAllowedBehaviour S.may) behaviours.items }
-    ensures { HasRunOrNot job.entry.checked job.entry.routes result }
+    ensures made { HasRunJob S.may (R.remaining input.old) (R.remaining input.new) (W.contents output.old) (W.contents output.new) job.entry result }
+    ensures refused { result ≡ 1 → (input.new ≡ input.old) × (output.new ≡ output.old) }
+    ensures silent { result ≡ 0 → Keeps (E.contents errors.old) (E.contents errors.new) }
 {
     let Job {
         settings,
         checked,
         routes,
-        input,
-        output,
-        errors,
     } = job;
     match bind(settings.alloc, checked, routes, behaviours) {
         Ok(bound) => run_bound_in_threads(rt, settings, bound, input, output, errors),

@@ -31,7 +31,8 @@ pub fn run<H: Env + Files + AllocGlobal + Threads + Wait + Sync, R: Read, W: Wri
     output: &mut W,
     errors: &mut E,
 ) -> u8
-    ensures { IsAnswered (R.remaining input.old) (R.remaining input.new) (W.contents output.old) (W.contents output.new) result }
+    ensures answered { IsAnswered (R.remaining input.old) (R.remaining input.new) (W.contents output.old) (W.contents output.new) result }
+    ensures silent { result ≡ 0 → Keeps (E.contents errors.old) (E.contents errors.new) }
 {
     match run_arguments(rt, alloc, input, output, errors) {
         Ok(status) => status,
@@ -52,6 +53,7 @@ fn run_arguments<H: Env + Files + AllocGlobal + Threads + Wait + Sync, R: Read, 
 ) -> Result<u8, AllocError>
     ensures ok { IfOk result (IsAnswered (R.remaining input.old) (R.remaining input.new) (W.contents output.old) (W.contents output.new)) }
     ensures err { IsErr result → (input.new ≡ input.old) × (output.new ≡ output.old) }
+    ensures silent { IfOk result (λ status. status ≡ 0 → Keeps (E.contents errors.old) (E.contents errors.new)) }
 {
     let Some(words) = words_of(rt, alloc)? else {
         return Ok(wrong_arguments(errors));
@@ -69,7 +71,8 @@ fn run_words<H: Files + Threads + Wait + Sync, R: Read, W: Write, E: Write>(
     output: &mut W,
     errors: &mut E,
 ) -> u8
-    ensures { Answers (arguments_of (map (λ w. w.now) words.now)) (R.remaining input.old) (R.remaining input.new) (W.contents output.old) (W.contents output.new) result }
+    ensures answered { Answers (arguments_of (map (λ w. w.now) words.now)) (R.remaining input.old) (R.remaining input.new) (W.contents output.old) (W.contents output.new) result }
+    ensures silent { result ≡ 0 → Keeps (E.contents errors.old) (E.contents errors.new) }
 {
     match read_arguments(words) {
         Some(Arguments::Pipe) => pipe_command(alloc, input, output, errors),
@@ -105,8 +108,11 @@ fn file_command<H: Files + Threads + Wait + Sync, R: Read, W: Write, E: Write>(
     output: &mut W,
     errors: &mut E,
 ) -> u8
-    ensures done { (file : List ℕ) × IsDone HasRunBuiltIn options.command file result }
+    ensures done { (file : List ℕ) × IsDone (HasRunBuiltIn options (R.remaining input.old) (R.remaining input.new) (W.contents output.old) (W.contents output.new))
+        (W.contents output.old) (W.contents output.new) options.command file result }
     ensures unread { options.command ≢ Command.Run → input.new ≡ input.old }
+    ensures refused { result ≡ 1 → (input.new ≡ input.old) × (output.new ≡ output.old) }
+    ensures silent { result ≡ 0 → Keeps (E.contents errors.old) (E.contents errors.new) }
 {
     match read_file(rt, alloc, path) {
         FileRead::Bytes(file) => run_file(

@@ -1,5 +1,6 @@
 //! The command `run`: the built-in system that has the structure's name.
 ghost use Rattle.std.specs.Prelude.{◌≡◌, ◌⊎◌, None};
+ghost use Rattle.std.specs.Io.KnownBytes.{Keeps};
 ghost use Rattle.sdl_agents.specs.Systems.{system_of};
 ghost use Rattle.sdl_file_commands.specs.Running.{CanRun};
 ghost use Rattle.sdl_program.specs.Commands.{HasRunBuiltIn};
@@ -15,15 +16,12 @@ use std::io::{Read, Write};
 use std::sync::Wait;
 use std::thread::Threads;
 
-/// A run that is to be made: the structure of a file with its routes, how it is run, and its reader and writers.
+/// A run that is to be made: the structure of a file with its routes, and how it is run.
 #[derive(Drop)]
-pub struct Job<'a, R, W, E> {
+pub struct Job<'a> {
     pub settings: Settings<'a>,
     pub checked: Checked,
     pub routes: Routes,
-    pub input: &'a mut R,
-    pub output: &'a mut W,
-    pub errors: &'a mut E,
 }
 
 /// Runs the built-in system that has the structure's name, in threads unless one was asked for, and answers the exit status:
@@ -38,7 +36,9 @@ pub fn run_command<T: Threads + Wait + Sync, R: Read, W: Write, E: Write>(
     errors: &mut E,
 ) -> u8
     requires { CanRun checked routes }
-    ensures run { (result ≡ 1) ⊎ HasRunBuiltIn checked routes result }
+    ensures run { (result ≡ 1) ⊎ HasRunBuiltIn settings.entry.options (R.remaining input.old) (R.remaining input.new) (W.contents output.old) (W.contents output.new) checked routes result }
+    ensures refused { result ≡ 1 → (input.new ≡ input.old) × (output.new ≡ output.old) }
+    ensures silent { result ≡ 0 → Keeps (E.contents errors.old) (E.contents errors.new) }
     ensures unnamed { system_of checked.system ≡ None → (result ≡ 1) × (input.new ≡ input.old) × (output.new ≡ output.old) }
 {
     let name = checked.structure().system();
@@ -50,11 +50,8 @@ pub fn run_command<T: Threads + Wait + Sync, R: Read, W: Write, E: Write>(
         settings,
         checked,
         routes,
-        input,
-        output,
-        errors: &mut *errors,
     };
-    match run_system(rt, system, job) {
+    match run_system(rt, system, job, input, output, &mut *errors) {
         Ok(status) => status,
         Err(_) => {
             without_memory(errors);

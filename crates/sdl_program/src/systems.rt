@@ -7,7 +7,7 @@ ghost use Rattle.sdl_file_commands.specs.Commands.{IsDone, ComesTo};
 ghost use Rattle.sdl_program.specs.Commands.{HasRunBuiltIn};
 
 use crate::running::run_command;
-use sdl_file_commands::commands::{checked_file, routes_command, routes_in, write_check, written};
+use sdl_file_commands::commands::{check_command, checked_file, routes_command, routes_in};
 use sdl_file_commands::running::Settings;
 use sdl_file_commands::sdl_command::arguments::{Command, Options};
 use sdl_file_commands::sdl_command::status::REFUSED;
@@ -29,11 +29,12 @@ pub fn run_file<H: Threads + Wait + Sync, R: Read, W: Write, E: Write>(
     output: &mut W,
     errors: &mut E,
 ) -> u8
-    ensures done { IsDone HasRunBuiltIn options.command file.now result }
+    ensures done { IsDone (HasRunBuiltIn options (R.remaining input.old) (R.remaining input.new) (W.contents output.old) (W.contents output.new))
+        (W.contents output.old) (W.contents output.new) options.command file.now result }
     ensures undeclared { ((s : Structure) → Declares file.now s → ⊥) → (result ≡ 1) × (input.new ≡ input.old) × (output.new ≡ output.old) }
     ensures unread { options.command ≢ Command.Run → input.new ≡ input.old }
-    ensures refused { options.command ≢ Command.Run → result ≡ 1 → output.new ≡ output.old }
-    ensures silent { options.command ≢ Command.Run → result ≡ 0 → Keeps (E.contents errors.old) (E.contents errors.new) }
+    ensures refused { result ≡ 1 → (input.new ≡ input.old) × (output.new ≡ output.old) }
+    ensures silent { result ≡ 0 → Keeps (E.contents errors.old) (E.contents errors.new) }
 {
     let settings = Settings {
         alloc,
@@ -52,21 +53,19 @@ pub fn carry_out<H: Threads + Wait + Sync, R: Read, W: Write, E: Write>(
     output: &mut W,
     errors: &mut E,
 ) -> u8
-    ensures done { IsDone HasRunBuiltIn settings.entry.options.command file.now result }
+    ensures done { IsDone (HasRunBuiltIn settings.entry.options (R.remaining input.old) (R.remaining input.new) (W.contents output.old) (W.contents output.new))
+        (W.contents output.old) (W.contents output.new) settings.entry.options.command file.now result }
     // A file that declares no structure is refused, and nothing is read or written.
     ensures undeclared { ((s : Structure) → Declares file.now s → ⊥) → (result ≡ 1) × (input.new ≡ input.old) × (output.new ≡ output.old) }
     ensures unread { settings.entry.options.command ≢ Command.Run → input.new ≡ input.old }
-    ensures refused { settings.entry.options.command ≢ Command.Run → result ≡ 1 → output.new ≡ output.old }
-    ensures silent { settings.entry.options.command ≢ Command.Run → result ≡ 0 → Keeps (E.contents errors.old) (E.contents errors.new) }
+    ensures refused { result ≡ 1 → (input.new ≡ input.old) × (output.new ≡ output.old) }
+    ensures silent { result ≡ 0 → Keeps (E.contents errors.old) (E.contents errors.new) }
 {
     let Some(checked) = checked_file(settings.alloc, file, errors) else {
         return REFUSED;
     };
     match settings.options.command {
-        Command::Check => {
-            let text = write_check(output, checked.structure());
-            written(text, output, errors)
-        }
+        Command::Check => check_command(&checked, output, errors),
         Command::Routes => routes_command(settings.alloc, &checked, output, errors),
         Command::Run => start_command(rt, settings, checked, input, output, errors),
     }
@@ -83,7 +82,10 @@ fn start_command<H: Threads + Wait + Sync, R: Read, W: Write, E: Write>(
     errors: &mut E,
 ) -> u8
     requires { HasBudget checked }
-    ensures done { (result ≡ 1) ⊎ ComesTo HasRunBuiltIn Command.Run checked result }
+    ensures done { (result ≡ 1) ⊎ ComesTo (HasRunBuiltIn settings.entry.options (R.remaining input.old) (R.remaining input.new) (W.contents output.old) (W.contents output.new))
+        (W.contents output.old) (W.contents output.new) Command.Run checked result }
+    ensures refused { result ≡ 1 → (input.new ≡ input.old) × (output.new ≡ output.old) }
+    ensures silent { result ≡ 0 → Keeps (E.contents errors.old) (E.contents errors.new) }
 {
     match routes_in(settings.alloc, &checked, errors) {
         Some(routes) => run_command(rt, settings, checked, routes, input, output, errors),
