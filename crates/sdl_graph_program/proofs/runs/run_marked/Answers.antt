@@ -1,0 +1,11 @@
+use Rattle.std.proofs.Common.{inl, inr, map}
+use Rattle.sdl_graph_binding.specs.sdl_transition.Bound.{blocks_of}
+use Rattle.sdl_graph_binding.specs.sdl_transition.Rules.{block_rules}
+use Rattle.sdl_graph_program.proofs.runs.run_marked.Goals as goal
+
+pub returns-clause-run : goal.returns-clause-run
+returns-clause-run g c =
+    elim c.run_bound_in_threads-status.ensures.made [
+      | inl refused ↦ absurd (c.if-status-eq-REFUSED.false refused)
+      | inr made ↦ inr (c.run_bound_in_threads-status.result, (map block_rules (blocks_of c.args.bound), made), c.report_broken.ensures.either)
+    ]
