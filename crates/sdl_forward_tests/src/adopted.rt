@@ -4,7 +4,7 @@ ghost use Rattle.sdl_routes.specs.Routes.{EachOnce};
 ghost use Rattle.sdl_queue.specs.Ends.{fresh_feed, IsSameFeed};
 ghost use Rattle.sdl_forward.specs.Boards.{stations_of};
 
-use super::bench::item_of;
+use super::bench::{are_left, item_of};
 use sdl_forward::Board;
 use sdl_queue::{
     Feed, Rejoined, Rest, RingFeed, RingRejoined, Tap, queue_open, rejoin, ring_open, ring_rejoin,
@@ -109,12 +109,7 @@ fn three_queues<R: Wait>(
 
 /// The list is that of all three stations, with all their items.
 fn are_complete(rt: &impl Abort, rests: &[(Station, Rest)]) {
-    let expected = [(PATH, 40), (INLET, 0), (Station::Outlet, 2)];
-    assert!(rt; rests.len() == expected.len());
-    for ((station, rest), (named, count)) in rests.iter().zip(&expected) {
-        assert!(rt; station == named);
-        assert!(rt; rest.len() == *count);
-    }
+    are_left(rt, rests, &[(PATH, 40), (INLET, 0), (Station::Outlet, 2)]);
 }
 
 /// A board of the queues, made once more where memory was refused to one.
@@ -146,11 +141,8 @@ fn take_all(rt: &impl Abort, board: &mut Board, station: Station, from: u64, to:
 /// The board has the three stations, in order, and nothing is left at any.
 fn is_empty(rt: &impl Abort, board: Board) {
     let rests = board.into_rests();
-    assert!(rt; rests.len() == 3);
-    for ((station, rest), named) in rests.iter().zip(&[PATH, INLET, Station::Outlet]) {
-        assert!(rt; station == named);
-        assert!(rt; rest.len() == 0);
-    }
+    let expected = [(PATH, 0), (INLET, 0), (Station::Outlet, 0)];
+    are_left(rt, rests.as_slice(), &expected);
 }
 
 /// A queue at the path, and those of the other two stations.

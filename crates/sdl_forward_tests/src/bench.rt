@@ -1,10 +1,12 @@
 //! Routes with a board of them, and what the tests do with it.
 use sdl_forward::{Board, Forwarded, Forwarder};
+use sdl_queue::Rest;
 use sdl_routes::{Hop, Routes, Station};
 use sdl_signal::{ChannelId, Item, Origin, RouteId};
 use sdl_test_systems::routes_of;
 use std::alloc::Global;
 use std::marker::Model;
+use std::process::Abort;
 use std::test::Fail;
 
 pub fn hop(channel: u32, back: bool) -> Hop {
@@ -80,6 +82,14 @@ impl Bench {
 
     pub fn step(&mut self, forwarder: &mut Forwarder) -> Forwarded {
         forwarder.step_serial(&self.routes, &mut self.board)
+    }
+}
+
+/// The list has these stations, in order, each with so many items.
+pub fn are_left(rt: &impl Abort, rests: &[(Station, Rest)], expected: &[(Station, usize)]) {
+    assert!(rt; rests.len() == expected.len());
+    for (place, (station, rest)) in rests.iter().enumerate() {
+        assert!(rt; expected.get(place) == Some(&(*station, rest.len())));
     }
 }
 

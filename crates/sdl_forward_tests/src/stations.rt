@@ -1,5 +1,5 @@
 //! Which stations a board has.
-use super::bench::{Bench, line};
+use super::bench::{Bench, are_left, line};
 use sdl_examples::{ECHO, SPAWN};
 use sdl_routes::Station;
 use sdl_signal::BlockId;
@@ -7,19 +7,15 @@ use std::alloc::Global;
 use std::process::Abort;
 use std::test::Fail;
 
-/// The board of the structure has an empty queue for each of these stations, and for no other.
+/// The board of the structure has a queue for each of these stations, with so many items, and for no other.
 fn has_queues(
     rt: &impl Abort,
     alloc: Global,
     file: &str,
-    expected: &[Station],
+    expected: &[(Station, usize)],
 ) -> Result<(), Fail> {
     let rests = Bench::new(alloc, file)?.board.into_rests();
-    assert!(rt; rests.len() == expected.len());
-    for ((station, rest), one) in rests.iter().zip(expected) {
-        assert!(rt; station == one);
-        assert!(rt; rest.len() == 0);
-    }
+    are_left(rt, rests.as_slice(), expected);
     Ok(())
 }
 
@@ -27,22 +23,22 @@ fn has_queues(
 fn a_board_has_a_queue_for_each_station_of_some_route(rt: HostRuntime) -> Result<(), Fail> {
     let inlet = Station::Inlet(BlockId(0));
     let echo = [
-        line(0, false),
-        line(0, true),
-        line(1, false),
-        line(1, true),
-        inlet,
-        Station::Outlet,
+        (line(0, false), 0),
+        (line(0, true), 0),
+        (line(1, false), 0),
+        (line(1, true), 0),
+        (inlet, 0),
+        (Station::Outlet, 0),
     ];
     // Nothing goes back by channel 1, and channel 3 does not delay.
     let spawn = [
-        line(0, false),
-        line(0, true),
-        line(1, false),
-        line(2, false),
-        line(2, true),
-        inlet,
-        Station::Outlet,
+        (line(0, false), 0),
+        (line(0, true), 0),
+        (line(1, false), 0),
+        (line(2, false), 0),
+        (line(2, true), 0),
+        (inlet, 0),
+        (Station::Outlet, 0),
     ];
     has_queues(&rt, rt.alloc(), ECHO, &echo)?;
     has_queues(&rt, rt.alloc(), SPAWN, &spawn)
