@@ -63,39 +63,27 @@ fn drive_on<S: Agents, K: Keeps, R: Read, W: Write>(
     driver.close(room, refused)
 }
 
-/// Settles what the workers leave where none was refused memory, and closes the run. Where one was refused, the end names it.
-pub fn settle<S: Agents, K: Keeps, T: Wait, R: Read, W: Write>(
+/// Puts what is left in the queues on a board, lets the workers go on from there, and closes the run. Where the board is refused
+/// memory, nothing more is settled, and the end names who takes at that station.
+fn settle_rests<S: Agents, K: Keeps, T: Wait, R: Read, W: Write>(
     rt: &T,
-    stopped: Stopped<S, K>,
+    parked: Parked<S, K>,
     room: Room<S, K>,
     input: &mut R,
     output: &mut W,
 ) -> Closing<S, K>
-    requires parked { IsParked S.may stopped.parked }
-    requires system { AreOneSystem S.may stopped.parked.checked stopped.parked.routes (map behaviours_of stopped.parked.blocks.items) }
-    requires room { HasRoom (length stopped.parked.blocks.items) (length stopped.parked.blocks.items + (length stopped.parked.forwarders.items + 1)) room }
+    requires parked { IsParked S.may parked }
+    requires system { AreOneSystem S.may parked.checked parked.routes (map behaviours_of parked.blocks.items) }
+    requires room { HasRoom (length parked.blocks.items) (length parked.blocks.items + (length parked.forwarders.items + 1)) room }
     requires empty { (room.parts.items ≡ []) × (room.logs.items ≡ []) × (room.hands.items ≡ []) }
-    requires refused { MatchOption stopped.refused ⊤ (λ w. w < length (workers_of (plan_of_parked stopped.parked))) }
-    ensures ended { HasEnded S.may (plan_of_parked stopped.parked) (outcome_in K.events result) result.end result.ledger }
-    ensures reading { (start : Option (List ℕ)) → HasReadSoFar stopped.parked.checked stopped.parked.routes (blocks_in (plan_of_parked stopped.parked)) start (R.remaining input.old) stopped.parked.environment
-        → HasReadIn (plan_of_parked stopped.parked) start (R.remaining input.new) result }
-    ensures writing { (start : Option (List ℕ)) → HasWrittenSoFar stopped.parked.checked stopped.parked.routes (blocks_in (plan_of_parked stopped.parked)) start (W.contents output.old) stopped.parked.environment
-        → HasWrittenIn (plan_of_parked stopped.parked) start (W.contents output.new) result }
+    ensures ended { HasEnded S.may (plan_of_parked parked) (outcome_in K.events result) result.end result.ledger }
+    ensures reading { (start : Option (List ℕ)) → HasReadSoFar parked.checked parked.routes (blocks_in (plan_of_parked parked)) start (R.remaining input.old) parked.environment
+        → HasReadIn (plan_of_parked parked) start (R.remaining input.new) result }
+    ensures writing { (start : Option (List ℕ)) → HasWrittenSoFar parked.checked parked.routes (blocks_in (plan_of_parked parked)) start (W.contents output.old) parked.environment
+        → HasWrittenIn (plan_of_parked parked) start (W.contents output.new) result }
     ensures stopped { StopsByMemory result.input result.end }
-    ensures refusal { MatchOption stopped.refused ⊤ (λ w. NamesRefused result.end (Some w)) }
-    ensures bound { IsSystemOfParked stopped.parked result.bound }
+    ensures bound { IsSystemOfParked parked result.bound }
 {
-    let Stopped {
-        parked,
-        refused,
-        came,
-        way,
-    } = stopped;
-    drop(came);
-    drop(way);
-    if let Some(worker) = refused {
-        return parked.close(room, Some(worker));
-    }
     let Parked {
         checked,
         routes,
@@ -131,5 +119,41 @@ pub fn settle<S: Agents, K: Keeps, T: Wait, R: Read, W: Write>(
             };
             parked.close(room, Some(worker))
         }
+    }
+}
+
+/// Settles what the workers leave where none was refused memory, and closes the run. Where one was refused, the end names it.
+pub fn settle<S: Agents, K: Keeps, T: Wait, R: Read, W: Write>(
+    rt: &T,
+    stopped: Stopped<S, K>,
+    room: Room<S, K>,
+    input: &mut R,
+    output: &mut W,
+) -> Closing<S, K>
+    requires parked { IsParked S.may stopped.parked }
+    requires system { AreOneSystem S.may stopped.parked.checked stopped.parked.routes (map behaviours_of stopped.parked.blocks.items) }
+    requires room { HasRoom (length stopped.parked.blocks.items) (length stopped.parked.blocks.items + (length stopped.parked.forwarders.items + 1)) room }
+    requires empty { (room.parts.items ≡ []) × (room.logs.items ≡ []) × (room.hands.items ≡ []) }
+    requires refused { MatchOption stopped.refused ⊤ (λ w. w < length (workers_of (plan_of_parked stopped.parked))) }
+    ensures ended { HasEnded S.may (plan_of_parked stopped.parked) (outcome_in K.events result) result.end result.ledger }
+    ensures reading { (start : Option (List ℕ)) → HasReadSoFar stopped.parked.checked stopped.parked.routes (blocks_in (plan_of_parked stopped.parked)) start (R.remaining input.old) stopped.parked.environment
+        → HasReadIn (plan_of_parked stopped.parked) start (R.remaining input.new) result }
+    ensures writing { (start : Option (List ℕ)) → HasWrittenSoFar stopped.parked.checked stopped.parked.routes (blocks_in (plan_of_parked stopped.parked)) start (W.contents output.old) stopped.parked.environment
+        → HasWrittenIn (plan_of_parked stopped.parked) start (W.contents output.new) result }
+    ensures stopped { StopsByMemory result.input result.end }
+    ensures refusal { MatchOption stopped.refused ⊤ (λ w. NamesRefused result.end (Some w)) }
+    ensures bound { IsSystemOfParked stopped.parked result.bound }
+{
+    let Stopped {
+        parked,
+        refused,
+        came,
+        way,
+    } = stopped;
+    drop(came);
+    drop(way);
+    match refused {
+        Some(worker) => parked.close(room, Some(worker)),
+        None => settle_rests(rt, parked, room, input, output),
     }
 }

@@ -1,43 +1,4 @@
-use Rattle.std.proofs.Common.{length, ap, arith}
-use Rattle.std.proofs.lemmas.List.{length-map}
-use Rattle.sdl_serial_run.specs.sdl_block.Workers.{worker_of}
-use Rattle.sdl_serial_run.proofs.driving.Drives.{workers_count, workers_few}
-use Rattle.sdl_serial_run.specs.sdl_driver.Stopped.{plan_of_parked, site_of_parked}
-use Rattle.sdl_forward.specs.Boards.{lists_of}
-use Rattle.sdl_run.proofs.Settles.{left_once, on_board}
 use Rattle.sdl_run.proofs.settling.settle.Goals as goal
 
 pub returns-in-Some-clause-writing : goal.returns-in-Some-clause-writing
 returns-in-Some-clause-writing g c start h = c.close.ensures.writing start _ h
-
-pub adopt-requires : goal.adopt-requires
-adopt-requires g c = record { once = left_once g.S.Agents.may c.args.stopped.parked c.requires.parked }
-
-pub drive_on-requires-clause-driving : goal.drive_on-requires-clause-driving
-drive_on-requires-clause-driving g c = on_board g.S.Agents.may c.args.stopped.parked c.requires.parked c.in-Ok.board c.in-Ok.ensures.lists
-
-pub number_of_taker-worker-requires-clause-few : goal.number_of_taker-worker-requires-clause-few
-number_of_taker-worker-requires-clause-few g c =
-    let a = workers_count g.S.Agents.may (plan_of_parked c.args.stopped.parked) (site_of_parked c.args.stopped.parked) c.requires.parked.work in
-    let b = workers_few (plan_of_parked c.args.stopped.parked) c.requires.parked.plan in
-    let d = ap length c.as_slice.ensures.value in
-    omega (arith, a, b, d)
-
-pub close-requires-in-Err-clause-driving : goal.close-requires-in-Err-clause-driving
-close-requires-in-Err-clause-driving g c = on_board g.S.Agents.may c.args.stopped.parked c.requires.parked (lists_of c.in-Err.rests.items) c.in-Err.ensures.lists.0
-
-pub close-requires-in-Err-clause-refused : goal.close-requires-in-Err-clause-refused
-close-requires-in-Err-clause-refused g c =
-    let a = workers_count g.S.Agents.may (plan_of_parked c.args.stopped.parked) (site_of_parked c.args.stopped.parked) c.requires.parked.work in
-    let b = workers_few (plan_of_parked c.args.stopped.parked) c.requires.parked.plan in
-    let d = ap length c.as_slice.ensures.value in
-    let e = length-map c.args.stopped.parked.blocks.items worker_of in
-    let f = c.number_of_taker-worker.ensures in
-    let h = c.len.ensures in
-    omega (arith, a, b, d, e, f, h)
-
-pub returns-in-Err-clause-reading : goal.returns-in-Err-clause-reading
-returns-in-Err-clause-reading g c start h = c.close-in-Err.ensures.reading start _ h
-
-pub returns-in-Err-clause-writing : goal.returns-in-Err-clause-writing
-returns-in-Err-clause-writing g c start h = c.close-in-Err.ensures.writing start _ h
