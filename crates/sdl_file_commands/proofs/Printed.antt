@@ -1,5 +1,5 @@
 -- The text of the routes up to one more, and what is appended where a write succeeded.
-use Rattle.std.proofs.Common.{◌≡◌, ℕ, zero, suc, ◌+◌, List, [], ◌∷◌, ◌++◌, Option, None, Some, Result, Ok, Err, OnOk, option_map, unwrap_or, slice_get, take, refl, ap, sym, ◌∙◌, subst, append_assoc, append-nil, add-zero, add-one, zero-add, arith}
+use Rattle.std.proofs.Common.{◌≡◌, ℕ, zero, suc, ◌+◌, List, [], ◌∷◌, ◌++◌, Option, None, Some, Result, Ok, Err, OnOk, option_map, unwrap_or, slice_get, take, refl, ap, sym, ◌∙◌, append_assoc, append-nil, add-zero, add-one, zero-add, arith}
 use Rattle.sdl_run.specs.sdl_parts.Structure.{Structure}
 use Rattle.sdl_run.specs.sdl_routes.declared.route.Route.{Route}
 use Rattle.sdl_run.specs.sdl_routes.declared.route.TableRow.{TableRow}

@@ -1,20 +1,24 @@
 -- From what holds of a run that has ended to what its exit status tells.
-use Rattle.std.proofs.Common.{ℕ, List, Option, ◌≡◌, subst}
+use Rattle.std.proofs.Common.{ℕ, List, Option, ◌≡◌, ◌⊎◌, inl, inr, max, refl, sym, ◌∙◌, subst, arith}
 use Rattle.sdl_run.specs.sdl_signal.declared.ends.InputEnd.{InputEnd}
+use Rattle.sdl_run.specs.sdl_signal.declared.ends.InputEnd.TheVariants as input
 use Rattle.sdl_run.specs.sdl_signal.declared.ends.OutputEnd.{OutputEnd}
+use Rattle.sdl_run.specs.sdl_signal.declared.ends.OutputEnd.TheVariants as output
 use Rattle.sdl_run.specs.sdl_parts.Structure.{Structure, lexicon_of}
 use Rattle.sdl_run.specs.sdl_routes.declared.route.TableRow.{TableRow}
 use Rattle.sdl_run.specs.sdl_behaviour.declared.step.Frame.{Frame}
 use Rattle.sdl_run.specs.sdl_behaviour.declared.step.Step.{Step}
 use Rattle.sdl_run.specs.sdl_transition.Rules.{Rules}
 use Rattle.sdl_run.specs.sdl_outcome.declared.end.RunEnd.{RunEnd}
+use Rattle.sdl_run.specs.sdl_outcome.declared.end.RunEnd.TheVariants as run_end
 use Rattle.sdl_run.specs.sdl_outcome.Outcome.{Outcome}
 use Rattle.sdl_run.specs.sdl_outcome.Plan.{Plan, blocks_in}
 use Rattle.sdl_run.specs.sdl_outcome.EnvironmentWork.{HasReadAll, HasWritten, received_text}
 use Rattle.sdl_run.specs.sdl_ledger.declared.ledger.Ledger.{Ledger}
 use Rattle.sdl_run.specs.sdl_driver.Closings.{StopsByMemory}
 use Rattle.sdl_run.specs.sdl_driver.Ended.{HasEnded}
-use Rattle.sdl_file_commands.specs.Outcomes.{HasRun, WasRun, IsToldBy, plan_with}
+use Rattle.sdl_command.specs.Status.{status_of_input, status_of_output}
+use Rattle.sdl_file_commands.specs.Outcomes.{HasRun, WasRun, IsToldBy, plan_with, status_of_end, status_of_run}
 
 has_run : (may : ℕ → Frame → Step → Type 0) (s : Structure) (routes : List TableRow) (rules : List (List Rules)) (o : Outcome) (end : RunEnd) (ledger : Ledger) (read : InputEnd) (written : OutputEnd) (status : ℕ)
     → HasEnded may (plan_with s routes rules) o end ledger → StopsByMemory read end → IsToldBy read written end status → HasRun s routes status
@@ -61,3 +65,35 @@ module _ (may : ℕ → Frame → Step → Type 0) (s : Structure) (routes : Lis
   was_run budget unread rest old new o end ledger read written status same h reads writes stops told =
       subst (λ (b : ℕ). WasRun may (planned b) unread rest old new status) same
       (record { outcome = o; end = end; ledger = ledger; read = read; written = written; ended = h; reading = reads; writing = writes; stopped = stops; told = told })
+
+-- the status of a part of a run is 0 or 3
+input_told : (end : InputEnd) → (status_of_input end ≡ 0) ⊎ (status_of_input end ≡ 3)
+input_told input.Whole = inl refl
+input_told (input.BadLine line fault) = inr refl
+input_told input.ReadFault = inr refl
+input_told input.TooMuch = inr refl
+input_told (input.Stopped lines) = inl refl
+
+output_told : (end : OutputEnd) → (status_of_output end ≡ 0) ⊎ (status_of_output end ≡ 3)
+output_told output.Whole = inl refl
+output_told output.WriteFault = inr refl
+
+end_told : (end : RunEnd) → (status_of_end end ≡ 0) ⊎ (status_of_end end ≡ 3)
+end_told run_end.Quiet = inl refl
+end_told (run_end.Spent block) = inr refl
+end_told (run_end.Memory worker) = inr refl
+
+both_told : (a b : ℕ) → (a ≡ 0) ⊎ (a ≡ 3) → (b ≡ 0) ⊎ (b ≡ 3) → (max a b ≡ 0) ⊎ (max a b ≡ 3)
+both_told a b (inl p) (inl q) = inl (omega arith)
+both_told a b (inl p) (inr q) = inr (omega arith)
+both_told a b (inr p) (inl q) = inr (omega arith)
+both_told a b (inr p) (inr q) = inr (omega arith)
+
+no_one : (n : ℕ) → (n ≡ 0) ⊎ (n ≡ 3) → n ≡ 1 → ⊥
+no_one n (inl p) q = omega arith
+no_one n (inr p) q = omega arith
+
+-- so the status of a run that was made is never that of a refusal
+pub not_refused : (read : InputEnd) (written : OutputEnd) (end : RunEnd) (status : ℕ) → IsToldBy read written end status → status ≡ 1 → ⊥
+not_refused read written end status told refused =
+    no_one (status_of_run read told.0 end) (both_told _ _ (both_told _ _ (input_told read) (output_told told.0)) (end_told end)) (sym told.2 ∙ refused)

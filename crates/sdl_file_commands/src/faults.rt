@@ -14,39 +14,62 @@ pub(crate) fn write_check_fault<E: Write>(
 ) {
     match fault {
         CheckFault::BadEnds(channel) => {
-            let channel = channel_name(structure, channel);
-            write_error(errors, format_args!("C1 BadEnds channel {channel}"))
+            write_channel_fault(errors, structure, "C1 BadEnds", channel)
         }
         CheckFault::EmptyChannel(channel) => {
-            let channel = channel_name(structure, channel);
-            write_error(errors, format_args!("C2 EmptyChannel channel {channel}"))
+            write_channel_fault(errors, structure, "C2 EmptyChannel", channel)
         }
         CheckFault::NotInGate(channel, direction, signal, gate) => {
             write_not_in_gate(errors, structure, (channel, direction, signal, gate))
         }
-        CheckFault::Unjoined(gate, side) => {
-            let agent = agent_name(structure, gate);
-            let gate = gate_name(structure, gate);
-            let side = side_text(side);
-            write_error(
-                errors,
-                format_args!("C4 Unjoined gate {agent}.{gate} {side}"),
-            )
-        }
+        CheckFault::Unjoined(gate, side) => write_unjoined(errors, structure, gate, side),
         CheckFault::LeadsNowhere(channel, direction, signal) => {
-            let channel = channel_name(structure, channel);
-            let direction = direction_text(direction);
-            let signal = signal_name(structure, signal);
-            write_error(
-                errors,
-                format_args!("C5 LeadsNowhere channel {channel} {direction} {signal}"),
-            )
+            write_leads_nowhere(errors, structure, channel, direction, signal)
         }
         CheckFault::InitialOverMax(set) => {
             let set = set_name(structure, set);
             write_error(errors, format_args!("C6 InitialOverMax set {set}"))
         }
     }
+}
+
+/// Writes a fault of a channel alone.
+fn write_channel_fault<E: Write>(
+    errors: &mut E,
+    structure: &Structure,
+    text: &str,
+    channel: ChannelId,
+) {
+    let channel = channel_name(structure, channel);
+    write_error(errors, format_args!("{text} channel {channel}"));
+}
+
+/// Writes that a side of a gate is joined to nothing.
+fn write_unjoined<E: Write>(errors: &mut E, structure: &Structure, gate: GateId, side: Side) {
+    let agent = agent_name(structure, gate);
+    let gate = gate_name(structure, gate);
+    let side = side_text(side);
+    write_error(
+        errors,
+        format_args!("C4 Unjoined gate {agent}.{gate} {side}"),
+    );
+}
+
+/// Writes that a signal of a channel's path leads nowhere.
+fn write_leads_nowhere<E: Write>(
+    errors: &mut E,
+    structure: &Structure,
+    channel: ChannelId,
+    direction: Direction,
+    signal: SignalId,
+) {
+    let channel = channel_name(structure, channel);
+    let direction = direction_text(direction);
+    let signal = signal_name(structure, signal);
+    write_error(
+        errors,
+        format_args!("C5 LeadsNowhere channel {channel} {direction} {signal}"),
+    );
 }
 
 /// Writes that a gate does not list a signal of a channel's path.

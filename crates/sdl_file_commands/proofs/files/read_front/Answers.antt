@@ -1,4 +1,3 @@
-use Rattle.std.proofs.Common.{rules}
 use Rattle.sdl_file_commands.proofs.Fronts.{front_read}
 use Rattle.sdl_file_commands.proofs.files.read_front.Goals as goal
 

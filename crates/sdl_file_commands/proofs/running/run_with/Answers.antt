@@ -2,7 +2,7 @@ use Rattle.std.proofs.Common.{rules, inr, map}
 use Rattle.sdl_run.specs.sdl_transition.Rules.{block_rules}
 use Rattle.sdl_run.specs.sdl_transition.Bound.{structure_of, routes_of, blocks_of}
 use Rattle.sdl_run.specs.sdl_driver.Closings.{outcome_in}
-use Rattle.sdl_file_commands.proofs.Told.{run_told, was_run}
+use Rattle.sdl_file_commands.proofs.Told.{run_told, was_run, not_refused}
 use Rattle.sdl_file_commands.proofs.running.run_with.Goals as goal
 
 pub returns-in-Ok-clause-run : goal.returns-in-Ok-clause-run
@@ -20,3 +20,10 @@ returns-in-Ok-clause-made g c =
           (search rules) c.in-Ok.ensures.ended c.in-Ok.ensures.reading c.in-Ok.ensures.writing c.in-Ok.ensures.stopped c.report_closing.ensures.status,
       c.report_closing.ensures.no_books,
     )
+
+pub returns-in-Ok-clause-refused : goal.returns-in-Ok-clause-refused
+returns-in-Ok-clause-refused g c refused =
+    absurd (not_refused c.in-Ok.closing.input c.in-Ok.closing.output c.in-Ok.closing.end c.report_closing.result c.report_closing.ensures.status refused)
+
+pub returns-in-Ok-clause-silent : goal.returns-in-Ok-clause-silent
+returns-in-Ok-clause-silent g c = c.report_closing.ensures.silent
