@@ -1,5 +1,5 @@
 -- What a run starts from.
-use Rattle.std.specs.Prelude.{ℕ, ◌≤◌, List}
+use Rattle.std.specs.Prelude.{◌≤◌, List}
 use Rattle.sdl_run.specs.sdl_parts.Structure.{Structure}
 use Rattle.sdl_run.specs.sdl_routes.declared.route.TableRow.{TableRow}
 use Rattle.sdl_run.specs.sdl_routes.Routes.{AreRoutesOf}

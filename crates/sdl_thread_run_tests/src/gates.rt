@@ -103,7 +103,7 @@ impl Gate for HeldPath {
     }
 }
 
-/// Some steps, at random, first yield or spin.
+/// Some steps, at random, first yield or spin. Few yield, since each of them takes a time slice of other work where there is some.
 #[derive(Drop)]
 pub struct Jitter {
     drawn: AtomicU64,
@@ -130,9 +130,9 @@ impl Gate for Jitter {
     fn before(&self, worker: u32, step: u64) {
         let drawn = xorshift(self.drawn.load(SeqCst) ^ u64::from(worker) ^ (step << 8));
         self.drawn.store(drawn | 1, SeqCst);
-        match drawn % 16 {
-            0 | 1 => thread::yield_now(),
-            2 => {
+        match drawn % 32 {
+            0 => thread::yield_now(),
+            1 | 2 => {
                 for _ in 0..(drawn >> 32) % 200 {
                     spin_loop();
                 }
