@@ -1,5 +1,5 @@
 //! All workers at once, each in a thread of a scope, and the environment's on the caller's.
-ghost use Rattle.std.specs.Prelude.{◌≡◌, ◌≤◌, ◌<◌, ◌^◌, [], vec_len, vec_capacity};
+ghost use Rattle.std.specs.Prelude.{◌≡◌, ◌≤◌, ◌<◌, ◌^◌, [], vec_len, vec_capacity, IfOk, IfErr};
 ghost use Rattle.std.specs.List.{All, AllZip};
 ghost use Rattle.sdl_threads.specs.Back.{ComesFrom};
 
@@ -11,7 +11,7 @@ use sdl_routes::Routes;
 use std::snapshot::Snapshot;
 use std::sync::Wait;
 use std::thread;
-use std::thread::{Promise, Scope, Threads};
+use std::thread::{Promise, PromisedHandle, Scope, Threads};
 
 /// The workers of a system before they start, and room for those that come back. The worker at a place of the list has that number,
 /// and one more from the environment's number on.
@@ -53,6 +53,45 @@ fn run_one<W: Work, G: Gate, R: Wait>(
         return Returned::NotStarted(worker);
     }
     drive(rt, worker, number, structure, routes, gate, told)
+}
+
+/// Starts the worker of this number in a thread of its own. Where that can't start, all are told to stop, and the worker comes back
+/// at once.
+fn start_one<'s, 'e: 's, W: Work + Send + Drop + 'e, G: Gate + 'e, R: Threads + Wait + Sync + 'e>(
+    scope: &'s Scope<'s, &'e ()>,
+    rt: &'e R,
+    worker: W,
+    number: u32,
+    structure: &'e Structure,
+    routes: &'e Routes,
+    gate: &'e G,
+    told: &'e Told,
+) -> Result<PromisedHandle<Returned<W>, ComesBack<W>>, Returned<W>>
+    requires { W.keeps structure.now routes.now worker }
+    ensures worker { IfOk result (λ thread. thread.promise.worker.value ≡ worker) }
+    ensures system { IfOk result (λ thread. (thread.promise.structure.value ≡ structure.now) × (thread.promise.routes.value ≡ routes.now)) }
+    ensures back { IfErr result (λ back. ComesFrom (W.keeps structure.now routes.now) W.same worker back) }
+{
+    let promise = ComesBack {
+        worker: Snapshot::of(&worker),
+        structure: Snapshot::of(structure),
+        routes: Snapshot::of(routes),
+    };
+    let started = scope.spawn_with(
+        promise,
+        move || -> Returned<W>
+            requires { W.keeps structure.now routes.now worker }
+            ensures { ComesFrom (W.keeps structure.entry.now routes.entry.now) W.same worker result }
+        { run_one(rt, worker, number, structure, routes, gate, told) },
+    );
+    match started {
+        Ok(thread) => Ok(thread),
+        Err(refused) => {
+            told.stop();
+            told.turn_away(number);
+            Err((refused.value)())
+        }
+    }
 }
 
 #[tactic(auto, using(std::proofs::lemmas::Slice::Zip::all_zipped_more))]
@@ -107,26 +146,7 @@ fn run_rest<
     } else {
         place + 1
     };
-    let promise = ComesBack {
-        worker: Snapshot::of(&worker),
-        structure: Snapshot::of(structure),
-        routes: Snapshot::of(routes),
-    };
-    let started = scope.spawn_with(
-        promise,
-        move || -> Returned<W>
-            requires { W.keeps structure.now routes.now worker }
-            ensures { ComesFrom (W.keeps structure.entry.now routes.entry.now) W.same worker result }
-        { run_one(rt, worker, number, structure, routes, gate, told) },
-    );
-    let started = match started {
-        Ok(thread) => Ok(thread),
-        Err(refused) => {
-            told.stop();
-            told.turn_away(number);
-            Err((refused.value)())
-        }
-    };
+    let started = start_one(scope, rt, worker, number, structure, routes, gate, told);
     let team = Team {
         workers,
         environment,
