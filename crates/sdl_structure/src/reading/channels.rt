@@ -9,7 +9,7 @@ ghost use Rattle.sdl_tables.specs.Places.{names_before};
 ghost use Rattle.sdl_tables.specs.Names.{HasOneDot, is_dot, agent_part, gate_part};
 ghost use Rattle.sdl_structure.specs.File.{IsChannelTable, IsAgent, NamesEnd, channels_in};
 ghost use Rattle.sdl_structure.specs.File as file;
-ghost use Rattle.sdl_tables.specs.Faults.{IsBroken, so_far};
+ghost use Rattle.sdl_tables.specs.Faults.{IsBroken, IsOfFile, so_far};
 ghost use Rattle.sdl_tables.specs.Walks.{file_of, own, IsHere, name_texts};
 ghost use Rattle.sdl_structure.specs.Drafts.{ServesChannels, IsScope, IsChannelScope, blocks_before, HasGateOf};
 
@@ -89,6 +89,7 @@ impl Draft {
         ensures kind { IfOk result (λ _. HasKindAt (own walk.now) Key.Ends) }
         ensures read { IfOk result (λ ends. AllZip (NamesEnd self.now.blocks.items self.now.sets.items self.now.gates.items scope) (elements_at Key.Ends (own walk.now)) (ends.0 ∷ ends.1 ∷ [])) }
         ensures fault { IfErr result (IsBroken (file_of walk.now)) }
+        ensures of_file { IfErr result IsOfFile }
     {
         let texts = walk.texts(Key::Ends)?;
         if texts.len() != 2 {

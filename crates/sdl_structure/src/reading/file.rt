@@ -3,7 +3,7 @@ ghost use Rattle.std.specs.Prelude.{◌≡◌, ◌≤◌, pos, Some, IfOk, IfErr
 ghost use Rattle.sdl_tables.specs.Tables.{integer_at, integer_or, HasKindAt};
 ghost use Rattle.toml.specs.View.{table_view};
 ghost use Rattle.sdl_structure.specs.File.{IsFileOf};
-ghost use Rattle.sdl_tables.specs.Faults.{IsBroken};
+ghost use Rattle.sdl_tables.specs.Faults.{IsBroken, IsOfFile};
 ghost use Rattle.sdl_tables.specs.Walks.{file_of, own, IsHere};
 ghost use Rattle.sdl_parts.specs.Lists.{structure_of};
 
@@ -71,6 +71,7 @@ fn read_version(top: &Walk) -> Result<(), FileFault>
     ensures kind { OnOk result (HasKindAt (own top.now) Key.Version) }
     ensures one { OnOk result (integer_at Key.Version (own top.now) ≡ Some (pos 1)) }
     ensures fault { IfErr result (IsBroken (file_of top.now)) }
+    ensures of_file { IfErr result IsOfFile }
 {
     top.required_integer(Key::Version)?;
     Ok(())
@@ -84,6 +85,7 @@ fn read_budget(top: &Walk) -> Result<u32, FileFault>
     ensures held { IfOk result (λ n. integer_or (pos 100000) Key.Budget (own top.now) ≡ Some (pos n)) }
     ensures range { IfOk result (λ n. (1 ≤ n) × (n ≤ 1000000)) }
     ensures fault { IfErr result (IsBroken (file_of top.now)) }
+    ensures of_file { IfErr result IsOfFile }
 {
     let budget = top.integer_or(Key::Budget, DEFAULT_BUDGET)?;
     Ok(budget as u32)
