@@ -15,9 +15,9 @@ use crate::outputs::Mark;
 use crate::process_set::ProcessSet;
 use arrayvec::ArrayVec;
 use sdl_log::Done;
-use sdl_processes::copies::copied_item;
+use sdl_processes::copies::add_values;
 use sdl_routes::Routes;
-use sdl_signal::Item;
+use sdl_signal::{Item, Signal};
 use sdl_transition::{Action, Agents, BlockParts};
 
 /// The instance that makes a turn: its place among the living ones, the behaviours of its block, and the routes of the
@@ -84,6 +84,30 @@ pub fn act_all<S: Agents>(
     }
 }
 
+/// Adds a copy of the item, whose values are written where they are to stand.
+#[inline(always)]
+fn add_copy(sent: &mut ArrayVec<Item, 8>, item: &Item)
+    requires { length sent.old.items + 1 ≤ 8 }
+    ensures { sent.new.items ≡ sent.old.items ++ item.now ∷ [] }
+{
+    sent.push(Item {
+        origin: item.origin,
+        stamp: item.stamp,
+        signal: Signal {
+            id: item.signal.id,
+            params: ArrayVec::new(),
+        },
+        sender: item.sender,
+        to: item.to,
+        route: item.route,
+    });
+    let place = sent.len() - 1;
+    add_values(
+        &mut sent[place].signal.params,
+        item.signal.params.as_slice(),
+    );
+}
+
 /// Adds the items that were sent, in order.
 #[inline(always)]
 pub fn add_sent(done: &[Done], sent: &mut ArrayVec<Item, 8>)
@@ -92,7 +116,7 @@ pub fn add_sent(done: &[Done], sent: &mut ArrayVec<Item, 8>)
 {
     if let Some((one, rest)) = done.split_first() {
         if let Done::Sent(item) = one {
-            sent.push(copied_item(item));
+            add_copy(sent, item);
         }
         add_sent(rest, sent);
     }

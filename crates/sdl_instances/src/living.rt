@@ -11,7 +11,7 @@ use crate::outputs::{Mark, output};
 use crate::process_set::ProcessSet;
 use arrayvec::ArrayVec;
 use sdl_log::Done;
-use sdl_processes::copies::{copied_signal, copied_values};
+use sdl_processes::copies::{add_values, copied_values};
 use sdl_processes::{Instance, Instances};
 use sdl_routes::{Routes, Via};
 use sdl_signal::{Item, Pid, SetId, Signal, Value};
@@ -25,17 +25,6 @@ pub struct Living {
     pub(crate) alloc: Global,
     pub(crate) instances: Instances,
     pub(crate) last: Vec<u32>,
-}
-
-/// Adds the values. There is room for them.
-#[inline(always)]
-fn add_values<const N: usize>(to: &mut ArrayVec<Value, N>, values: &[Value])
-    requires { length to.old.items + length values.now ≤ N }
-    ensures { to.new.items ≡ to.old.items ++ values.now }
-{
-    for value in values {
-        to.push(*value);
-    }
 }
 
 /// A frame that shows nothing yet.
@@ -64,7 +53,13 @@ fn show_next(pid: Pid, instance: &Instance, frame: &mut Frame)
     match instance.front() {
         Some(item) => {
             frame.sender = item.sender;
-            frame.signal = Some(copied_signal(&item.signal));
+            frame.signal = Some(Signal {
+                id: item.signal.id,
+                params: ArrayVec::new(),
+            });
+            if let Some(signal) = &mut frame.signal {
+                add_values(&mut signal.params, item.signal.params.as_slice());
+            }
         }
         None => {
             frame.sender = instance.sender();

@@ -1,8 +1,20 @@
 //! Copies of signals and items, which take no memory.
-ghost use Rattle.std.specs.Prelude.{◌≡◌, ◌≤◌, length};
+ghost use Rattle.std.specs.Prelude.{◌≡◌, ◌+◌, ◌++◌, ◌≤◌, length};
 
 use arrayvec::ArrayVec;
 use sdl_signal::{Item, Signal, Sort, Value};
+
+/// Adds the values to a list that has room for them. Where values are moved right after they were written one by one, the processor
+/// waits for them; so they are written where they are to stand.
+#[inline(always)]
+pub fn add_values<const N: usize>(to: &mut ArrayVec<Value, N>, values: &[Value])
+    requires { length to.old.items + length values.now ≤ N }
+    ensures { to.new.items ≡ to.old.items ++ values.now }
+{
+    for value in values {
+        to.push(*value);
+    }
+}
 
 /// The same values. There are at most as many as the list holds.
 pub fn copied_values<const N: usize>(values: &[Value]) -> ArrayVec<Value, N>
@@ -10,9 +22,7 @@ pub fn copied_values<const N: usize>(values: &[Value]) -> ArrayVec<Value, N>
     ensures { result.items ≡ values.now }
 {
     let mut copy = ArrayVec::new();
-    for value in values {
-        copy.push(*value);
-    }
+    add_values(&mut copy, values);
     copy
 }
 

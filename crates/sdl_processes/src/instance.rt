@@ -3,7 +3,7 @@ ghost use Rattle.std.specs.Prelude.{◌≡◌, ◌<◌, ◌++◌, ◌∷◌, [],
 ghost use Rattle.sdl_signal.specs.declared.values.Item.{Item};
 ghost use Rattle.sdl_processes.specs.Record.{created_record, consumed, front_of, is_ready};
 
-use crate::copies::copied_values;
+use crate::copies::add_values;
 use arrayvec::ArrayVec;
 use sdl_signal::{Item, Pid, StateId, Value};
 use std::alloc::{AllocError, Global};
@@ -146,6 +146,7 @@ impl Instance {
         ensures { self.new ≡ record self.old { state = Some state; vars = vars.now.items } }
     {
         self.state = Some(state);
-        self.vars = copied_values(vars.as_slice());
+        self.vars.clear();
+        add_values(&mut self.vars, vars.as_slice());
     }
 }
