@@ -6,7 +6,7 @@ use Rattle.sdl_threads.specs.declared.kinds.Kind.{Kind}
 use Rattle.sdl_threads.specs.declared.kinds.Kind.TheVariants.{Block, Forwarder}
 use Rattle.sdl_threads.specs.Back.{worker_in, ComesFrom}
 use Rattle.sdl_threads.specs.Kinds.{KeepsOneOf, SameOneOf}
-use Rattle.sdl_run.specs.Coming.{block_if, forwarder_if, blocks_back, forwarders_back}
+use Rattle.sdl_settling.specs.Coming.{block_if, forwarder_if, blocks_back, forwarders_back}
 
 -- it keeps what its steps keep, and is the one that was given
 abbrev pub CameBack : {X : Type 0} → (X → Type 0) → (X → X → Type 0) → X → X → Type 0

@@ -1,12 +1,8 @@
 pub mod Pairs
 pub mod Comes
-pub mod Names
 pub mod Places
 pub mod Site
 pub mod Begin
-pub mod Settles
 pub mod Environments
-pub mod Rooms
-pub mod Parts
 pub mod Together
 pub mod Whole

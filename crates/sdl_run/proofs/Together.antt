@@ -49,7 +49,7 @@ use Rattle.sdl_threads.specs.Back.{ComesFrom, worker_in}
 use Rattle.sdl_threads.specs.Kinds.{KeepsOneOf, SameOneOf}
 use Rattle.sdl_threads.specs.Workers.{IsSameBlock, IsSameForwarder}
 use Rattle.sdl_run.specs.Sharing.{paired, block_thread, forwarder_thread, GivesOut}
-use Rattle.sdl_run.specs.Coming.{blocks_back, forwarders_back, ends_back}
+use Rattle.sdl_settling.specs.Coming.{blocks_back, forwarders_back, ends_back}
 use Rattle.sdl_run.specs.Environment.{KeepsEnvironment}
 use Rattle.sdl_run.proofs.Places.{all_places, all_of, at_paired, paired_length}
 use Rattle.sdl_run.proofs.Comes.{CameBack, all_come}

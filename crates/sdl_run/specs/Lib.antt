@@ -34,6 +34,5 @@ pub use Rattle.sdl_serial_run.specs.Closings
 pub use Rattle.sdl_serial_run.specs.Starting
 pub use Rattle.sdl_serial_run.specs.Serial
 pub mod Sharing
-pub mod Coming
 pub mod Environment
 pub mod Room

@@ -9,23 +9,10 @@ use Rattle.sdl_serial_run.specs.Starting.{idle_at}
 use Rattle.sdl_serial_run.specs.sdl_block.Workers.{behaviours_of}
 use Rattle.sdl_serial_run.specs.sdl_driver.Closings.{HasRoom}
 use Rattle.sdl_serial_run.specs.sdl_driver.declared.parked.Parked.{Parked}
+use Rattle.sdl_settling.specs.Room.{HasApartRoom}
 use Rattle.sdl_run.specs.declared.joining.Starting.{Starting}
-use Rattle.sdl_run.specs.declared.room.ApartRoom.{ApartRoom}
 use Rattle.sdl_run.specs.declared.room.Opened.{Opened}
 use Rattle.sdl_run.specs.declared.room.ThreadRoom.{ThreadRoom}
-
--- there is room for so many blocks and forwarders, and the environment, as they are taken apart
-pub record HasApartRoom {S K I : Type 0} {F : I → Type 0} {g : _} (blocks forwarders : ℕ) (r : ApartRoom S K I F g) : Type 0 where
-  pub block_threads_empty : r.block_threads.items ≡ []
-  pub block_threads : vec_len r.block_threads + blocks ≤ vec_capacity r.block_threads
-  pub forwarder_threads_empty : r.forwarder_threads.items ≡ []
-  pub forwarder_threads : vec_len r.forwarder_threads + forwarders ≤ vec_capacity r.forwarder_threads
-  pub blocks_empty : r.blocks.items ≡ []
-  pub blocks_room : vec_len r.blocks + blocks ≤ vec_capacity r.blocks
-  pub forwarders_empty : r.forwarders.items ≡ []
-  pub forwarders_room : vec_len r.forwarders + forwarders ≤ vec_capacity r.forwarders
-  pub ends_empty : r.ends.items ≡ []
-  pub ends : vec_len r.ends + (blocks + (forwarders + 1)) ≤ vec_capacity r.ends
 
 -- all ends are open, and there is room for all workers
 pub record IsOpened {S K I : Type 0} {F : I → Type 0} {g : _} (s : Structure) (routes : List TableRow) (o : Opened S K I F g) : Type 0 where

@@ -5,13 +5,13 @@ ghost use Rattle.sdl_ends.specs.Ends.{IsSameEnds};
 ghost use Rattle.sdl_threads.specs.Back.{ComesFrom};
 ghost use Rattle.sdl_run.specs.Environment.{KeepsEnvironment};
 
-use crate::back::put_apart;
 use crate::environment_thread::EnvironmentThread;
 use sdl_ends::Ends;
 use sdl_log::Keeps;
 use sdl_parts::Structure;
 use sdl_routes::Routes;
 use sdl_serial_run::sdl_environment::EnvApart;
+use sdl_settling::back::put_apart;
 use sdl_threads::{AtWork, Gate, Returned, Team, Work, run_workers};
 use sdl_transition::Agents;
 use std::io::{Read, Write};

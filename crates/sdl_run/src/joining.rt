@@ -10,12 +10,10 @@ ghost use Rattle.sdl_serial_run.specs.sdl_outcome.Plan.{workers_of};
 ghost use Rattle.sdl_serial_run.specs.sdl_outcome.EnvironmentWork.{IsEnvFresh, HasReadSoFar, HasWrittenSoFar};
 ghost use Rattle.sdl_serial_run.specs.sdl_driver.Stopped.{plan_of_parked, IsParked};
 ghost use Rattle.sdl_serial_run.specs.Serial.{IsNew};
-ghost use Rattle.sdl_run.specs.Coming.{blocks_back, NamesFirst};
+ghost use Rattle.sdl_settling.specs.Coming.{blocks_back, NamesFirst};
 ghost use Rattle.sdl_run.specs.Room.{IsOpened, IsParkedOf};
 
-use crate::back::name_refused;
 use crate::beside::{EnvironmentWithEnds, run_beside};
-use crate::rejoining::{Joined, join_ends};
 use crate::room::Opened;
 use crate::sharing::give_out;
 use sdl_join::laws::{joined_workers_stand, new_workers_keep};
@@ -26,7 +24,10 @@ use sdl_routes::Routes;
 use sdl_serial_run::sdl_block::BlockWorker;
 use sdl_serial_run::sdl_driver::Parked;
 use sdl_serial_run::sdl_environment::{EnvApart, EnvWorker};
-use sdl_threads::{AtWork, Gate, Returned, Team};
+use sdl_settling::back::name_refused;
+use sdl_settling::rejoining::{Joined, join_ends};
+use sdl_settling::settling::Stopped;
+use sdl_threads::{Gate, Team};
 use sdl_transition::Agents;
 use std::io::{Read, Write};
 use std::snapshot::Snapshot;
@@ -41,19 +42,6 @@ pub struct Starting<S, K: Keeps = Vec<Event>> {
     pub blocks: Vec<BlockWorker<S, K>>,
     pub environment: EnvWorker,
     pub budget: u32,
-}
-
-/// Workers that have stopped.
-#[derive(Drop)]
-pub struct Stopped<S, K: Keeps = Vec<Event>> {
-    pub parked: Parked<S, K>,
-    /// The number of the environment where it was refused memory, and else of the first other worker that was, or whose thread
-    /// could not start. `None` exactly where all ran.
-    pub refused: Option<u32>,
-    /// The blocks and forwarders as they came back, for contracts alone.
-    pub came: Snapshot<Vec<Returned<AtWork<S, K>>>>,
-    /// How the environment came back.
-    pub way: Returned<()>,
 }
 
 /// Runs all workers until they are told to stop: each block and each forwarder in a thread of its own, the environment on this one.

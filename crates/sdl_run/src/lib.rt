@@ -2,13 +2,10 @@
 //! on one thread.
 #![tactic(auto)]
 
-mod back;
 mod beside;
 mod environment_thread;
 mod joining;
-mod rejoining;
 mod room;
-mod settling;
 mod sharing;
 mod threads;
 

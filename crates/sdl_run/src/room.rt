@@ -2,7 +2,8 @@
 ghost use Rattle.std.specs.Prelude.{◌≡◌, ◌<◌, ◌≤◌, ◌^◌, [], length, IfOk};
 ghost use Rattle.sdl_serial_run.specs.sdl_driver.Closings.{HasRoom};
 ghost use Rattle.sdl_routes.specs.Routes.{AreRoutesOf};
-ghost use Rattle.sdl_run.specs.Room.{HasApartRoom, IsOpened, IsThreadRoom};
+ghost use Rattle.sdl_settling.specs.Room.{HasApartRoom};
+ghost use Rattle.sdl_run.specs.Room.{IsOpened, IsThreadRoom};
 
 use sdl_ends::{Ends, Shelf};
 use sdl_forward::Forwarder;
@@ -14,7 +15,8 @@ use sdl_serial_run::sdl_block::BlockWorker;
 use sdl_serial_run::sdl_driver::closing::Room;
 use sdl_serial_run::sdl_environment::EnvWorker;
 use sdl_serial_run::start::forwarders_of;
-use sdl_threads::{AtWork, BlockThread, ForwarderThread, Returned};
+use sdl_settling::rejoining::ApartRoom;
+use sdl_threads::{AtWork, Returned};
 use sdl_transition::Agents;
 use std::alloc::{AllocError, Global};
 use std::sync::Wait;
@@ -34,16 +36,6 @@ pub struct Opened<S, K: Keeps = Vec<Event>> {
     pub done: Vec<Returned<AtWork<S, K>>>,
     /// Room for them as they are taken apart.
     pub room: ApartRoom<S, K>,
-}
-
-/// Room for workers as they are taken apart.
-#[derive(Drop)]
-pub struct ApartRoom<S, K: Keeps = Vec<Event>> {
-    pub block_threads: Vec<BlockThread<S, K>>,
-    pub forwarder_threads: Vec<ForwarderThread>,
-    pub blocks: Vec<BlockWorker<S, K>>,
-    pub forwarders: Vec<Forwarder>,
-    pub ends: Vec<Ends>,
 }
 
 /// What a run in threads takes before its blocks start.

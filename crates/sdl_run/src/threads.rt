@@ -9,13 +9,13 @@ ghost use Rattle.sdl_run.specs.Room.{IsThreadRoom};
 
 use crate::joining::{Starting, run_apart};
 use crate::room::{ThreadRoom, make_thread_room};
-use crate::settling::settle;
 use sdl_instances::bounds::parts_are_bound;
 use sdl_log::Keeps;
 use sdl_parts::Checked;
 use sdl_routes::Routes;
 use sdl_serial_run::blocks::{gather, start_blocks};
 use sdl_serial_run::sdl_driver::closing::{Closing, StartFault};
+use sdl_settling::settling::settle;
 use sdl_threads::Gate;
 use sdl_transition::{Agents, BlockParts, Bound};
 use std::alloc::Global;

@@ -3,7 +3,7 @@ use Rattle.std.proofs.Common.{ℕ, zero, suc, ◌+◌, ◌<◌, ◌≤◌, List,
 use Rattle.std.specs.Prelude.{⊤}
 use Rattle.std.specs.List.{AllByRecursion}
 use Rattle.sdl_threads.specs.declared.work.Returned.{Returned}
-use Rattle.sdl_run.specs.Coming.{HasRun, FirstNotRun, IsFirstFrom, IsFirstRefused}
+use Rattle.sdl_settling.specs.Coming.{HasRun, FirstNotRun, IsFirstFrom, IsFirstRefused}
 
 module _ {W : Type 0} (done rest : List (Returned W)) (r : Returned W) (cut : done ≡ r ∷ rest) (number : ℕ) where
   -- it is the first of them

@@ -8,7 +8,7 @@ use Rattle.sdl_threads.specs.declared.work.Returned.{Returned}
 use Rattle.sdl_threads.specs.declared.kinds.Kind.{Kind}
 use Rattle.sdl_threads.specs.declared.kinds.Kind.TheVariants.{Block, Forwarder}
 use Rattle.sdl_threads.specs.Back.{worker_in}
-use Rattle.sdl_run.specs.Coming.{block_if, forwarder_if, blocks_back, forwarders_back, ends_back}
+use Rattle.sdl_settling.specs.Coming.{block_if, forwarder_if, blocks_back, forwarders_back, ends_back}
 
 block_first : {B F : Type 0} (k : Kind B F) (bs : List B) → block_if k bs ≡ block_if k [] ++ bs
 block_first (Block b) bs = refl

@@ -2,7 +2,7 @@
 ghost use Rattle.std.specs.Prelude.{◌≡◌, ℕ, ◌+◌, ◌<◌, ◌≤◌, ◌^◌, ◌++◌, ◌∷◌, [], length, map, vec_len, vec_capacity, MatchOption, MatchBool, ⊤};
 ghost use Rattle.std.specs.List.{AllByRecursion};
 ghost use Rattle.sdl_threads.specs.Back.{worker_in};
-ghost use Rattle.sdl_run.specs.Coming.{block_if, forwarder_if, blocks_back, forwarders_back, HasRun, CameAs, IsFirstFrom, IsFirstRefused, NamesFirst};
+ghost use Rattle.sdl_settling.specs.Coming.{block_if, forwarder_if, blocks_back, forwarders_back, HasRun, CameAs, IsFirstFrom, IsFirstRefused, NamesFirst};
 
 use sdl_ends::Ends;
 use sdl_forward::Forwarder;
@@ -110,7 +110,7 @@ fn put_behind(list: &mut Vec<Ends>, ends: Ends)
 }
 
 /// Parts the blocks from the forwarders, in order.
-pub fn part<S: Agents, K: Keeps>(
+pub(crate) fn part<S: Agents, K: Keeps>(
     blocks: &mut Vec<BlockThread<S, K>>,
     forwarders: &mut Vec<ForwarderThread>,
     done: Vec<Returned<AtWork<S, K>>>,
@@ -129,7 +129,7 @@ pub fn part<S: Agents, K: Keeps>(
 }
 
 /// Takes the blocks and their ends, in order.
-pub fn take_blocks<S: Agents, K: Keeps>(
+pub(crate) fn take_blocks<S: Agents, K: Keeps>(
     blocks: &mut Vec<BlockWorker<S, K>>,
     ends: &mut Vec<Ends>,
     threads: Vec<BlockThread<S, K>>,
@@ -149,7 +149,7 @@ pub fn take_blocks<S: Agents, K: Keeps>(
 }
 
 /// Takes the forwarders and their ends, in order.
-pub fn take_forwarders(
+pub(crate) fn take_forwarders(
     forwarders: &mut Vec<Forwarder>,
     ends: &mut Vec<Ends>,
     threads: Vec<ForwarderThread>,

@@ -3,11 +3,10 @@ ghost use Rattle.std.specs.Prelude.{◌≡◌, ◌+◌, ◌≤◌, length, map};
 ghost use Rattle.std.specs.List.{AllByRecursion};
 ghost use Rattle.sdl_routes.specs.Routes.{EachOnce};
 ghost use Rattle.sdl_ends.specs.Ends.{column, AreAllEndsOf, AreRejoined};
-ghost use Rattle.sdl_run.specs.Coming.{blocks_back, forwarders_back, ends_back};
-ghost use Rattle.sdl_run.specs.Room.{HasApartRoom};
+ghost use Rattle.sdl_settling.specs.Coming.{blocks_back, forwarders_back, ends_back};
+ghost use Rattle.sdl_settling.specs.Room.{HasApartRoom};
 
 use crate::back::{part, take_blocks, take_forwarders};
-use crate::room::ApartRoom;
 use sdl_ends::{Ends, Shelf, ends_rejoin};
 use sdl_forward::Forwarder;
 use sdl_log::{Event, Keeps};
@@ -15,9 +14,19 @@ use sdl_queue::Rest;
 use sdl_routes::Station;
 use sdl_serial_run::blocks::put_last;
 use sdl_serial_run::sdl_block::BlockWorker;
-use sdl_threads::{AtWork, Returned};
+use sdl_threads::{AtWork, BlockThread, ForwarderThread, Returned};
 use sdl_transition::Agents;
 use std::sync::Wait;
+
+/// Room for workers as they are taken apart.
+#[derive(Drop)]
+pub struct ApartRoom<S, K: Keeps = Vec<Event>> {
+    pub block_threads: Vec<BlockThread<S, K>>,
+    pub forwarder_threads: Vec<ForwarderThread>,
+    pub blocks: Vec<BlockWorker<S, K>>,
+    pub forwarders: Vec<Forwarder>,
+    pub ends: Vec<Ends>,
+}
 
 /// The blocks and forwarders that came back, and what is left at each station.
 #[derive(Drop)]

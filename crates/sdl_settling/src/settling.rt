@@ -9,15 +9,29 @@ ghost use Rattle.sdl_serial_run.specs.sdl_driver.Drivers.{plan_of, IsDriving};
 ghost use Rattle.sdl_serial_run.specs.sdl_driver.Ended.{HasEnded};
 ghost use Rattle.sdl_serial_run.specs.sdl_driver.Stopped.{plan_of_parked, IsParked, IsSystemOfParked};
 
-use crate::joining::Stopped;
 use sdl_forward::{Board, Forwarder};
-use sdl_log::Keeps;
+use sdl_log::{Event, Keeps};
 use sdl_routes::Station;
 use sdl_serial_run::sdl_driver::closing::{Closing, Room};
 use sdl_serial_run::sdl_driver::{Driver, Parked};
+use sdl_threads::{AtWork, Returned};
 use sdl_transition::Agents;
 use std::io::{Read, Write};
+use std::snapshot::Snapshot;
 use std::sync::Wait;
+
+/// Workers that have stopped.
+#[derive(Drop)]
+pub struct Stopped<S, K: Keeps = Vec<Event>> {
+    pub parked: Parked<S, K>,
+    /// The number of the environment where it was refused memory, and else of the first other worker that was, or whose thread
+    /// could not start. `None` exactly where all ran.
+    pub refused: Option<u32>,
+    /// The blocks and forwarders as they came back, for contracts alone.
+    pub came: Snapshot<Vec<Returned<AtWork<S, K>>>>,
+    /// How the environment came back.
+    pub way: Returned<()>,
+}
 
 /// The number of the worker that takes from the station: a block, the environment behind the blocks, or a forwarder behind it.
 fn number_of_taker(station: Station, blocks: u32, forwarders: &[Forwarder]) -> u32

@@ -4,7 +4,7 @@ use Rattle.sdl_parts.specs.Structure.{Structure}
 use Rattle.sdl_opening.specs.Opens.{AreOpen}
 use Rattle.sdl_serial_run.specs.sdl_outcome.Plan.{lines_from}
 use Rattle.sdl_serial_run.specs.Starting.{idle_at}
-use Rattle.sdl_run.proofs.Rooms.{room_of}
+use Rattle.sdl_settling.proofs.Rooms.{room_of}
 use Rattle.sdl_run.proofs.room.open_all.Goals as goal
 
 pub returns : goal.returns

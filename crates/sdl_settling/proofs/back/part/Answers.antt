@@ -1,8 +1,8 @@
 use Rattle.std.proofs.Common.{[], ◌+◌, length, arith}
 use Rattle.sdl_serial_run.proofs.Begins.{room_for}
-use Rattle.sdl_run.specs.Coming.{block_if, forwarder_if, blocks_back, forwarders_back}
-use Rattle.sdl_run.proofs.Parts.{block_cut, forwarder_cut, gone_over, none_over, count_over, no_blocks, no_forwarders}
-use Rattle.sdl_run.proofs.back.part.Goals as goal
+use Rattle.sdl_settling.specs.Coming.{block_if, forwarder_if, blocks_back, forwarders_back}
+use Rattle.sdl_settling.proofs.Parts.{block_cut, forwarder_cut, gone_over, none_over, count_over, no_blocks, no_forwarders}
+use Rattle.sdl_settling.proofs.back.part.Goals as goal
 
 pub place-requires-clause-blocks : goal.place-requires-clause-blocks
 place-requires-clause-blocks g c =

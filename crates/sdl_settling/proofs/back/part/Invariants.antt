@@ -1,6 +1,6 @@
 use Rattle.std.proofs.Common.{◌≡◌, ◌+◌, ◌≤◌, ◌++◌, length, vec_len, vec_capacity}
-use Rattle.sdl_run.specs.Coming.{blocks_back, forwarders_back}
-use Rattle.sdl_run.proofs.back.part.Given as goal
+use Rattle.sdl_settling.specs.Coming.{blocks_back, forwarders_back}
+use Rattle.sdl_settling.proofs.back.part.Given as goal
 
 abbrev pub invariant-loop-rest : goal.invariant-loop-rest
 invariant-loop-rest g l = record {

@@ -1,8 +1,8 @@
 use Rattle.std.proofs.Common.{◌+◌, [], length, arith}
 use Rattle.sdl_serial_run.proofs.Begins.{room_for}
-use Rattle.sdl_run.specs.Coming.{block_if, forwarder_if}
-use Rattle.sdl_run.proofs.Parts.{one_block, one_forwarder}
-use Rattle.sdl_run.proofs.back.place.Goals as goal
+use Rattle.sdl_settling.specs.Coming.{block_if, forwarder_if}
+use Rattle.sdl_settling.proofs.Parts.{one_block, one_forwarder}
+use Rattle.sdl_settling.proofs.back.place.Goals as goal
 
 pub returns-in-Block-clause-block_room : goal.returns-in-Block-clause-block_room
 returns-in-Block-clause-block_room g c more h =

@@ -1,7 +1,7 @@
 use Rattle.std.proofs.Common.{◌+◌, length, arith}
 use Rattle.sdl_serial_run.proofs.driving.Rooms.{come_over, fewer_by_one}
 use Rattle.sdl_serial_run.proofs.Begins.{room_for}
-use Rattle.sdl_run.proofs.back.take_blocks.Goals as goal
+use Rattle.sdl_settling.proofs.back.take_blocks.Goals as goal
 
 pub loop-rest-preserved : goal.loop-rest-preserved
 loop-rest-preserved g c =

@@ -1,5 +1,5 @@
 use Rattle.std.proofs.Common.{◌≡◌, ◌+◌, ◌≤◌, ◌++◌, map, length, vec_len, vec_capacity}
-use Rattle.sdl_run.proofs.back.take_forwarders.Given as goal
+use Rattle.sdl_settling.proofs.back.take_forwarders.Given as goal
 
 abbrev pub invariant-loop-rest : goal.invariant-loop-rest
 invariant-loop-rest l = record {

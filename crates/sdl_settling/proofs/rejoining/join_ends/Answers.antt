@@ -2,9 +2,9 @@ use Rattle.std.proofs.Common.{◌+◌, ◌≤◌, length, map, sym, subst, arith
 use Rattle.std.specs.List.{AllByRecursion}
 use Rattle.sdl_ends.specs.Ends.{column, AreAllEndsOf, AreRejoined}
 use Rattle.sdl_serial_run.proofs.Begins.{room_for}
-use Rattle.sdl_run.specs.Coming.{blocks_back, forwarders_back}
-use Rattle.sdl_run.proofs.Parts.{all_ends, only_added}
-use Rattle.sdl_run.proofs.rejoining.join_ends.Goals as goal
+use Rattle.sdl_settling.specs.Coming.{blocks_back, forwarders_back}
+use Rattle.sdl_settling.proofs.Parts.{all_ends, only_added}
+use Rattle.sdl_settling.proofs.rejoining.join_ends.Goals as goal
 
 pub put_last-requires : goal.put_last-requires
 put_last-requires g c =

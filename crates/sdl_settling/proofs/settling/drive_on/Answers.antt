@@ -5,8 +5,8 @@ use Rattle.sdl_serial_run.proofs.driving.Drives.{same_plan}
 use Rattle.sdl_serial_run.specs.sdl_driver.Closings.{outcome_in}
 use Rattle.sdl_serial_run.specs.sdl_driver.Drivers.{site_of}
 use Rattle.sdl_serial_run.proofs.Fresh.{system_same, room_same, ended_same}
-use Rattle.sdl_run.proofs.Settles.{reading_over, writing_over, bound_over}
-use Rattle.sdl_run.proofs.settling.drive_on.Goals as goal
+use Rattle.sdl_settling.proofs.Settles.{reading_over, writing_over, bound_over}
+use Rattle.sdl_settling.proofs.settling.drive_on.Goals as goal
 
 pub close-requires-clause-system : goal.close-requires-clause-system
 close-requires-clause-system g c = system_same g.S.Agents.may c.args.driver c.run-refused.new.self c.run-refused.ensures.same c.requires.system

@@ -4,8 +4,8 @@ use Rattle.sdl_serial_run.specs.sdl_block.Workers.{worker_of}
 use Rattle.sdl_serial_run.proofs.driving.Drives.{workers_count, workers_few}
 use Rattle.sdl_serial_run.specs.sdl_driver.Stopped.{plan_of_parked, site_of_parked}
 use Rattle.sdl_forward.specs.Boards.{lists_of}
-use Rattle.sdl_run.proofs.Settles.{left_once, on_board}
-use Rattle.sdl_run.proofs.settling.settle_rests.Goals as goal
+use Rattle.sdl_settling.proofs.Settles.{left_once, on_board}
+use Rattle.sdl_settling.proofs.settling.settle_rests.Goals as goal
 
 pub adopt-requires : goal.adopt-requires
 adopt-requires g c = record { once = left_once g.S.Agents.may c.args.parked c.requires.parked }

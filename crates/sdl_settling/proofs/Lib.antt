@@ -1,0 +1,4 @@
+pub mod Names
+pub mod Rooms
+pub mod Parts
+pub mod Settles
