@@ -8,5 +8,7 @@ mod running;
 pub mod systems;
 
 pub use sdl_file_commands;
-pub use sdl_file_commands::sdl_command::{arguments, pipe};
+pub use sdl_file_commands::sdl_command::arguments::{Arguments, Command, Options, read_arguments};
+pub use sdl_file_commands::sdl_command::pipe::pipe;
 pub use sdl_file_commands::streams;
+pub use systems::{carry_out, run_file};

@@ -1,6 +1,6 @@
 //! The pipe over readers and writers in memory, and over such as fail.
 use super::bytes::{Bytes, reader_of, writer_of};
-use sdl_program::pipe::pipe;
+use sdl_program::pipe;
 use sdl_program::program::{FAULTY, WHOLE, pipe_command};
 use sdl_signal::{InputEnd, LineFault, OutputEnd};
 use std::alloc::{AllocError, Global};

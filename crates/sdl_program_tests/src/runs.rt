@@ -2,9 +2,8 @@
 use super::bytes::{Bytes, reader_of, writer_of};
 use super::trial::{ECHO_TRIAL, PLENTY, RELAY_TRIAL, Trial, run};
 use sdl_examples::ECHO;
-use sdl_program::arguments::{Command, Options};
 use sdl_program::program::{FAULTY, REFUSED, WHOLE};
-use sdl_program::systems::run_file;
+use sdl_program::{Command, Options, run_file};
 
 const PING: &[u8] = b"line ping 7\n";
 

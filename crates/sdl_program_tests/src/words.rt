@@ -1,5 +1,5 @@
 //! The program's arguments.
-use sdl_program::arguments::{Arguments, Command, Options, read_arguments};
+use sdl_program::{Arguments, Command, Options, read_arguments};
 
 const WITHOUT_OPTIONS: Options = Options {
     command: Command::Run,
