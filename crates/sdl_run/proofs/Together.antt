@@ -53,6 +53,9 @@ use Rattle.sdl_settling.specs.Coming.{blocks_back, forwarders_back, ends_back}
 use Rattle.sdl_run.specs.Environment.{KeepsEnvironment}
 use Rattle.sdl_run.proofs.Places.{all_places, all_of, at_paired, paired_length}
 use Rattle.sdl_run.proofs.Comes.{CameBack, all_come}
+use Rattle.sdl_run.specs.declared.joining.Starting.{Starting}
+use Rattle.sdl_run.specs.declared.room.Opened.{Opened}
+use Rattle.sdl_run.specs.Room.{IsReadyToRun}
 use Rattle.sdl_run.proofs.Begin.{are_new, ends_count}
 use Rattle.sdl_run.proofs.Site as site
 
@@ -70,9 +73,6 @@ some_none None b e f h = true≢false (sym h ∙ f)
 some_none (Some x) b e f h = absurd (none-some x (sym e))
 
 -- the worker that is named is one of so many
-pub named_first : (n : ℕ) (o : Option ℕ) (w : ℕ) → o ≡ Some w → w < n → MatchOption o ⊤ (λ v. v < n)
-named_first n o w e less = subst (λ (x : Option ℕ). MatchOption x ⊤ (λ v. v < n)) (sym e) less
-
 pub named_next : (P : Type 0) (n : ℕ) (o first : Option ℕ) (m : ℕ) → o ≡ first → MatchOption first P (λ v. v ≤ m) → m < n → MatchOption o ⊤ (λ v. v < n)
 named_next P n o None m e all less = subst (λ (x : Option ℕ). MatchOption x ⊤ (λ v. v < n)) (sym e) tt
 named_next P n o (Some v) m e is less = subst (λ (x : Option ℕ). MatchOption x ⊤ (λ v. v < n)) (sym e) (omega (arith, is, less))
@@ -115,17 +115,52 @@ environment_as s t rows table w v a b ends x from y to e f h i j k kept =
     (subst (λ x'. KeepsEnvironment t table v b ends x' from y to) (sym j)
     (subst (λ y'. KeepsEnvironment t table v b ends from from y' to) (sym k) kept)))))
 
-module _ {S K I : Type 0} {F : I → Type 0} {g : _} (may : ℕ → Frame → Step → Type 0) (d : Driver S K I F g) where
+-- the workers that start, as a driver of one thread has them
+abbrev pub started : {S K I : Type 0} {F : I → Type 0} {g : _} → Starting S K I F g → Opened S K I F g → Driver S K I F g
+started x o = record { checked = x.checked; routes = x.routes; blocks = x.blocks; environment = x.environment; forwarders = o.forwarders; board = []; budget = x.budget }
+
+module _ {S K I : Type 0} {F : I → Type 0} {g : _} (may : ℕ → Frame → Step → Type 0) (x : Starting S K I F g) (o : Opened S K I F g) where
+  abbrev d : Driver S K I F g
+  d = started x o
+
   abbrev pub KeepsBlock : BlockThread S K I F g → Type 0
   KeepsBlock w = CanFire may (behaviours_of w.block) × IsPuttingOut may (system_around w.block d.routes) (worker_of w.block) w.ends
 
   abbrev pub KeepsForwarder : ForwarderThread → Type 0
   KeepsForwarder w = IsHandingOn d.routes w.forwarder w.ends
 
-  module _ (structure : IsStructure d.checked) (table : IsTable d.routes) (system : AreOneSystem may d.checked d.routes (map behaviours_of d.blocks.items)) (new : AllByRecursion (IsNew may d.checked d.budget) d.blocks.items)
-      (fire : All (λ w. CanFire may (behaviours_of w)) d.blocks.items) (environment : IsEnvFresh (length d.checked.blocks) d.environment) (forwarders : d.forwarders.items ≡ map idle_at (lines_from 0 d.checked.channels))
-      (all : List WorkerEnds) (shelf : List (Station × ℕ)) (opened : AreOpen d.checked d.routes all shelf)
+  module _ (ready : IsReadyToRun may x o)
       (keep : (plan : Plan) (site : Site) (all : List WorkerEnds) (shelf : List (Station × ℕ)) → IsPlan plan → AreOpen plan.structure plan.routes all shelf → AreNew may plan site → HaveComeBack may plan site None all) where
+    abbrev all : List WorkerEnds
+    all = o.ends.items
+
+    abbrev shelf : List (Station × ℕ)
+    shelf = o.shelf
+
+    abbrev structure : IsStructure d.checked
+    structure = ready.structure
+
+    abbrev table : IsTable d.routes
+    table = ready.table
+
+    abbrev system : AreOneSystem may d.checked d.routes (map behaviours_of d.blocks.items)
+    system = ready.system
+
+    abbrev new : AllByRecursion (IsNew may d.checked d.budget) d.blocks.items
+    new = ready.new
+
+    abbrev fire : All (λ w. CanFire may (behaviours_of w)) d.blocks.items
+    fire = ready.fire
+
+    abbrev environment : IsEnvFresh (length d.checked.blocks) d.environment
+    environment = ready.environment
+
+    abbrev forwarders : d.forwarders.items ≡ map idle_at (lines_from 0 d.checked.channels)
+    forwarders = ready.opened.forwarders
+
+    abbrev opened : AreOpen d.checked d.routes all shelf
+    opened = ready.opened.opening
+
     pub is_plan : IsPlan (plan_of d)
     is_plan = record { structure = structure; routes = system.routes_are; table = table }
 

@@ -1,11 +1,18 @@
 -- What stands before the blocks of a run in threads start.
 use Rattle.std.specs.Prelude.{◌≡◌, ℕ, ◌+◌, ◌≤◌, List, [], map, length, vec_len, vec_capacity}
-use Rattle.sdl_parts.specs.Structure.{Structure}
+use Rattle.std.specs.List.{All, AllByRecursion}
+use Rattle.sdl_parts.specs.Structure.{Structure, IsStructure}
 use Rattle.sdl_routes.specs.declared.route.TableRow.{TableRow}
+use Rattle.sdl_routes.specs.Table.{IsTable}
+use Rattle.sdl_behaviour.specs.declared.step.Frame.{Frame}
+use Rattle.sdl_behaviour.specs.declared.step.Step.{Step}
+use Rattle.sdl_transition.specs.Bound.{AreOneSystem}
+use Rattle.sdl_instances.specs.CoreOf.{CanFire}
 use Rattle.sdl_opening.specs.Opens.{AreOpen}
 use Rattle.sdl_serial_run.specs.sdl_outcome.Plan.{lines_from}
 use Rattle.sdl_serial_run.specs.sdl_outcome.EnvironmentWork.{IsEnvFresh}
 use Rattle.sdl_serial_run.specs.Starting.{idle_at}
+use Rattle.sdl_serial_run.specs.Serial.{IsNew}
 use Rattle.sdl_serial_run.specs.sdl_block.Workers.{behaviours_of}
 use Rattle.sdl_serial_run.specs.sdl_driver.Closings.{HasRoom}
 use Rattle.sdl_serial_run.specs.sdl_driver.declared.parked.Parked.{Parked}
@@ -23,6 +30,16 @@ pub record IsOpened {S K I : Type 0} {F : I → Type 0} {g : _} (s : Structure) 
   pub done_empty : o.done.items ≡ []
   pub done : length s.blocks + length o.forwarders.items ≤ vec_capacity o.done
   pub room : HasApartRoom (length s.blocks) (length o.forwarders.items) o.room
+
+-- the workers of one system are made, none has made a step, and all ends are open
+pub record IsReadyToRun {S K I : Type 0} {F : I → Type 0} {g : _} (may : ℕ → Frame → Step → Type 0) (x : Starting S K I F g) (o : Opened S K I F g) : Type 0 where
+  pub structure : IsStructure x.checked
+  pub table : IsTable x.routes
+  pub system : AreOneSystem may x.checked x.routes (map behaviours_of x.blocks.items)
+  pub new : AllByRecursion (IsNew may x.checked x.budget) x.blocks.items
+  pub fire : All (λ w. CanFire may (behaviours_of w)) x.blocks.items
+  pub environment : IsEnvFresh (length x.checked.blocks) x.environment
+  pub opened : IsOpened x.checked x.routes o
 
 -- there is all that a run in threads needs beside its blocks
 pub record IsThreadRoom {S K I : Type 0} {F : I → Type 0} {g : _} (s : Structure) (routes : List TableRow) (r : ThreadRoom S K I F g) : Type 0 where

@@ -1,17 +1,10 @@
 //! All workers make their steps at once, come back, and are taken apart.
 ghost use Rattle.std.specs.Prelude.{◌≡◌, ◌<◌, length, map, MatchOption, ⊤};
-ghost use Rattle.std.specs.List.{All, AllByRecursion};
-ghost use Rattle.sdl_parts.specs.Structure.{IsStructure};
-ghost use Rattle.sdl_routes.specs.Table.{IsTable};
-ghost use Rattle.sdl_transition.specs.Bound.{AreOneSystem};
-ghost use Rattle.sdl_instances.specs.CoreOf.{CanFire};
-ghost use Rattle.sdl_serial_run.specs.sdl_block.Workers.{behaviours_of};
 ghost use Rattle.sdl_serial_run.specs.sdl_outcome.Plan.{workers_of};
-ghost use Rattle.sdl_serial_run.specs.sdl_outcome.EnvironmentWork.{IsEnvFresh, HasReadSoFar, HasWrittenSoFar};
+ghost use Rattle.sdl_serial_run.specs.sdl_outcome.EnvironmentWork.{HasReadSoFar, HasWrittenSoFar};
 ghost use Rattle.sdl_serial_run.specs.sdl_driver.Stopped.{plan_of_parked, IsParked};
-ghost use Rattle.sdl_serial_run.specs.Serial.{IsNew};
 ghost use Rattle.sdl_settling.specs.Coming.{blocks_back, NamesFirst};
-ghost use Rattle.sdl_run.specs.Room.{IsOpened, IsParkedOf};
+ghost use Rattle.sdl_run.specs.Room.{IsParkedOf, IsReadyToRun};
 
 use crate::beside::{EnvironmentWithEnds, run_beside};
 use crate::room::Opened;
@@ -61,13 +54,7 @@ pub fn run_apart<
     input: &mut R,
     output: &mut W,
 ) -> Stopped<S, K>
-    requires structure { IsStructure system.checked }
-    requires table { IsTable system.routes }
-    requires system { AreOneSystem S.may system.checked system.routes (map behaviours_of system.blocks.items) }
-    requires new { AllByRecursion (IsNew S.may system.checked system.budget) system.blocks.items }
-    requires fire { All (λ w. CanFire S.may (behaviours_of w)) system.blocks.items }
-    requires environment { IsEnvFresh (length system.checked.blocks) system.environment }
-    requires opened { IsOpened system.checked system.routes opened }
+    requires ready { IsReadyToRun S.may system opened }
     ensures parked { IsParked S.may result.parked }
     ensures same { IsParkedOf system result.parked }
     ensures refused { MatchOption result.refused ⊤ (λ w. w < length (workers_of (plan_of_parked result.parked))) }

@@ -7,25 +7,25 @@ use Rattle.sdl_run.proofs.joining.run_apart.Goals as goal
 
 pub give_out-workers-requires-clause-count : goal.give_out-workers-requires-clause-count
 give_out-workers-requires-clause-count g c =
-    ends_enough g.S.Agents.may (record { checked = c.args.system.checked; routes = c.args.system.routes; blocks = c.args.system.blocks; environment = c.args.system.environment; forwarders = c.args.opened.forwarders; board = []; budget = c.args.system.budget }) c.requires.structure c.requires.table c.requires.system c.requires.new c.requires.fire c.requires.environment c.requires.opened.forwarders c.args.opened.ends.items c.args.opened.shelf c.requires.opened.opening c.new_workers_keep.ensures.keep
+    ends_enough g.S.Agents.may c.args.system c.args.opened c.requires.ready c.new_workers_keep.ensures.keep
 
 pub give_out-workers-requires-clause-room : goal.give_out-workers-requires-clause-room
 give_out-workers-requires-clause-room g c =
-    let a = blocks_known g.S.Agents.may (record { checked = c.args.system.checked; routes = c.args.system.routes; blocks = c.args.system.blocks; environment = c.args.system.environment; forwarders = c.args.opened.forwarders; board = []; budget = c.args.system.budget }) c.requires.structure c.requires.table c.requires.system c.requires.new c.requires.fire c.requires.environment c.requires.opened.forwarders c.args.opened.ends.items c.args.opened.shelf c.requires.opened.opening c.new_workers_keep.ensures.keep in
-    let b = c.requires.opened.workers in
+    let a = blocks_known g.S.Agents.may c.args.system c.args.opened c.requires.ready c.new_workers_keep.ensures.keep in
+    let b = c.requires.ready.opened.workers in
     omega (arith, a, b)
 
 pub run_beside-done-requires-clause-few : goal.run_beside-done-requires-clause-few
 run_beside-done-requires-clause-few g c =
-    let a = few_workers g.S.Agents.may (record { checked = c.args.system.checked; routes = c.args.system.routes; blocks = c.args.system.blocks; environment = c.args.system.environment; forwarders = c.args.opened.forwarders; board = []; budget = c.args.system.budget }) c.requires.structure c.requires.table c.requires.system c.requires.new c.requires.fire c.requires.environment c.requires.opened.forwarders c.args.opened.ends.items c.args.opened.shelf c.requires.opened.opening c.new_workers_keep.ensures.keep in
-    let b = workers_number g.S.Agents.may (record { checked = c.args.system.checked; routes = c.args.system.routes; blocks = c.args.system.blocks; environment = c.args.system.environment; forwarders = c.args.opened.forwarders; board = []; budget = c.args.system.budget }) c.requires.structure c.requires.table c.requires.system c.requires.new c.requires.fire c.requires.environment c.requires.opened.forwarders c.args.opened.ends.items c.args.opened.shelf c.requires.opened.opening c.new_workers_keep.ensures.keep
+    let a = few_workers g.S.Agents.may c.args.system c.args.opened c.requires.ready c.new_workers_keep.ensures.keep in
+    let b = workers_number g.S.Agents.may c.args.system c.args.opened c.requires.ready c.new_workers_keep.ensures.keep
     c.give_out-workers.result.0.items c.give_out-workers.result.1 c.give_out-workers.ensures in
     let d = c.give_out-workers.result.0.ok.0 in
     omega (arith, a, b, d)
 
 pub run_beside-done-requires-clause-sound : goal.run_beside-done-requires-clause-sound
 run_beside-done-requires-clause-sound g c κs outlives =
-    workers_keep g.S.Agents.may (record { checked = c.args.system.checked; routes = c.args.system.routes; blocks = c.args.system.blocks; environment = c.args.system.environment; forwarders = c.args.opened.forwarders; board = []; budget = c.args.system.budget }) c.requires.structure c.requires.table c.requires.system c.requires.new c.requires.fire c.requires.environment c.requires.opened.forwarders c.args.opened.ends.items c.args.opened.shelf c.requires.opened.opening c.new_workers_keep.ensures.keep
+    workers_keep g.S.Agents.may c.args.system c.args.opened c.requires.ready c.new_workers_keep.ensures.keep
     c.give_out-workers.result.0.items c.give_out-workers.result.1 c.give_out-workers.ensures
 
 pub run_beside-done-requires-clause-sound_environment : goal.run_beside-done-requires-clause-sound_environment
@@ -33,23 +33,23 @@ run_beside-done-requires-clause-sound_environment g c κs outlives =
     environment_as c.structure-structure.result.now c.args.system.checked c.args.system.routes c.args.system.routes c.new.result.worker c.args.system.environment c.new.result.astray None c.give_out-workers.result.1
     (g.R.Read.remaining c.args.input.now) (g.R.Read.remaining c.args.input.now) (g.W.Write.contents c.args.output.now) (g.W.Write.contents c.args.output.now)
     c.structure-structure.ensures.structure refl c.new.ensures.worker c.new.ensures.astray refl refl
-    (environment_keeps g.S.Agents.may (record { checked = c.args.system.checked; routes = c.args.system.routes; blocks = c.args.system.blocks; environment = c.args.system.environment; forwarders = c.args.opened.forwarders; board = []; budget = c.args.system.budget }) c.requires.structure c.requires.table c.requires.system c.requires.new c.requires.fire c.requires.environment c.requires.opened.forwarders c.args.opened.ends.items c.args.opened.shelf c.requires.opened.opening c.new_workers_keep.ensures.keep
+    (environment_keeps g.S.Agents.may c.args.system c.args.opened c.requires.ready c.new_workers_keep.ensures.keep
     c.give_out-workers.result.0.items c.give_out-workers.result.1 c.give_out-workers.ensures (g.R.Read.remaining c.args.input.now) (g.W.Write.contents c.args.output.now))
 
 pub run_beside-done-requires-clause-room : goal.run_beside-done-requires-clause-room
 run_beside-done-requires-clause-room g c =
-    let a = blocks_known g.S.Agents.may (record { checked = c.args.system.checked; routes = c.args.system.routes; blocks = c.args.system.blocks; environment = c.args.system.environment; forwarders = c.args.opened.forwarders; board = []; budget = c.args.system.budget }) c.requires.structure c.requires.table c.requires.system c.requires.new c.requires.fire c.requires.environment c.requires.opened.forwarders c.args.opened.ends.items c.args.opened.shelf c.requires.opened.opening c.new_workers_keep.ensures.keep in
-    let b = workers_number g.S.Agents.may (record { checked = c.args.system.checked; routes = c.args.system.routes; blocks = c.args.system.blocks; environment = c.args.system.environment; forwarders = c.args.opened.forwarders; board = []; budget = c.args.system.budget }) c.requires.structure c.requires.table c.requires.system c.requires.new c.requires.fire c.requires.environment c.requires.opened.forwarders c.args.opened.ends.items c.args.opened.shelf c.requires.opened.opening c.new_workers_keep.ensures.keep
+    let a = blocks_known g.S.Agents.may c.args.system c.args.opened c.requires.ready c.new_workers_keep.ensures.keep in
+    let b = workers_number g.S.Agents.may c.args.system c.args.opened c.requires.ready c.new_workers_keep.ensures.keep
     c.give_out-workers.result.0.items c.give_out-workers.result.1 c.give_out-workers.ensures in
     let d = c.give_out-workers.result.0.ok.0 in
-    let e = c.requires.opened.done in
+    let e = c.requires.ready.opened.done in
     omega (arith, a, b, d, e)
 
 pub name_refused-refused-requires-clause-few : goal.name_refused-refused-requires-clause-few
 name_refused-refused-requires-clause-few g c =
     let putting = subst (λ s. IsEnvPuttingOut s c.args.system.routes (length s.blocks) c.run_beside-done.result.1.worker c.run_beside-done.result.1.astray c.run_beside-done.result.2) c.structure-structure.ensures.structure c.run_beside-done.ensures.keeps.putting in
-    let a = few_workers g.S.Agents.may (record { checked = c.args.system.checked; routes = c.args.system.routes; blocks = c.args.system.blocks; environment = c.args.system.environment; forwarders = c.args.opened.forwarders; board = []; budget = c.args.system.budget }) c.requires.structure c.requires.table c.requires.system c.requires.new c.requires.fire c.requires.environment c.requires.opened.forwarders c.args.opened.ends.items c.args.opened.shelf c.requires.opened.opening c.new_workers_keep.ensures.keep in
-    let b = done_number g.S.Agents.may (record { checked = c.args.system.checked; routes = c.args.system.routes; blocks = c.args.system.blocks; environment = c.args.system.environment; forwarders = c.args.opened.forwarders; board = []; budget = c.args.system.budget }) c.requires.structure c.requires.table c.requires.system c.requires.new c.requires.fire c.requires.environment c.requires.opened.forwarders c.args.opened.ends.items c.args.opened.shelf c.requires.opened.opening c.new_workers_keep.ensures.keep
+    let a = few_workers g.S.Agents.may c.args.system c.args.opened c.requires.ready c.new_workers_keep.ensures.keep in
+    let b = done_number g.S.Agents.may c.args.system c.args.opened c.requires.ready c.new_workers_keep.ensures.keep
     c.give_out-workers.result.0.items c.give_out-workers.result.1 c.give_out-workers.ensures
     c.run_beside-done.result.0.items c.run_beside-done.ensures.workers c.run_beside-done.result.1.worker c.run_beside-done.result.1.astray c.run_beside-done.result.2 putting c.run_beside-done.ensures.ends in
     let d = ap length c.as_slice.ensures.value in
@@ -58,8 +58,8 @@ name_refused-refused-requires-clause-few g c =
 pub name_refused-refused-requires-clause-number : goal.name_refused-refused-requires-clause-number
 name_refused-refused-requires-clause-number g c =
     let putting = subst (λ s. IsEnvPuttingOut s c.args.system.routes (length s.blocks) c.run_beside-done.result.1.worker c.run_beside-done.result.1.astray c.run_beside-done.result.2) c.structure-structure.ensures.structure c.run_beside-done.ensures.keeps.putting in
-    let a = few_workers g.S.Agents.may (record { checked = c.args.system.checked; routes = c.args.system.routes; blocks = c.args.system.blocks; environment = c.args.system.environment; forwarders = c.args.opened.forwarders; board = []; budget = c.args.system.budget }) c.requires.structure c.requires.table c.requires.system c.requires.new c.requires.fire c.requires.environment c.requires.opened.forwarders c.args.opened.ends.items c.args.opened.shelf c.requires.opened.opening c.new_workers_keep.ensures.keep in
-    let b = done_number g.S.Agents.may (record { checked = c.args.system.checked; routes = c.args.system.routes; blocks = c.args.system.blocks; environment = c.args.system.environment; forwarders = c.args.opened.forwarders; board = []; budget = c.args.system.budget }) c.requires.structure c.requires.table c.requires.system c.requires.new c.requires.fire c.requires.environment c.requires.opened.forwarders c.args.opened.ends.items c.args.opened.shelf c.requires.opened.opening c.new_workers_keep.ensures.keep
+    let a = few_workers g.S.Agents.may c.args.system c.args.opened c.requires.ready c.new_workers_keep.ensures.keep in
+    let b = done_number g.S.Agents.may c.args.system c.args.opened c.requires.ready c.new_workers_keep.ensures.keep
     c.give_out-workers.result.0.items c.give_out-workers.result.1 c.give_out-workers.ensures
     c.run_beside-done.result.0.items c.run_beside-done.ensures.workers c.run_beside-done.result.1.worker c.run_beside-done.result.1.astray c.run_beside-done.result.2 putting c.run_beside-done.ensures.ends in
     let d = ap length c.as_slice.ensures.value in
@@ -69,39 +69,39 @@ name_refused-refused-requires-clause-number g c =
 pub join_ends-joined-requires-clause-room : goal.join_ends-joined-requires-clause-room
 join_ends-joined-requires-clause-room g c =
     let putting = subst (λ s. IsEnvPuttingOut s c.args.system.routes (length s.blocks) c.run_beside-done.result.1.worker c.run_beside-done.result.1.astray c.run_beside-done.result.2) c.structure-structure.ensures.structure c.run_beside-done.ensures.keeps.putting in
-    let a = blocks_known g.S.Agents.may (record { checked = c.args.system.checked; routes = c.args.system.routes; blocks = c.args.system.blocks; environment = c.args.system.environment; forwarders = c.args.opened.forwarders; board = []; budget = c.args.system.budget }) c.requires.structure c.requires.table c.requires.system c.requires.new c.requires.fire c.requires.environment c.requires.opened.forwarders c.args.opened.ends.items c.args.opened.shelf c.requires.opened.opening c.new_workers_keep.ensures.keep in
-    let b = blocks_number g.S.Agents.may (record { checked = c.args.system.checked; routes = c.args.system.routes; blocks = c.args.system.blocks; environment = c.args.system.environment; forwarders = c.args.opened.forwarders; board = []; budget = c.args.system.budget }) c.requires.structure c.requires.table c.requires.system c.requires.new c.requires.fire c.requires.environment c.requires.opened.forwarders c.args.opened.ends.items c.args.opened.shelf c.requires.opened.opening c.new_workers_keep.ensures.keep
+    let a = blocks_known g.S.Agents.may c.args.system c.args.opened c.requires.ready c.new_workers_keep.ensures.keep in
+    let b = blocks_number g.S.Agents.may c.args.system c.args.opened c.requires.ready c.new_workers_keep.ensures.keep
     c.give_out-workers.result.0.items c.give_out-workers.result.1 c.give_out-workers.ensures
     c.run_beside-done.result.0.items c.run_beside-done.ensures.workers c.run_beside-done.result.1.worker c.run_beside-done.result.1.astray c.run_beside-done.result.2 putting c.run_beside-done.ensures.ends in
-    let d = lines_number g.S.Agents.may (record { checked = c.args.system.checked; routes = c.args.system.routes; blocks = c.args.system.blocks; environment = c.args.system.environment; forwarders = c.args.opened.forwarders; board = []; budget = c.args.system.budget }) c.requires.structure c.requires.table c.requires.system c.requires.new c.requires.fire c.requires.environment c.requires.opened.forwarders c.args.opened.ends.items c.args.opened.shelf c.requires.opened.opening c.new_workers_keep.ensures.keep
+    let d = lines_number g.S.Agents.may c.args.system c.args.opened c.requires.ready c.new_workers_keep.ensures.keep
     c.give_out-workers.result.0.items c.give_out-workers.result.1 c.give_out-workers.ensures
     c.run_beside-done.result.0.items c.run_beside-done.ensures.workers c.run_beside-done.result.1.worker c.run_beside-done.result.1.astray c.run_beside-done.result.2 putting c.run_beside-done.ensures.ends in
-    room_of c.args.opened.room (length c.args.system.checked.blocks) (length c.args.opened.forwarders.items) (length (blocks_back c.run_beside-done.result.0.items)) (length (forwarders_back c.run_beside-done.result.0.items)) (sym (b ∙ a)) (sym d) c.requires.opened.room
+    room_of c.args.opened.room (length c.args.system.checked.blocks) (length c.args.opened.forwarders.items) (length (blocks_back c.run_beside-done.result.0.items)) (length (forwarders_back c.run_beside-done.result.0.items)) (sym (b ∙ a)) (sym d) c.requires.ready.opened.room
 
 pub join_ends-joined-requires-clause-once : goal.join_ends-joined-requires-clause-once
 join_ends-joined-requires-clause-once g c =
-    c.used_ends_come_back.ensures.once c.args.system.checked c.args.system.routes c.args.opened.ends.items c.args.opened.shelf c.requires.opened.opening
+    c.used_ends_come_back.ensures.once c.args.system.checked c.args.system.routes c.args.opened.ends.items c.args.opened.shelf c.requires.ready.opened.opening
 
 pub join_ends-joined-requires-clause-all : goal.join_ends-joined-requires-clause-all
 join_ends-joined-requires-clause-all g c =
     let putting = subst (λ s. IsEnvPuttingOut s c.args.system.routes (length s.blocks) c.run_beside-done.result.1.worker c.run_beside-done.result.1.astray c.run_beside-done.result.2) c.structure-structure.ensures.structure c.run_beside-done.ensures.keeps.putting in
-    c.used_ends_come_back.ensures.whole c.args.system.checked c.args.system.routes c.args.opened.ends.items (ends_back c.run_beside-done.result.2 c.run_beside-done.result.0.items) c.args.opened.shelf c.requires.opened.opening
-    (used_now g.S.Agents.may (record { checked = c.args.system.checked; routes = c.args.system.routes; blocks = c.args.system.blocks; environment = c.args.system.environment; forwarders = c.args.opened.forwarders; board = []; budget = c.args.system.budget }) c.requires.structure c.requires.table c.requires.system c.requires.new c.requires.fire c.requires.environment c.requires.opened.forwarders c.args.opened.ends.items c.args.opened.shelf c.requires.opened.opening c.new_workers_keep.ensures.keep
+    c.used_ends_come_back.ensures.whole c.args.system.checked c.args.system.routes c.args.opened.ends.items (ends_back c.run_beside-done.result.2 c.run_beside-done.result.0.items) c.args.opened.shelf c.requires.ready.opened.opening
+    (used_now g.S.Agents.may c.args.system c.args.opened c.requires.ready c.new_workers_keep.ensures.keep
     c.give_out-workers.result.0.items c.give_out-workers.result.1 c.give_out-workers.ensures
     c.run_beside-done.result.0.items c.run_beside-done.ensures.workers c.run_beside-done.result.1.worker c.run_beside-done.result.1.astray c.run_beside-done.result.2 putting c.run_beside-done.ensures.ends)
 
 pub join_ends-joined-requires-clause-enough : goal.join_ends-joined-requires-clause-enough
 join_ends-joined-requires-clause-enough g c =
     let putting = subst (λ s. IsEnvPuttingOut s c.args.system.routes (length s.blocks) c.run_beside-done.result.1.worker c.run_beside-done.result.1.astray c.run_beside-done.result.2) c.structure-structure.ensures.structure c.run_beside-done.ensures.keeps.putting in
-    c.used_ends_come_back.ensures.room c.args.system.checked c.args.system.routes c.args.opened.ends.items (ends_back c.run_beside-done.result.2 c.run_beside-done.result.0.items) c.args.opened.shelf c.requires.opened.opening
-    (used_now g.S.Agents.may (record { checked = c.args.system.checked; routes = c.args.system.routes; blocks = c.args.system.blocks; environment = c.args.system.environment; forwarders = c.args.opened.forwarders; board = []; budget = c.args.system.budget }) c.requires.structure c.requires.table c.requires.system c.requires.new c.requires.fire c.requires.environment c.requires.opened.forwarders c.args.opened.ends.items c.args.opened.shelf c.requires.opened.opening c.new_workers_keep.ensures.keep
+    c.used_ends_come_back.ensures.room c.args.system.checked c.args.system.routes c.args.opened.ends.items (ends_back c.run_beside-done.result.2 c.run_beside-done.result.0.items) c.args.opened.shelf c.requires.ready.opened.opening
+    (used_now g.S.Agents.may c.args.system c.args.opened c.requires.ready c.new_workers_keep.ensures.keep
     c.give_out-workers.result.0.items c.give_out-workers.result.1 c.give_out-workers.ensures
     c.run_beside-done.result.0.items c.run_beside-done.ensures.workers c.run_beside-done.result.1.worker c.run_beside-done.result.1.astray c.run_beside-done.result.2 putting c.run_beside-done.ensures.ends)
 
 pub unreachable-requires : goal.unreachable-requires
 unreachable-requires g c =
     let putting = subst (λ s. IsEnvPuttingOut s c.args.system.routes (length s.blocks) c.run_beside-done.result.1.worker c.run_beside-done.result.1.astray c.run_beside-done.result.2) c.structure-structure.ensures.structure c.run_beside-done.ensures.keeps.putting in
-    let gone = none g.S.Agents.may (record { checked = c.args.system.checked; routes = c.args.system.routes; blocks = c.args.system.blocks; environment = c.args.system.environment; forwarders = c.args.opened.forwarders; board = []; budget = c.args.system.budget }) c.requires.structure c.requires.table c.requires.system c.requires.new c.requires.fire c.requires.environment c.requires.opened.forwarders c.args.opened.ends.items c.args.opened.shelf c.requires.opened.opening c.new_workers_keep.ensures.keep
+    let gone = none g.S.Agents.may c.args.system c.args.opened c.requires.ready c.new_workers_keep.ensures.keep
     c.give_out-workers.result.0.items c.give_out-workers.result.1 c.give_out-workers.ensures
     c.run_beside-done.result.0.items c.run_beside-done.ensures.workers c.run_beside-done.result.1.worker c.run_beside-done.result.1.astray c.run_beside-done.result.2 putting c.run_beside-done.ensures.ends
     c.join_ends-joined.result.rests.items c.join_ends-joined.ensures.rests c.joined_workers_stand.ensures.none in
@@ -110,7 +110,7 @@ unreachable-requires g c =
 pub returns-clause-parked : goal.returns-clause-parked
 returns-clause-parked g c =
     let putting = subst (λ s. IsEnvPuttingOut s c.args.system.routes (length s.blocks) c.run_beside-done.result.1.worker c.run_beside-done.result.1.astray c.run_beside-done.result.2) c.structure-structure.ensures.structure c.run_beside-done.ensures.keeps.putting in
-    parked g.S.Agents.may (record { checked = c.args.system.checked; routes = c.args.system.routes; blocks = c.args.system.blocks; environment = c.args.system.environment; forwarders = c.args.opened.forwarders; board = []; budget = c.args.system.budget }) c.requires.structure c.requires.table c.requires.system c.requires.new c.requires.fire c.requires.environment c.requires.opened.forwarders c.args.opened.ends.items c.args.opened.shelf c.requires.opened.opening c.new_workers_keep.ensures.keep
+    parked g.S.Agents.may c.args.system c.args.opened c.requires.ready c.new_workers_keep.ensures.keep
     c.give_out-workers.result.0.items c.give_out-workers.result.1 c.give_out-workers.ensures
     c.run_beside-done.result.0.items c.run_beside-done.ensures.workers c.run_beside-done.result.1.worker c.run_beside-done.result.1.astray c.run_beside-done.result.2 putting c.run_beside-done.ensures.ends
     c.join_ends-joined.result.rests.items c.join_ends-joined.ensures.rests
@@ -123,7 +123,7 @@ returns-clause-same g c =
       checked = refl;
       routes = refl;
       budget = refl;
-      behaviours = behaviours_same g.S.Agents.may (record { checked = c.args.system.checked; routes = c.args.system.routes; blocks = c.args.system.blocks; environment = c.args.system.environment; forwarders = c.args.opened.forwarders; board = []; budget = c.args.system.budget }) c.requires.structure c.requires.table c.requires.system c.requires.new c.requires.fire c.requires.environment c.requires.opened.forwarders c.args.opened.ends.items c.args.opened.shelf c.requires.opened.opening c.new_workers_keep.ensures.keep
+      behaviours = behaviours_same g.S.Agents.may c.args.system c.args.opened c.requires.ready c.new_workers_keep.ensures.keep
           c.give_out-workers.result.0.items c.give_out-workers.result.1 c.give_out-workers.ensures
           c.run_beside-done.result.0.items c.run_beside-done.ensures.workers c.run_beside-done.result.1.worker c.run_beside-done.result.1.astray c.run_beside-done.result.2 putting c.run_beside-done.ensures.ends
           c.join_ends-joined.result.rests.items c.join_ends-joined.ensures.rests
@@ -133,13 +133,13 @@ returns-clause-same g c =
 pub returns-clause-refused : goal.returns-clause-refused
 returns-clause-refused g c =
     let putting = subst (λ s. IsEnvPuttingOut s c.args.system.routes (length s.blocks) c.run_beside-done.result.1.worker c.run_beside-done.result.1.astray c.run_beside-done.result.2) c.structure-structure.ensures.structure c.run_beside-done.ensures.keeps.putting in
-    let number = workers_are g.S.Agents.may (record { checked = c.args.system.checked; routes = c.args.system.routes; blocks = c.args.system.blocks; environment = c.args.system.environment; forwarders = c.args.opened.forwarders; board = []; budget = c.args.system.budget }) c.requires.structure c.requires.table c.requires.system c.requires.new c.requires.fire c.requires.environment c.requires.opened.forwarders c.args.opened.ends.items c.args.opened.shelf c.requires.opened.opening c.new_workers_keep.ensures.keep
+    let number = workers_are g.S.Agents.may c.args.system c.args.opened c.requires.ready c.new_workers_keep.ensures.keep
     c.give_out-workers.result.0.items c.give_out-workers.result.1 c.give_out-workers.ensures
     c.run_beside-done.result.0.items c.run_beside-done.ensures.workers c.run_beside-done.result.1.worker c.run_beside-done.result.1.astray c.run_beside-done.result.2 putting c.run_beside-done.ensures.ends
     c.join_ends-joined.result.rests.items c.join_ends-joined.ensures.rests
     (record { checked = c.args.system.checked; routes = c.args.system.routes; blocks = c.join_ends-joined.result.blocks; environment = c.into_parts-environment.result.0; forwarders = c.join_ends-joined.result.forwarders; rests = c.join_ends-joined.result.rests; budget = c.args.system.budget }) refl refl refl c.join_ends-joined.ensures.blocks c.join_ends-joined.ensures.forwarders c.into_parts-environment.ensures.worker refl in
-    let few = few_workers g.S.Agents.may (record { checked = c.args.system.checked; routes = c.args.system.routes; blocks = c.args.system.blocks; environment = c.args.system.environment; forwarders = c.args.opened.forwarders; board = []; budget = c.args.system.budget }) c.requires.structure c.requires.table c.requires.system c.requires.new c.requires.fire c.requires.environment c.requires.opened.forwarders c.args.opened.ends.items c.args.opened.shelf c.requires.opened.opening c.new_workers_keep.ensures.keep in
-    let count = done_number g.S.Agents.may (record { checked = c.args.system.checked; routes = c.args.system.routes; blocks = c.args.system.blocks; environment = c.args.system.environment; forwarders = c.args.opened.forwarders; board = []; budget = c.args.system.budget }) c.requires.structure c.requires.table c.requires.system c.requires.new c.requires.fire c.requires.environment c.requires.opened.forwarders c.args.opened.ends.items c.args.opened.shelf c.requires.opened.opening c.new_workers_keep.ensures.keep
+    let few = few_workers g.S.Agents.may c.args.system c.args.opened c.requires.ready c.new_workers_keep.ensures.keep in
+    let count = done_number g.S.Agents.may c.args.system c.args.opened c.requires.ready c.new_workers_keep.ensures.keep
     c.give_out-workers.result.0.items c.give_out-workers.result.1 c.give_out-workers.ensures
     c.run_beside-done.result.0.items c.run_beside-done.ensures.workers c.run_beside-done.result.1.worker c.run_beside-done.result.1.astray c.run_beside-done.result.2 putting c.run_beside-done.ensures.ends in
     named_next _ _ _ c.name_refused-refused.result _ refl c.name_refused-refused.ensures.bound (omega (arith, number, count, ap length c.as_slice.ensures.value))

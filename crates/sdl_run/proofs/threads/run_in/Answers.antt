@@ -1,4 +1,4 @@
-use Rattle.std.proofs.Common.{◌+◌, map, length, sym, ◌∙◌, arith}
+use Rattle.std.proofs.Common.{◌+◌, map, length, sym, ◌∙◌, arith, rules}
 use Rattle.sdl_transition.specs.Rules.{block_rules}
 use Rattle.sdl_instances.specs.Core.{IsBoundIn, signals_of, sets_of}
 use Rattle.sdl_serial_run.specs.sdl_block.Workers.{behaviours_of}
@@ -17,17 +17,17 @@ pub start_blocks-requires-clause-bound : goal.start_blocks-requires-clause-bound
 start_blocks-requires-clause-bound g c =
     all_same (λ p. IsBoundIn (signals_of c.args.system.checked) (sets_of c.args.system.checked) (block_rules p) p.block) c.as_slice.result.now c.args.system.blocks.items c.as_slice.ensures.value c.parts_are_bound.ensures.bound
 
-pub run_apart-stopped-requires-clause-system : goal.run_apart-stopped-requires-clause-system
-run_apart-stopped-requires-clause-system g c κs outlives =
-    system_kept g.S.Agents.may c.args.system.checked c.args.system.routes c.args.system.blocks.items (map behaviours_of c.in-Ok.blocks.items) c.in-Ok.ensures.parts c.requires.system
-
-pub run_apart-stopped-requires-clause-fire : goal.run_apart-stopped-requires-clause-fire
-run_apart-stopped-requires-clause-fire g c κs outlives =
-    can_fire g.S.Agents.may c.in-Ok.blocks.items c.as_slice.result.now (c.as_slice.ensures.value ∙ sym c.in-Ok.ensures.parts) c.parts_are_bound.ensures.allowed c.parts_are_bound.ensures.indexed
-
-pub run_apart-stopped-requires-clause-environment : goal.run_apart-stopped-requires-clause-environment
-run_apart-stopped-requires-clause-environment g c κs outlives =
-    c.requires.room.environment
+pub run_apart-stopped-requires-clause-ready : goal.run_apart-stopped-requires-clause-ready
+run_apart-stopped-requires-clause-ready g c κs outlives =
+    record {
+      structure = search rules;
+      table = search rules;
+      system = system_kept g.S.Agents.may c.args.system.checked c.args.system.routes c.args.system.blocks.items (map behaviours_of c.in-Ok.blocks.items) c.in-Ok.ensures.parts c.requires.system;
+      new = search rules;
+      fire = can_fire g.S.Agents.may c.in-Ok.blocks.items c.as_slice.result.now (c.as_slice.ensures.value ∙ sym c.in-Ok.ensures.parts) c.parts_are_bound.ensures.allowed c.parts_are_bound.ensures.indexed;
+      environment = c.requires.room.environment;
+      opened = c.requires.room.opened;
+    }
 
 pub settle-requires-clause-system : goal.settle-requires-clause-system
 settle-requires-clause-system g c =
