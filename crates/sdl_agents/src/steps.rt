@@ -1,13 +1,14 @@
 //! The parts of steps that lead to idle, without variables.
-ghost use Rattle.std.specs.Prelude.{◌≡◌, [], ◌∷◌, ◌++◌, ◌<◌, length};
+ghost use Rattle.std.specs.Prelude.{◌≡◌, [], ◌∷◌, ◌++◌, ◌<◌, IsTrue, length};
+ghost use Rattle.sdl_behaviour.specs.Offers.{IsBlank, IsFrameOf, Conforms};
 ghost use Rattle.sdl_signal.specs.declared.values.Sort.TheVariants as sort;
 ghost use Rattle.sdl_agents.specs.Tables.{LeadsToIdle, output, output_integer, values_of, forwarded, forwarded_values};
 ghost use Rattle.sdl_agents.specs.Offered.{KeepsTo, Offers, OffersOne};
 
 use arrayvec::ArrayVec;
-use sdl_behaviour::{Action, Dest, Frame, Next, Step};
+use sdl_behaviour::{Action, Dest, Frame, Next, Offer, Step};
 use sdl_routes::Via;
-use sdl_signal::{Signal, SignalId, StateId, Value};
+use sdl_signal::{Signal, SignalId, Sort, StateId, Value};
 
 /// The step that goes to idle without an action, put together where it stands.
 #[macro_export]
@@ -55,7 +56,7 @@ pub fn send(id: SignalId, params: ArrayVec<Value, 4>, dest: Dest) -> Action
 
 /// Adds an output of one Integer, to anywhere.
 #[inline(always)]
-fn add_integer(actions: &mut ArrayVec<Action, 8>, id: SignalId, n: i64)
+pub(crate) fn add_integer(actions: &mut ArrayVec<Action, 8>, id: SignalId, n: i64)
     requires { length actions.old.items < 8 }
     ensures { actions.new.items ≡ actions.old.items ++ output_integer id.0 n }
 {
@@ -112,4 +113,37 @@ fn add_forwarded(actions: &mut ArrayVec<Action, 8>, values: &[Value], to: Signal
     if let [Value::Integer(n)] = values {
         add_integer(actions, to, *n);
     }
+}
+
+/// Whether the offer is one without variables that leads to idle, with one output, of the signal with one Integer, by any way.
+#[inline(always)]
+pub(crate) fn offers_integer(offer: &Offer, id: SignalId) -> bool
+    ensures { IsTrue result → OffersOne id.0 (sort.Integer ∷ []) offer.now }
+{
+    match (offer.outputs.as_slice(), offer.nexts.as_slice()) {
+        ([output], [next]) => {
+            offer.vars.len() == 0
+                && *next == StateId(0)
+                && output.signal.id == id
+                && output.via == Via::Any
+                && matches!(output.signal.sorts.as_slice(), [Sort::Integer])
+        }
+        _ => false,
+    }
+}
+
+/// Puts the step of `forward` into a blank step, where the offer has it, and says whether it did.
+#[inline(always)]
+pub(crate) fn forward_into(offer: &Offer, frame: &Frame, to: SignalId, step: &mut Step) -> bool
+    requires frame { IsFrameOf offer.now frame.now }
+    requires blank { IsBlank step.old }
+    ensures step { IsTrue result → LeadsToIdle (forwarded to.0 frame.now.signal) step.new }
+    ensures conforms { IsTrue result → Conforms offer.now step.new }
+{
+    if !offers_integer(offer, to) {
+        return false;
+    }
+    step.next = Next::State(StateId(0));
+    fill_forward(step, frame, to);
+    true
 }

@@ -1,4 +1,6 @@
 //! What a transition is shown, and what it answers.
+ghost use Rattle.sdl_behaviour.specs.Offers.{IsBlank};
+
 use arrayvec::ArrayVec;
 use sdl_routes::Via;
 use sdl_signal::{Pid, SetId, Signal, StateId, Value};
@@ -65,4 +67,27 @@ pub struct Step {
     pub actions: ArrayVec<Action, 8>,
     pub vars: ArrayVec<Value, 8>,
     pub next: Next,
+}
+
+impl Step {
+    /// A step that nothing was put into yet: without actions and variables, and with a stop at its end.
+    #[inline(always)]
+    pub fn blank() -> Step
+        ensures { IsBlank result }
+    {
+        Step {
+            actions: ArrayVec::new(),
+            vars: ArrayVec::new(),
+            next: Next::Stop,
+        }
+    }
+
+    /// Takes the actions and the variables out.
+    #[inline(always)]
+    pub fn clear(&mut self)
+        ensures { IsBlank self.new }
+    {
+        self.actions.clear();
+        self.vars.clear();
+    }
 }

@@ -19,7 +19,7 @@ use sdl_log::{Arrival, Counts, Event, Keeps, Turn, Turned};
 use sdl_parts::Checked;
 use sdl_routes::Routes;
 use sdl_signal::Item;
-use sdl_transition::{Agents, BlockParts};
+use sdl_transition::{Agents, BlockParts, Step};
 use std::alloc::{AllocError, Global};
 
 /// The instances of a block with their input ports, the log of all that happened to them, and the behaviours of the
@@ -28,6 +28,8 @@ use std::alloc::{AllocError, Global};
 pub struct BlockCore<S, K: Keeps = Vec<Event>> {
     pub(crate) table: Table<K>,
     pub(crate) parts: BlockParts<S>,
+    /// What the last transition answered, as far as the log has not taken it. The step stays, so that none is made for each turn.
+    pub(crate) step: Step,
 }
 
 impl<S: Agents, K: Keeps> BlockCore<S, K> {
@@ -57,7 +59,11 @@ impl<S: Agents, K: Keeps> BlockCore<S, K> {
         let structure = checked.structure();
         structure.parts_agree();
         match Table::first(alloc, &parts, structure, budget) {
-            Ok(table) => Ok(BlockCore { table, parts }),
+            Ok(table) => Ok(BlockCore {
+                table,
+                parts,
+                step: Step::blank(),
+            }),
             Err(_) => Err((parts, AllocError)),
         }
     }

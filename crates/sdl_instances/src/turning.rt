@@ -62,18 +62,11 @@ impl<K: Keeps> Table<K> {
         ensures { self.new.core ≡ record self.old.core { log = self.old.core.log ++ event.Turn frame.self_pid (trigger.Implicit item) frame None (record { items = [] }) None ∷ [] } }
     {
         self.made += 1;
-        let pid = frame.self_pid;
-        self.log.turn(
-            pid,
-            Trigger::Implicit(item),
-            frame,
-            None,
-            &mut ArrayVec::new(),
-            None,
-        );
+        self.log.skip(frame, item);
     }
 
-    /// Carries out the step of the actor, notes its turn, and puts the items that it sent into the hand, which is empty.
+    /// Carries out the step of the actor, notes its turn, and puts the items that it sent into the hand, which is empty. The log may
+    /// take the step.
     #[inline(always)]
     pub fn complete<S: Agents>(
         &mut self,
@@ -81,16 +74,16 @@ impl<K: Keeps> Table<K> {
         pick: u32,
         trigger: Trigger,
         frame: Frame,
-        step: Step,
+        step: &mut Step,
         hand: &mut ArrayVec<Item, 8>,
     )
         requires indexed { IsIndexed actor.now.parts.now }
         requires ready { CanCarryOut self.old.core.sets actor.now.place 8 self.old.creatable self.old.core.state }
-        requires creatable { AllByRecursion (CanAct self.old.core.sets (block_rules actor.now.parts.now)) step.actions.items }
+        requires creatable { AllByRecursion (CanAct self.old.core.sets (block_rules actor.now.parts.now)) step.old.actions.items }
         requires room { length self.old.core.log < self.old.capacity }
         requires budget { (turns self.old.core.log < self.old.core.budget) × (length (origins self.old.core.log) + 8 < 2 ^ 64) }
         requires hand { hand.old.items ≡ [] }
-        ensures { (r : Record) → StandsAt self.old.core.state actor.now.place frame.self_pid r → Completes S.may (system_of self.old.core actor.now.routes.now (block_rules actor.now.parts.now)) pick frame.self_pid trigger frame step self.old.core hand.new.items self.new.core }
+        ensures { (r : Record) → StandsAt self.old.core.state actor.now.place frame.self_pid r → Completes S.may (system_of self.old.core actor.now.routes.now (block_rules actor.now.parts.now)) pick frame.self_pid trigger frame step.old self.old.core hand.new.items self.new.core }
     {
         let mark = Mark {
             origin: Origin {
@@ -115,6 +108,6 @@ impl<K: Keeps> Table<K> {
         self.made += 1;
         let pid = frame.self_pid;
         self.log
-            .turn(pid, trigger, frame, Some(step), &mut self.done, stopped);
+            .turn(pid, trigger, frame, step, &mut self.done, stopped);
     }
 }

@@ -93,14 +93,17 @@ impl<S: Agents, K: Keeps> BlockCore<S, K> {
         ensures fires { Fires S.may (system_in self.old routes.now) pick frame.self_pid (core_of self.old) hand.new.items (core_of self.new) }
         ensures parts { parts_of self.new ≡ parts_of self.old }
     {
-        let step = self.parts.start(set_of(frame.self_pid)).fire(&frame);
+        self.step.clear();
+        self.parts
+            .start(set_of(frame.self_pid))
+            .fire_into(&frame, &mut self.step);
         let actor = Actor {
             routes,
             parts: &self.parts,
             place,
         };
         self.table
-            .complete(&actor, pick, Trigger::Start, frame, step, hand);
+            .complete(&actor, pick, Trigger::Start, frame, &mut self.step, hand);
     }
 
     /// Lets the instance at this place consume the signal at the front of its port, in this state.
@@ -126,15 +129,22 @@ impl<S: Agents, K: Keeps> BlockCore<S, K> {
             .row(set_of(frame.self_pid), state, signal_of(&frame))
         {
             Some(transition) => {
-                let step = transition.fire(&frame);
+                self.step.clear();
+                transition.fire_into(&frame, &mut self.step);
                 let item = self.table.consume(place);
                 let actor = Actor {
                     routes,
                     parts: &self.parts,
                     place,
                 };
-                self.table
-                    .complete(&actor, pick, Trigger::Fire(item), frame, step, hand);
+                self.table.complete(
+                    &actor,
+                    pick,
+                    Trigger::Fire(item),
+                    frame,
+                    &mut self.step,
+                    hand,
+                );
             }
             None => {
                 let item = self.table.consume(place);

@@ -1,6 +1,7 @@
 //! A log that is counted while it is kept.
-ghost use Rattle.std.specs.Prelude.{◌≡◌, ◌++◌, ◌∷◌, ◌<◌, [], OnOk, length};
+ghost use Rattle.std.specs.Prelude.{◌≡◌, ◌++◌, ◌∷◌, ◌<◌, [], None, Some, OnOk, length};
 ghost use Rattle.sdl_log.specs.declared.event.Event.TheVariants as event;
+ghost use Rattle.sdl_log.specs.declared.event.Trigger.TheVariants as trigger;
 ghost use Rattle.sdl_log.specs.Counts.{AreCountsOf};
 
 use crate::counts::Counts;
@@ -73,23 +74,33 @@ impl<K: Keeps> Counted<K> {
         self.log.discard(item, cause);
     }
 
-    /// Notes a turn, by its parts. What its actions did may be taken out of the list.
+    /// Notes a turn, by its parts. What its transition answered and what its actions did may be taken out.
     #[inline(always)]
     pub fn turn(
         &mut self,
         pid: Pid,
         trigger: Trigger,
         frame: Frame,
-        step: Option<Step>,
+        step: &mut Step,
         done: &mut ArrayVec<Done, 8>,
         stopped: Option<u64>,
     )
         requires { length (K.events self.old) < K.capacity self.old }
-        ensures { K.events self.new ≡ K.events self.old ++ event.Turn pid trigger frame step done.old stopped ∷ [] }
+        ensures { K.events self.new ≡ K.events self.old ++ event.Turn pid trigger frame (Some step.old) done.old stopped ∷ [] }
     {
         let _number = self.log.number();
         self.counts.add_turn(&trigger, done, stopped);
         self.log.turn(pid, trigger, frame, step, done, stopped);
+    }
+
+    /// Notes that the instance of the frame let the signal go by the implicit transition.
+    pub fn skip(&mut self, frame: Frame, item: Item)
+        requires { length (K.events self.old) < K.capacity self.old }
+        ensures { K.events self.new ≡ K.events self.old ++ event.Turn frame.self_pid (trigger.Implicit item) frame None (record { items = [] }) None ∷ [] }
+    {
+        let _number = self.log.number();
+        self.counts.add_implicit();
+        self.log.skip(frame, item);
     }
 
     /// The number of events. No memory is taken.

@@ -1,10 +1,11 @@
 //! What is counted of a block's log.
-ghost use Rattle.std.specs.Prelude.{◌≡◌, ◌+◌, ◌-◌, ◌^◌, ◌<◌, ◌≤◌, ℕ, Option, length, sum_by};
+ghost use Rattle.std.specs.Prelude.{◌≡◌, ◌+◌, ◌-◌, ◌^◌, ◌<◌, ◌≤◌, ℕ, Option, None, [], length, sum_by};
 ghost use Rattle.sdl_signal.specs.declared.values.Pid.{Pid};
 ghost use Rattle.sdl_signal.specs.declared.values.Item.{Item};
 ghost use Rattle.sdl_behaviour.specs.declared.step.Frame.{Frame};
 ghost use Rattle.sdl_behaviour.specs.declared.step.Step.{Step};
 ghost use Rattle.sdl_log.specs.declared.event.Event.TheVariants as event;
+ghost use Rattle.sdl_log.specs.declared.event.Trigger.TheVariants as trigger;
 ghost use Rattle.sdl_log.specs.Counts.{AddsEvent, AreWithin, CanCount, output_by, no_route_by};
 
 use crate::event::{Cause, Done, Trigger};
@@ -51,6 +52,15 @@ impl Counts {
             Cause::NoInstance => self.no_instance += 1,
             Cause::Gone => self.gone += 1,
         }
+    }
+
+    /// Counts a signal that was consumed by the implicit transition.
+    pub(crate) fn add_implicit(&mut self)
+        requires { CanCount self.old }
+        ensures adds { (p : Pid) (i : Item) (f : Frame) → AddsEvent self.old (event.Turn p (trigger.Implicit i) f None (record { items = [] }) None) self.new }
+        ensures within { (n : ℕ) → AreWithin n self.old → AreWithin (n + 1) self.new }
+    {
+        self.implicit += 1;
     }
 
     /// Counts what a turn consumed, put out and dropped.

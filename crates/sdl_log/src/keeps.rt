@@ -1,6 +1,7 @@
 //! How a block keeps its log: whole, or counted alone.
-ghost use Rattle.std.specs.Prelude.{◌≡◌, ◌⊎◌, ◌++◌, ◌∷◌, ◌<◌, [], OnOk, length};
+ghost use Rattle.std.specs.Prelude.{◌≡◌, ◌⊎◌, ◌++◌, ◌∷◌, ◌<◌, [], None, Some, OnOk, length};
 ghost use Rattle.sdl_log.specs.declared.event.Event.TheVariants as event;
+ghost use Rattle.sdl_log.specs.declared.event.Trigger.TheVariants as trigger;
 
 use crate::event::{Cause, Done, Event, Trigger};
 use arrayvec::ArrayVec;
@@ -38,18 +39,24 @@ pub trait Keeps: Drop {
         requires { length (events self.old) < capacity self.old }
         ensures { events self.new ≡ events self.old ++ event.Discarded item cause ∷ [] };
 
-    /// Notes a turn, by its parts. What its actions did may be taken out of the list, which is the caller's to fill anew.
+    /// Notes a turn, by its parts. What its transition answered and what its actions did may be taken out, which are the caller's to
+    /// fill anew.
     fn turn(
         &mut self,
         pid: Pid,
         trigger: Trigger,
         frame: Frame,
-        step: Option<Step>,
+        step: &mut Step,
         done: &mut ArrayVec<Done, 8>,
         stopped: Option<u64>,
     )
         requires { length (events self.old) < capacity self.old }
-        ensures { events self.new ≡ events self.old ++ event.Turn pid trigger frame step done.old stopped ∷ [] };
+        ensures { events self.new ≡ events self.old ++ event.Turn pid trigger frame (Some step.old) done.old stopped ∷ [] };
+
+    /// Notes that the instance of the frame let the signal go by the implicit transition.
+    fn skip(&mut self, frame: Frame, item: Item)
+        requires { length (events self.old) < capacity self.old }
+        ensures { events self.new ≡ events self.old ++ event.Turn frame.self_pid (trigger.Implicit item) frame None (record { items = [] }) None ∷ [] };
 
     /// The events as a list, where they are stored as one: all, or none. No memory is taken.
     fn stored(&self) -> &[Event]

@@ -1,6 +1,7 @@
 //! A history that only clauses read. It takes no memory.
-ghost use Rattle.std.specs.Prelude.{◌≡◌, ◌++◌, ◌∷◌, []};
+ghost use Rattle.std.specs.Prelude.{◌≡◌, ◌++◌, ◌∷◌, [], None, Some};
 ghost use Rattle.sdl_log.specs.declared.event.Event.TheVariants as event;
+ghost use Rattle.sdl_log.specs.declared.event.Trigger.TheVariants as trigger;
 
 use crate::event::{Cause, Done, Trigger};
 use arrayvec::ArrayVec;
@@ -20,10 +21,11 @@ pub enum Past {
         pid: Pid,
         trigger: Snapshot<Trigger>,
         frame: Snapshot<Frame>,
-        step: Snapshot<Option<Step>>,
+        step: Snapshot<Step>,
         done: Snapshot<ArrayVec<Done, 8>>,
         stopped: Option<u64>,
     },
+    Skipped(Snapshot<Past>, Snapshot<Frame>, Snapshot<Item>),
 }
 
 /// A history. It has no bytes, and contracts see it as the list of its events.
@@ -78,11 +80,11 @@ impl History {
         pid: Pid,
         trigger: &Trigger,
         frame: &Frame,
-        step: &Option<Step>,
+        step: &Step,
         done: &ArrayVec<Done, 8>,
         stopped: Option<u64>,
     ) -> History
-        ensures { result ≡ self ++ event.Turn pid trigger.now frame.now step.now done.now stopped ∷ [] }
+        ensures { result ≡ self ++ event.Turn pid trigger.now frame.now (Some step.now) done.now stopped ∷ [] }
     {
         let History { past } = self;
         History {
@@ -95,6 +97,16 @@ impl History {
                 done: Snapshot::of(done),
                 stopped,
             }),
+        }
+    }
+
+    /// The history with one event more at its end: the instance of the frame let the signal go by the implicit transition.
+    pub fn and_skipped(self, frame: &Frame, item: &Item) -> History
+        ensures { result ≡ self ++ event.Turn frame.now.self_pid (trigger.Implicit item.now) frame.now None (record { items = [] }) None ∷ [] }
+    {
+        let History { past } = self;
+        History {
+            past: Snapshot::of(&Past::Skipped(past, Snapshot::of(frame), Snapshot::of(item))),
         }
     }
 }

@@ -36,7 +36,7 @@ impl Keeps for Vec<Event> {
         pid: Pid,
         trigger: Trigger,
         frame: Frame,
-        step: Option<Step>,
+        step: &mut Step,
         done: &mut ArrayVec<Done, 8>,
         stopped: Option<u64>,
     ) {
@@ -44,9 +44,21 @@ impl Keeps for Vec<Event> {
             pid,
             trigger,
             frame,
-            step,
+            step: Some(std::mem::replace(step, Step::blank())),
             done: done.take(),
             stopped,
+        };
+        self.push_reserved(event);
+    }
+
+    fn skip(&mut self, frame: Frame, item: Item) {
+        let event = Event::Turn {
+            pid: frame.self_pid,
+            trigger: Trigger::Implicit(item),
+            frame,
+            step: None,
+            done: ArrayVec::new(),
+            stopped: None,
         };
         self.push_reserved(event);
     }

@@ -66,13 +66,19 @@ impl Keeps for Unstored {
         pid: Pid,
         trigger: Trigger,
         frame: Frame,
-        step: Option<Step>,
+        step: &mut Step,
         done: &mut ArrayVec<Done, 8>,
         stopped: Option<u64>,
     ) {
         self.events += 1;
         let before = std::mem::replace(&mut self.history, History::new());
-        self.history = before.and_turn(pid, &trigger, &frame, &step, done, stopped);
+        self.history = before.and_turn(pid, &trigger, &frame, step, done, stopped);
+    }
+
+    fn skip(&mut self, frame: Frame, item: Item) {
+        self.events += 1;
+        let before = std::mem::replace(&mut self.history, History::new());
+        self.history = before.and_skipped(&frame, &item);
     }
 
     fn stored(&self) -> &[Event] {

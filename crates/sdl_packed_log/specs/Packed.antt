@@ -19,8 +19,8 @@ step_of None actions = None
 step_of (Some l) actions = Some (record { actions = record { items = actions }; vars = l.vars; next = l.next })
 
 -- a step is kept: its end, and its actions after those of the steps before
-abbrev pub KeepsStep : Option Step → Option Last → List Action → List Action → Type 0
-KeepsStep step last old new = (more : List Action) × (new ≡ old ++ more) × (step_of last more ≡ step)
+abbrev pub KeepsStep : Step → Last → List Action → List Action → Type 0
+KeepsStep step last old new = (more : List Action) × (new ≡ old ++ more) × (step_of (Some last) more ≡ Some step)
 
 -- a turn, of what is kept of it by itself, its actions and what they did
 abbrev pub turn_of : Head → List Action → List Done → Event

@@ -80,22 +80,16 @@ fn move_all<T: Default + Drop>(from: &mut ArrayVec<T, 8>, to: &mut Vec<T>)
 }
 
 /// Moves the actions of a step to the end of those of the steps before, and answers how it ends.
-fn keep_step(step: Option<Step>, actions: &mut Vec<Action>) -> Option<Last>
+fn keep_step(step: &mut Step, actions: &mut Vec<Action>) -> Last
     requires room { length actions.old.items + 8 ≤ vec_capacity actions.old }
-    ensures kept { KeepsStep step result actions.old.items actions.new.items }
+    ensures kept { KeepsStep step.old result actions.old.items actions.new.items }
     ensures few { length actions.new.items ≤ length actions.old.items + 8 }
     ensures capacity { vec_capacity actions.new ≡ vec_capacity actions.old }
 {
-    match step {
-        Some(step) => {
-            let mut step = step;
-            move_all(&mut step.actions, actions);
-            Some(Last {
-                vars: step.vars,
-                next: step.next,
-            })
-        }
-        None => None,
+    move_all(&mut step.actions, actions);
+    Last {
+        vars: step.vars.take(),
+        next: step.next,
     }
 }
 
@@ -142,7 +136,7 @@ impl Keeps for Packed {
         pid: Pid,
         trigger: Trigger,
         frame: Frame,
-        step: Option<Step>,
+        step: &mut Step,
         done: &mut ArrayVec<Done, 8>,
         stopped: Option<u64>,
     ) {
@@ -154,8 +148,22 @@ impl Keeps for Packed {
             pid,
             trigger,
             frame,
-            last,
+            last: Some(last),
             stopped,
+            actions_end: self.actions.len(),
+            done_end: self.done.len(),
+        });
+    }
+
+    fn skip(&mut self, frame: Frame, item: Item) {
+        self.room -= 1;
+        self.notes.push_reserved(Note::Turn(self.heads.len()));
+        self.heads.push_reserved(Head {
+            pid: frame.self_pid,
+            trigger: Trigger::Implicit(item),
+            frame,
+            last: None,
+            stopped: None,
             actions_end: self.actions.len(),
             done_end: self.done.len(),
         });

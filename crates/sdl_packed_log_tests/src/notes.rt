@@ -52,7 +52,7 @@ fn frame_of(number: u32) -> Frame {
     }
 }
 
-fn step_of(number: u32) -> Option<Step> {
+fn step_of(number: u32) -> Step {
     if number % 7 == 0 {
         return None;
     }
@@ -78,11 +78,11 @@ fn step_of(number: u32) -> Option<Step> {
     } else {
         Next::State(StateId(number % 10))
     };
-    Some(Step {
+    Step {
         actions,
         vars,
         next,
-    })
+    }
 }
 
 fn done_of(number: u32) -> ArrayVec<Done, 8> {
@@ -109,7 +109,7 @@ pub fn note<K: Keeps>(log: &mut K, number: u32) -> bool {
     if log.make_room().is_err() {
         return false;
     }
-    match number % 5 {
+    match number % 6 {
         0 => log.enter(item_of(number), pid_of(number)),
         1 => log.discard(item_of(number), Cause::NoInstance),
         2 => log.discard(item_of(number), Cause::Gone),
@@ -117,18 +117,19 @@ pub fn note<K: Keeps>(log: &mut K, number: u32) -> bool {
             pid_of(number),
             Trigger::Fire(item_of(number)),
             frame_of(number),
-            step_of(number),
+            &mut step_of(number),
             &mut done_of(number),
             None,
         ),
-        _ => log.turn(
+        4 => log.turn(
             pid_of(number),
             Trigger::Start,
             frame_of(number),
-            step_of(number),
+            &mut step_of(number),
             &mut done_of(number),
             Some(number as u64),
         ),
+        _ => log.skip(frame_of(number), item_of(number)),
     }
     true
 }

@@ -3,6 +3,8 @@
 
 pub mod anything;
 #[cfg(test)]
+mod asking;
+#[cfg(test)]
 mod binding;
 #[cfg(test)]
 mod counting;

@@ -26,8 +26,8 @@ row-requires-clause-set g c =
     let next = c.requires.next in
     rules_of_place g.S.Agents.may (system_in c.args.self.now c.args.routes.now) (core_of c.args.self.now) c.requires.sound c.args.place c.args.frame.self_pid next.0 c.set_of.result next.3 c.set_of.ensures
 
-pub fire-step-requires-clause-frame : goal.fire-step-requires-clause-frame
-fire-step-requires-clause-frame g c =
+pub fire_into-requires-clause-frame : goal.fire_into-requires-clause-frame
+fire_into-requires-clause-frame g c =
     let next = c.requires.next in
     let sys = system_in c.args.self.now c.args.routes.now in
     let core = core_of c.args.self.now in
@@ -75,8 +75,8 @@ complete-requires-clause-creatable g c =
     let legal = rules_legal sys core.block p rules.0 c.requires.sound.bound rules.1 in
     let offered = row_offer sys core.block rules.0 c.args.state c.signal_of.result rule legal (c.in-Some.ensures.row rules.0 of_set) in
     let taken = c.consume-item.ensures.consumed p next.0 next.3 in
-    subst (λ (m : Core). AllByRecursion (CanAct m.sets (block_rules c.args.self.now.parts)) c.fire-step.result.actions.items) (sym taken.2)
-    (can_act_all g.S.Agents.may sys core c.requires.sound rules.0.vars rule.offer c.fire-step.result offered.0 c.fire-step.ensures.conforms)
+    subst (λ (m : Core). AllByRecursion (CanAct m.sets (block_rules c.args.self.now.parts)) c.fire_into.new.step.actions.items) (sym taken.2)
+    (can_act_all g.S.Agents.may sys core c.requires.sound rules.0.vars rule.offer c.fire_into.new.step offered.0 c.fire_into.ensures.conforms)
 
 pub returns-in-Some-clause-fires : goal.returns-in-Some-clause-fires
 returns-in-Some-clause-fires g c =
@@ -96,9 +96,9 @@ returns-in-Some-clause-fires g c =
     let signal = c.signal_of.ensures item.signal (shown_signal c.args.frame p next.0 c.args.state item taken.0 next.5 taken.1 next.4) in
     let row : row_for rules.0.rows c.args.state item.signal.id ≡ Some rule = ap (λ (s : SignalId). row_for rules.0.rows c.args.state s) (sym signal) ∙ c.in-Some.ensures.row rules.0 of_set in
     let stands = subst (λ (m : Core). StandsAt m.state place p t) (sym taken.2) (stands_consumed core.state place p next.0 t next.3) in
-    let done = subst (λ (m : Core). Completes may (system_of m c.args.routes.now (block_rules c.args.self.now.parts)) c.args.pick p (trigger.Fire item) c.args.frame c.fire-step.result m c.complete.new.hand.items c.complete.new.self.core) taken.2 (c.complete.ensures t stands) in
-    fires_row may sys c.args.pick place p c.args.frame core c.complete.new.hand.items c.complete.new.self.core next.0 next.3 rules.0 rule c.fire-step.result c.args.state item taken.0 mid
-    next.5 taken.1 rules.1 row next.4 c.fire-step.ensures.allowed c.fire-step.ensures.conforms refl done
+    let done = subst (λ (m : Core). Completes may (system_of m c.args.routes.now (block_rules c.args.self.now.parts)) c.args.pick p (trigger.Fire item) c.args.frame c.fire_into.new.step m c.complete.new.hand.items c.complete.new.self.core) taken.2 (c.complete.ensures t stands) in
+    fires_row may sys c.args.pick place p c.args.frame core c.complete.new.hand.items c.complete.new.self.core next.0 next.3 rules.0 rule c.fire_into.new.step c.args.state item taken.0 mid
+    next.5 taken.1 rules.1 row next.4 c.fire_into.ensures.allowed c.fire_into.ensures.conforms refl done
 
 pub returns-in-None-clause-fires : goal.returns-in-None-clause-fires
 returns-in-None-clause-fires g c =

@@ -19,8 +19,8 @@ start-requires-clause-set g c =
     let next = c.requires.next in
     rules_of_place g.S.Agents.may (system_in c.args.self.now c.args.routes.now) (core_of c.args.self.now) c.requires.sound c.args.place c.args.frame.self_pid next.0 c.set_of.result next.1 c.set_of.ensures
 
-pub fire-step-requires-clause-frame : goal.fire-step-requires-clause-frame
-fire-step-requires-clause-frame g c =
+pub fire_into-requires-clause-frame : goal.fire_into-requires-clause-frame
+fire_into-requires-clause-frame g c =
     let next = c.requires.next in
     let sys = system_in c.args.self.now c.args.routes.now in
     let core = core_of c.args.self.now in
@@ -48,8 +48,8 @@ complete-requires-clause-creatable g c =
     let of_set = sym (rules_of_set sys p c.set_of.result c.set_of.ensures) ∙ rules.1 in
     let is = c.start.ensures.start rules.0 of_set in
     let legal = rules_legal sys core.block p rules.0 c.requires.sound.bound rules.1 in
-    can_act_all g.S.Agents.may sys core c.requires.sound rules.0.vars rules.0.start.offer c.fire-step.result legal.start
-    (subst (λ (x : Rule). ∥ Conforms x.offer c.fire-step.result ∥₁) is c.fire-step.ensures.conforms)
+    can_act_all g.S.Agents.may sys core c.requires.sound rules.0.vars rules.0.start.offer c.fire_into.new.step legal.start
+    (subst (λ (x : Rule). ∥ Conforms x.offer c.fire_into.new.step ∥₁) is c.fire_into.ensures.conforms)
 
 pub returns-clause-fires : goal.returns-clause-fires
 returns-clause-fires g c =
@@ -61,7 +61,7 @@ returns-clause-fires g c =
     let rules = rules_at_place may sys core c.requires.sound c.args.place p next.0 next.1 in
     let of_set = sym (rules_of_set sys p c.set_of.result c.set_of.ensures) ∙ rules.1 in
     let is = c.start.ensures.start rules.0 of_set in
-    starts may sys c.args.pick c.args.place p c.args.frame core c.complete.new.hand.items c.complete.new.self.core next.0 next.1 rules.0 c.fire-step.result next.3 rules.1 next.2
-    (subst (λ (x : Rule). may x.number c.args.frame c.fire-step.result) is c.fire-step.ensures.allowed)
-    (subst (λ (x : Rule). ∥ Conforms x.offer c.fire-step.result ∥₁) is c.fire-step.ensures.conforms)
+    starts may sys c.args.pick c.args.place p c.args.frame core c.complete.new.hand.items c.complete.new.self.core next.0 next.1 rules.0 c.fire_into.new.step next.3 rules.1 next.2
+    (subst (λ (x : Rule). may x.number c.args.frame c.fire_into.new.step) is c.fire_into.ensures.allowed)
+    (subst (λ (x : Rule). ∥ Conforms x.offer c.fire_into.new.step ∥₁) is c.fire_into.ensures.conforms)
     (c.complete.ensures next.0 next.1)

@@ -30,7 +30,7 @@ invariant_of-self g c =
     let mid = state_of c.act_all.new.living in
     let new = state_of c.finish-stopped.new.self in
     let did = c.act_all.new.done.items in
-    let e = event.Turn c.args.frame.self_pid c.args.trigger c.args.frame (Some c.args.step) c.act_all.new.done c.finish-stopped.result in
+    let e = event.Turn c.args.frame.self_pid c.args.trigger c.args.frame (Some c.args.step.now) c.act_all.new.done c.finish-stopped.result in
     let ready = subst (λ (h : CoreWithRoom). CanCarryOut h.core.sets c.args.actor.now.place 8 h.creatable h.core.state) (sym c.self.view_is) c.requires.ready in
     let here = standing old c.args.actor.now.place ready.within in
     let stands = c.act_all.ensures.stays here.0 here.1 here.2 in
@@ -53,14 +53,14 @@ returns g c r at =
     let old : Core = record { block = c.self.inside.block; signals = map (λ s. s.items) c.self.inside.signals.items; sets = c.self.inside.sets.items; state = state_of c.self.inside.living; log = (g.K.Keeps.events c.self.inside.log); budget = c.self.inside.budget } in
     let new : Core = record { block = c.self.inside.block; signals = map (λ s. s.items) c.self.inside.signals.items; sets = c.self.inside.sets.items; state = state_of c.finish-stopped.new.self; log = g.K.Keeps.events c.turn.new.self; budget = c.self.inside.budget } in
     let m : Mark = record { origin = record { worker = c.self.inside.block.0; number = c.self.inside.outputs }; stamp = c.self.inside.stamp; pick = c.args.pick } in
-    let carried : CarriesOut may c.self.inside.sets.items routes rules place m c.args.step.actions.items [] did old.state mid =
-    subst (λ (sets : List ProcessSet). CarriesOut may sets routes rules place m c.args.step.actions.items [] did old.state mid) c.as_slice.ensures.value
+    let carried : CarriesOut may c.self.inside.sets.items routes rules place m c.args.step.now.actions.items [] did old.state mid =
+    subst (λ (sets : List ProcessSet). CarriesOut may sets routes rules place m c.args.step.now.actions.items [] did old.state mid) c.as_slice.ensures.value
     (subst (λ (l : List Action). CarriesOut may c.as_slice.result.now routes rules place m l [] did old.state mid) c.as_slice-2.ensures.value
     (subst (λ (l : List Done). CarriesOut may c.as_slice.result.now routes rules place m c.as_slice-2.result.now l did old.state mid) c.clear.ensures c.act_all.ensures)) in
     let hand_is = c.add_sent.ensures ∙ ap (λ (l : List _). l ++ flat_map sent_by c.as_slice-3.result.now) c.requires.hand ∙ ap (λ (ds : List Done). flat_map sent_by ds) c.as_slice-3.ensures.value in
     let few = c.as_slice-3.ensures.fits in
-    subst (λ (h : CoreWithRoom). Completes may (system_of h.core routes rules) c.args.pick p c.args.trigger c.args.frame c.args.step h.core c.add_sent.new.sent.items new) c.self.view_is
-    (completes may old routes rules c.args.pick place p c.args.trigger c.args.frame c.args.step m did mid c.finish-stopped.result c.add_sent.new.sent.items new r
+    subst (λ (h : CoreWithRoom). Completes may (system_of h.core routes rules) c.args.pick p c.args.trigger c.args.frame c.args.step.now h.core c.add_sent.new.sent.items new) c.self.view_is
+    (completes may old routes rules c.args.pick place p c.args.trigger c.args.frame c.args.step.now m did mid c.finish-stopped.result c.add_sent.new.sent.items new r
     (subst (λ (h : CoreWithRoom). StandsAt h.core.state place p r) (sym c.self.view_is) at)
     refl c.self.invariant.outputs_are c.self.invariant.stamp_is refl
     carried c.finish-stopped.ensures c.turn.ensures hand_is (refl, refl, refl, refl) (subst (λ (ds : List Done). length ds ≤ 8) c.as_slice-3.ensures.value few))

@@ -1,4 +1,4 @@
-use Rattle.std.proofs.Common.{ap, ◌∙◌, ◌++◌, ◌∷◌, [], List}
+use Rattle.std.proofs.Common.{ap, ◌∙◌, ◌++◌, ◌∷◌, [], Some, List}
 use Rattle.sdl_log.specs.declared.event.Event.{Event}
 use Rattle.sdl_log.specs.declared.event.Event.TheVariants as event
 use Rattle.sdl_log.proofs.Counting.{noted}
@@ -8,6 +8,6 @@ pub invariant_of-self : goal.invariant_of-self
 invariant_of-self c =
     let u = c.self.inside in
     let a = c.args in
-    let e : Event = event.Turn a.pid a.trigger a.frame a.step a.done.now a.stopped in
+    let e : Event = event.Turn a.pid a.trigger a.frame (Some a.step.now) a.done.now a.stopped in
     noted u.events u.history c.and_turn.result e c.self.invariant
     (c.and_turn.ensures ∙ ap (λ (l : List Event). l ++ e ∷ []) c.replace-before.ensures.value)

@@ -1,0 +1,14 @@
+use Rattle.std.proofs.Common.{ap, ◌∙◌, ◌++◌, ◌∷◌, [], None, List}
+use Rattle.sdl_log.specs.declared.event.Event.{Event}
+use Rattle.sdl_log.specs.declared.event.Event.TheVariants as event
+use Rattle.sdl_log.specs.declared.event.Trigger.TheVariants as trigger
+use Rattle.sdl_log.proofs.Counting.{noted}
+use Rattle.sdl_log.proofs.unstored.UnstoredKeeps.skip.Goals as goal
+
+pub invariant_of-self : goal.invariant_of-self
+invariant_of-self c =
+    let u = c.self.inside in
+    let a = c.args in
+    let e : Event = event.Turn a.frame.self_pid (trigger.Implicit a.item) a.frame None (record { items = [] }) None in
+    noted u.events u.history c.and_skipped.result e c.self.invariant
+    (c.and_skipped.ensures ∙ ap (λ (l : List Event). l ++ e ∷ []) c.replace-before.ensures.value)
