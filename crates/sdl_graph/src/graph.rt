@@ -2,7 +2,7 @@
 ghost use Rattle.std.specs.Prelude.{ℕ, IsTrue, ◌↔◌};
 ghost use Rattle.sdl_behaviour.specs.declared.step.Frame.{Frame as AFrame};
 ghost use Rattle.sdl_behaviour.specs.declared.step.Step.{Step as AStep};
-ghost use Rattle.sdl_behaviour.specs.Offers.{IsFrameOf, Conforms};
+ghost use Rattle.sdl_behaviour.specs.Offers.{IsBlank, IsFrameOf, Conforms};
 ghost use Rattle.sdl_conformance.specs.Stay.{CanEnd};
 ghost use Rattle.sdl_graph.specs.Answers.{IsKept};
 
@@ -19,6 +19,19 @@ pub trait Graph {
 
     fn step(number: u32, frame: &Frame) -> Step
         ensures { answers number frame.now result };
+
+    /// Puts what the transition of the number does into the blank step, where it stands, and says whether it did: for transitions
+    /// that are made often (`in_place`). Where it did not, as it does unless the graph says otherwise, and where that breaks the
+    /// offer, `step` answers.
+    fn fill(number: u32, frame: &Frame, step: &mut Step) -> bool
+        requires { IsBlank step.old }
+        ensures { IsTrue result → answers number frame.now step.new }
+    {
+        let _ = number;
+        let _ = frame;
+        let _ = step;
+        false
+    }
 }
 
 /// What the graph's transition answers where that conforms to the offer, and else the step that does nothing.

@@ -2,6 +2,7 @@
 #![tactic(auto)]
 
 pub mod graph;
+pub mod in_place;
 mod limits;
 pub mod offers;
 pub mod reading;

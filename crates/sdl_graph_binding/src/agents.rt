@@ -5,7 +5,8 @@ ghost use Rattle.sdl_graph.specs.Answers.{IsKept};
 
 use crate::marks::Marks;
 use sdl_behaviour::{Agents, Frame, Offer, Step};
-use sdl_graph::judge;
+use sdl_conformance::conforms;
+use sdl_graph::{Graph, judge};
 use std::marker::PhantomData;
 
 /// The agents of a graph. Of each step it is promised that it meets its transition's offer, as of every step of a stored
@@ -15,8 +16,15 @@ pub struct GraphAgents<G> {
     graph: PhantomData<G>,
 }
 
-impl<G> Agents for GraphAgents<G> {
+impl<G: Graph> Agents for GraphAgents<G> {
     ghost may = { λ _ _ _. Unit {0} };
+
+    /// What the graph puts together, where that conforms to the offer. Where it does not, the stored closure answers, which marks a
+    /// step that breaks its offer.
+    #[inline(always)]
+    fn fill(number: u32, offer: &Offer, frame: &Frame, step: &mut Step) -> bool {
+        G::fill(number, frame, step) && conforms(offer, step)
+    }
 }
 
 /// Leaves a step that conforms to the offer as it is, and puts the one that does nothing in the place of another, whose number

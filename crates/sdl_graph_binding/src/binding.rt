@@ -13,6 +13,7 @@ use crate::set_behaviour::{set_named, take_first, with_rows, with_states, with_u
 use crate::sets::{Design, SetDesign, Use};
 use arrayvec::ArrayVec;
 use sdl_behaviour::{Behaviour, Transition};
+use sdl_graph::Graph;
 use sdl_parts::{Checked, Structure};
 use sdl_routes::Routes;
 use sdl_signal::{Name, SetId, Value};
@@ -38,7 +39,7 @@ fn set_parts(
 }
 
 /// The behaviour of the set at a place of the design, of the first of the transitions that are left.
-fn behaviour_of<G>(
+fn behaviour_of<G: Graph>(
     alloc: Global,
     structure: &Structure,
     uses: &[Use],
@@ -65,7 +66,7 @@ fn behaviour_of<G>(
 }
 
 /// The behaviours with one more.
-fn with_one<G>(
+fn with_one<G: Graph>(
     made: Vec<Behaviour<GraphAgents<G>>>,
     behaviour: Behaviour<GraphAgents<G>>,
 ) -> Result<Vec<Behaviour<GraphAgents<G>>>, GraphFault>
@@ -80,7 +81,7 @@ fn with_one<G>(
 
 /// The behaviours of these sets, of which the first is at `place` of the design, behind those that are made.
 #[tactic(auto, using(crate::proofs::Lists::taken_on, crate::proofs::Lists::sets_on))]
-fn with_behaviours<G>(
+fn with_behaviours<G: Graph>(
     alloc: Global,
     structure: &Structure,
     uses: &[Use],
@@ -109,7 +110,7 @@ fn with_behaviours<G>(
 
 /// Makes the behaviours of the sets of the design of the transitions of a graph, in their order, and binds them to the
 /// structure.
-pub fn bind_graph<G>(
+pub fn bind_graph<G: Graph>(
     alloc: Global,
     checked: Checked,
     routes: Routes,

@@ -10,6 +10,7 @@ use crate::faults::GraphFault;
 use crate::sets::Use;
 use arrayvec::ArrayVec;
 use sdl_behaviour::{Behaviour, Named, Row, Transition};
+use sdl_graph::Graph;
 use sdl_parts::Set;
 use sdl_parts::limits::{MOST_ROWS, MOST_USES};
 use sdl_signal::{Name, name};
@@ -50,7 +51,7 @@ pub fn with_states(states: ArrayVec<Name, 16>, texts: &[&str]) -> Option<ArrayVe
     }
 }
 
-fn with_use<G>(
+fn with_use<G: Graph>(
     behaviour: Behaviour<GraphAgents<G>>,
     used: Use,
 ) -> Result<Behaviour<GraphAgents<G>>, GraphFault>
@@ -74,7 +75,7 @@ fn with_use<G>(
 }
 
 /// The behaviour with these uses too.
-pub fn with_uses<G>(
+pub fn with_uses<G: Graph>(
     behaviour: Behaviour<GraphAgents<G>>,
     uses: &[Use],
 ) -> Result<Behaviour<GraphAgents<G>>, GraphFault>
@@ -90,7 +91,9 @@ pub fn with_uses<G>(
 }
 
 /// The row of a transition, for the state and the signal of its offer.
-fn row_of<G>(transition: Transition<GraphAgents<G>>) -> Result<Row<GraphAgents<G>>, GraphFault>
+fn row_of<G: Graph>(
+    transition: Transition<GraphAgents<G>>,
+) -> Result<Row<GraphAgents<G>>, GraphFault>
     ensures transition { IfOk result (λ row. row.transition ≡ transition) }
     ensures by_offer { IfOk result IsByOffer }
 {
@@ -107,7 +110,7 @@ fn row_of<G>(transition: Transition<GraphAgents<G>>) -> Result<Row<GraphAgents<G
     }
 }
 
-fn with_row<G>(
+fn with_row<G: Graph>(
     behaviour: Behaviour<GraphAgents<G>>,
     transition: Transition<GraphAgents<G>>,
 ) -> Result<Behaviour<GraphAgents<G>>, GraphFault>
@@ -131,7 +134,9 @@ fn with_row<G>(
 }
 
 /// Takes the first transition out of the list.
-pub fn take_first<G>(left: &mut Vec<Transition<GraphAgents<G>>>) -> Transition<GraphAgents<G>>
+pub fn take_first<G: Graph>(
+    left: &mut Vec<Transition<GraphAgents<G>>>,
+) -> Transition<GraphAgents<G>>
     requires { 0 < length left.old.items }
     ensures { left.old.items ≡ result ∷ left.new.items }
 {
@@ -140,7 +145,7 @@ pub fn take_first<G>(left: &mut Vec<Transition<GraphAgents<G>>>) -> Transition<G
 
 /// The behaviour with the first of the transitions that are left as its next rows, as many as `rows`.
 #[tactic(auto, using(crate::proofs::Lists::moved))]
-pub fn with_rows<G>(
+pub fn with_rows<G: Graph>(
     behaviour: Behaviour<GraphAgents<G>>,
     left: &mut Vec<Transition<GraphAgents<G>>>,
     rows: usize,

@@ -126,7 +126,7 @@ impl<G: Graph> Stored<G> {
     }
 }
 
-impl<G> Stored<G> {
+impl<G: Graph> Stored<G> {
     /// No transitions.
     pub fn new(alloc: Global) -> Stored<G>
         ensures none { result.transitions.items ≡ [] }
@@ -156,7 +156,8 @@ impl<G> Stored<G> {
         ensures begun { self.new.begun ≡ false }
     {
         self.begun = false;
-        let pushed = self.transitions.push(Transition::store(number, offer, run));
+        let stored = Transition::store_for_agents(number, offer, run);
+        let pushed = self.transitions.push(stored);
         if pushed.is_err() && self.marks.is_ok() {
             self.marks = Err(GraphFault::Memory);
         }

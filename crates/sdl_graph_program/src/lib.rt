@@ -15,8 +15,8 @@ pub use sdl_file_commands::streams::{Input, Output, shared_buffer};
 pub use sdl_graph_binding;
 pub use sdl_graph_binding::sdl_behaviour::{Dest, Frame, Kind, Offer, Run, Step, Via};
 pub use sdl_graph_binding::sdl_graph::{
-    Graph, OfferBuilder, StepBuilder, boolean_parameter, boolean_variable, integer_parameter,
-    integer_variable, no_offer, no_step, pid_parameter, pid_variable,
+    Graph, OfferBuilder, StepBuilder, boolean_parameter, boolean_variable, in_place,
+    integer_parameter, integer_variable, no_offer, no_step, pid_parameter, pid_variable,
 };
 pub use sdl_graph_binding::sdl_signal::{
     ChannelId, GateId, Pid, SetId, SignalId, Sort, StateId, Value,

@@ -12,6 +12,7 @@ use sdl_file_commands::in_threads::run_bound_in_threads;
 use sdl_file_commands::running::Settings;
 use sdl_file_commands::sdl_command::errors::write_error;
 use sdl_file_commands::sdl_command::status::REFUSED;
+use sdl_graph_binding::sdl_graph::Graph;
 use sdl_graph_binding::sdl_transition::Bound;
 use sdl_graph_binding::{Broken, Design, GraphAgents, GraphFault, Marks, Stored, bind_graph};
 use std::alloc::Global;
@@ -34,7 +35,7 @@ pub fn refused<E: Write>(errors: &mut E, design: &Design, fault: GraphFault) -> 
 /// what was to be stored, or how the run ended. Where a transition broke its offer, a line of standard error names the first, with the number of
 /// answers that broke theirs. The logs are stored where a trace was asked for, and else counted alone.
 #[tactic(auto, unfolding(sdl_file_commands::specs::Running::CanRun))]
-pub fn run_prepared<G: Send, T: Threads + Wait + Sync, R: Read, W: Write, E: Write>(
+pub fn run_prepared<G: Graph + Send, T: Threads + Wait + Sync, R: Read, W: Write, E: Write>(
     rt: &T,
     prepared: Prepared,
     design: &Design,
@@ -72,7 +73,7 @@ pub fn run_prepared<G: Send, T: Threads + Wait + Sync, R: Read, W: Write, E: Wri
 }
 
 /// Runs the agents of a graph that is bound, with its structure's budget, and answers the exit status.
-fn run_marked<G: Send, T: Threads + Wait + Sync, R: Read, W: Write, E: Write>(
+fn run_marked<G: Graph + Send, T: Threads + Wait + Sync, R: Read, W: Write, E: Write>(
     rt: &T,
     settings: Settings,
     bound: Bound<GraphAgents<G>>,

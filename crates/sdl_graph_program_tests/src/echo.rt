@@ -1,10 +1,10 @@
-//! Echo as a graph, and in it an Echo whose row does not offer its output.
+//! Echo as a graph, and in it an Echo whose row does not offer its output, and two that put their steps together in place.
 ghost use Rattle.sdl_graph_program.specs.Running.{CanRun};
 
 use sdl_graph_program::{
     Design, Dest, Frame, Graph, Kind, Offer, OfferBuilder, Prepared, Run, SetDesign, SignalId,
-    Sort, StateId, Step, StepBuilder, Stored, Value, Via, integer_parameter, no_offer, no_step,
-    run_prepared,
+    Sort, StateId, Step, StepBuilder, Stored, Value, Via, in_place, integer_parameter, no_offer,
+    no_step, run_prepared,
 };
 use std::alloc::Global;
 use std::sync::Wait;
@@ -35,20 +35,32 @@ fn ping_step(frame: &Frame) -> Step {
         .build()
 }
 
+fn fill_ping(frame: &Frame, id: SignalId, step: &mut Step) {
+    let given = Value::Integer(integer_parameter(frame, 0).unwrap_or(0));
+    in_place::next_state(step, frame, IDLE);
+    in_place::output(step, id, &[given], Dest::Anywhere, Via::Any);
+}
+
 /// The number of the start of Echo.
 pub const SOUND: u32 = 0;
 
 /// The number of the start of an Echo whose row does not offer the output that it makes.
 pub const MUTE: u32 = 2;
 
-/// Both, each a start and a row.
+/// The number of the start of an Echo whose row is put together in place alone.
+pub const FILLED: u32 = 4;
+
+/// The number of the start of an Echo whose row breaks its offer in place, and keeps to it where it is built.
+pub const MENDED: u32 = 6;
+
+/// All of them, each a start and a row.
 pub struct Echo;
 
 impl Graph for Echo {
     fn offer(number: u32) -> Offer {
         match number {
-            0 | 2 => start_offer(),
-            1 => ping_offer()
+            0 | 2 | 4 | 6 => start_offer(),
+            1 | 5 | 7 => ping_offer()
                 .output(PONG, &[Sort::Integer], Via::Any)
                 .next_state(IDLE)
                 .build(),
@@ -59,10 +71,19 @@ impl Graph for Echo {
 
     fn step(number: u32, frame: &Frame) -> Step {
         match number {
-            0 | 2 => start_step(frame),
-            1 | 3 => ping_step(frame),
+            0 | 2 | 4 | 6 => start_step(frame),
+            1 | 3 | 7 => ping_step(frame),
             _ => no_step(),
         }
+    }
+
+    fn fill(number: u32, frame: &Frame, step: &mut Step) -> bool {
+        match number {
+            5 => fill_ping(frame, PONG, step),
+            7 => fill_ping(frame, PING, step),
+            _ => return false,
+        }
+        true
     }
 }
 

@@ -2,7 +2,7 @@
 ghost use Rattle.std.specs.Prelude.{IfOk};
 ghost use Rattle.sdl_graph_program.specs.Running.{CanRun};
 
-use super::echo::{DESIGN, MUTE, SET, SOUND, run_echo};
+use super::echo::{DESIGN, FILLED, MENDED, MUTE, SET, SOUND, run_echo};
 use sdl_examples::ECHO;
 use sdl_graph_program::sdl_file_commands::sdl_command::arguments::{Command, Options};
 use sdl_graph_program::{BROKEN, Design, Prepared, SetDesign, prepare_file};
@@ -91,6 +91,24 @@ fn a_graph_runs(rt: HostRuntime) -> Result<(), Fail> {
             assert!(rt; ran.errors.is_empty());
         }
         Err(_) => assert!(rt; false),
+    }
+    Ok(())
+}
+
+/// A row that is put together in place answers as one that is built, and where it breaks its offer, the built one answers.
+#[test]
+fn a_graph_that_fills_its_steps_runs(rt: HostRuntime) -> Result<(), Fail> {
+    for start in [FILLED, MENDED] {
+        let (prepared, _, _) = prepare_echo(rt.alloc(), options_of(Command::Run, true));
+        match prepared {
+            Ok(prepared) => {
+                let ran = run_echo(&rt, rt.alloc(), prepared, &DESIGN, start, PINGS);
+                assert!(rt; ran.status == 0);
+                assert!(rt; ran.output.as_slice() == BOOKS);
+                assert!(rt; ran.errors.is_empty());
+            }
+            Err(_) => assert!(rt; false),
+        }
     }
     Ok(())
 }

@@ -5,6 +5,7 @@ ghost use Rattle.sdl_run.specs.sdl_driver.Closings.{HasReadIn, HasWrittenIn, Sto
 ghost use Rattle.sdl_run.specs.sdl_driver.Ended.{HasEnded};
 ghost use Rattle.sdl_run.specs.Serial.{IsBackIn};
 
+use sdl_graph_binding::sdl_graph::Graph;
 use sdl_graph_binding::sdl_transition::Bound;
 use sdl_graph_binding::{Broken, GraphAgents, Marks};
 use sdl_run::sdl_log::{Event, Keeps};
@@ -23,7 +24,7 @@ pub struct GraphClosing<G, K: Keeps = Vec<Event>> {
 /// Runs the agents of a graph on one thread until they end, as `run_keeping` does, with logs that are kept as their type
 /// says: whole, or counted alone. Each step meets the offer of its transition. `marks` are those that the transitions share.
 /// What they say at the end is the closing's `broken`.
-pub fn run_graph<G, K: Keeps, R: Read, W: Write>(
+pub fn run_graph<G: Graph, K: Keeps, R: Read, W: Write>(
     alloc: Global,
     bound: Bound<GraphAgents<G>>,
     marks: &Marks,

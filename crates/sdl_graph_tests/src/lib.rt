@@ -6,6 +6,8 @@ mod building;
 #[cfg(test)]
 mod conformity;
 #[cfg(test)]
+mod filling;
+#[cfg(test)]
 mod light;
 #[cfg(test)]
 mod reading;

@@ -1,4 +1,4 @@
-use Rattle.std.proofs.Common.{◌≡◌, ◌++◌, length, map, subst, ap, ◌∙◌, arith}
+use Rattle.std.proofs.Common.{◌≡◌, ◌++◌, map, subst, ap, ◌∙◌, arith}
 use Rattle.sdl_graph_binding.specs.Transitions.{all_transitions, meant, made_as}
 use Rattle.sdl_graph_binding.proofs.Lists.{none_left}
 use Rattle.sdl_graph_binding.proofs.binding.bind_graph.Goals as goal
