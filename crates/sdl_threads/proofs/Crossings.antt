@@ -22,6 +22,7 @@ use Rattle.sdl_behaviour.proofs.behaviour.Named.TheSendSync as named
 use Rattle.sdl_behaviour.proofs.offer.Offer.TheSendSync as offer
 use Rattle.sdl_behaviour.proofs.offer.OfferedOutput.TheSendSync as offered
 use Rattle.sdl_behaviour.proofs.offer.SignalSorts.TheSendSync as sorts
+use Rattle.sdl_behaviour.proofs.step.Step.TheSendSync as step
 use Rattle.std.proofs.alloc.Global.TheSendSync as global
 use Rattle.std.proofs.marker.PhantomData.TheSendSync as phantom
 use Rattle.std.proofs.option.Option.TheSendSync as option
@@ -60,7 +61,10 @@ module _ (S V : RattleType) (g : Ghosts V.Denot) (h : _) (s : IsSend S) (v : IsS
             as_row_send (DynBox.the_field V Global.the_row g ghosts) (Crossing.dyn_box_send V g sends v),
             (
               search facts depth 60 fits 20000,
-              tt,
+              (
+                search facts depth 60 fits 20000,
+                tt,
+              ),
             ),
           ),
         ),
@@ -116,7 +120,7 @@ module _ (S V : RattleType) (g : Ghosts V.Denot) (h : _) (s : IsSend S) (v : IsS
 
   module _ (K : RattleType) (keeps : _) (k : IsSend K) where
     pub core : IsSend (BlockCore.the_row S K V keeps g h)
-    core = declared_send (BlockCore.the_type S K V keeps g h) (search (k, table.the_send, facts) depth 60 fits 20000, (parts, tt))
+    core = declared_send (BlockCore.the_type S K V keeps g h) (search (k, table.the_send, facts) depth 60 fits 20000, (parts, (search (step.the_send, facts) depth 60 fits 20000, tt)))
 
     pub worker : IsSend (BlockWorker.the_row S K V keeps g h)
     worker = declared_send (BlockWorker.the_type S K V keeps g h) (core, (search (hand.the_send, facts) depth 60 fits 20000, tt))

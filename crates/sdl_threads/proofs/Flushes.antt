@@ -1,6 +1,5 @@
 -- What the steps of a worker keep stays where its ends are flushed.
-use Rattle.std.proofs.Common.{◌≡◌, ℕ, List, [], Option, Some, None, ap, sym, ◌∙◌}
-use Rattle.sdl_signal.specs.declared.values.Item.{Item}
+use Rattle.std.proofs.Common.{◌≡◌, ℕ, List, [], ap, sym, ◌∙◌}
 use Rattle.sdl_routes.specs.declared.route.Station.{Station}
 use Rattle.sdl_routes.specs.declared.route.TableRow.{TableRow}
 use Rattle.sdl_behaviour.specs.declared.step.Frame.{Frame}

@@ -28,7 +28,7 @@ fn counted(calls: &AtomicU64, frame: &Frame) -> Step
 }
 
 /// Fires the row for `ping` so often, and counts the answers that are a `pong` with the number.
-fn fire_often<S: Agents>(ping: &Transition<S>, times: u64) -> u64
+fn fire_often<S: Agents>(ping: &Transition<S>, times: u32) -> u64
     requires offer { IsPingOffer ping.now.offer }
     requires allowed { IsAllowed S.may ping.now }
 {
