@@ -53,9 +53,6 @@ fn frame_of(number: u32) -> Frame {
 }
 
 fn step_of(number: u32) -> Step {
-    if number % 7 == 0 {
-        return None;
-    }
     let mut actions: ArrayVec<Action, 8> = ArrayVec::new();
     for place in 0..number % 9 {
         let action = if place % 2 == 0 {
