@@ -53,6 +53,9 @@ pub const FILLED: u32 = 4;
 /// The number of the start of an Echo whose row breaks its offer in place, and keeps to it where it is built.
 pub const MENDED: u32 = 6;
 
+/// A number that no transition has.
+pub const ABSENT: u32 = 8;
+
 /// All of them, each a start and a row.
 pub struct Echo;
 

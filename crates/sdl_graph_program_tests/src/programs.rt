@@ -2,7 +2,7 @@
 ghost use Rattle.std.specs.Prelude.{IfOk};
 ghost use Rattle.sdl_graph_program.specs.Running.{CanRun};
 
-use super::echo::{DESIGN, FILLED, MENDED, MUTE, SET, SOUND, run_echo};
+use super::echo::{ABSENT, DESIGN, FILLED, MENDED, MUTE, SET, SOUND, run_echo};
 use sdl_examples::ECHO;
 use sdl_graph_program::sdl_file_commands::sdl_command::arguments::{Command, Options};
 use sdl_graph_program::{BROKEN, Design, Prepared, SetDesign, prepare_file};
@@ -181,10 +181,10 @@ fn a_number_without_an_offer_is_refused(rt: HostRuntime) -> Result<(), Fail> {
     let (prepared, _, _) = prepare_echo(rt.alloc(), options_of(Command::Run, false));
     match prepared {
         Ok(prepared) => {
-            let ran = run_echo(&rt, rt.alloc(), prepared, &DESIGN, 4, PINGS);
+            let ran = run_echo(&rt, rt.alloc(), prepared, &DESIGN, ABSENT, PINGS);
             assert!(rt; ran.status == 1);
             assert!(rt; ran.output.is_empty());
-            assert!(rt; ran.errors.as_slice() == b"G1 NoOffer transition 4\n".as_slice());
+            assert!(rt; ran.errors.as_slice() == b"G1 NoOffer transition 8\n".as_slice());
         }
         Err(_) => assert!(rt; false),
     }
