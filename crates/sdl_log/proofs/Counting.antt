@@ -1,5 +1,5 @@
 -- What is counted of a log, after one more event.
-use Rattle.std.proofs.Common.{◌≡◌, ℕ, ◌+◌, List, [], ◌∷◌, ◌++◌, length, length-append, ap, sym, subst, arith}
+use Rattle.std.proofs.Common.{◌≡◌, ℕ, ◌+◌, List, [], ◌∷◌, ◌++◌, length, length-append, slice_set, slice_index_or, ap, refl, sym, subst, arith}
 use Rattle.std.proofs.lemmas.List.Sums.{sum_by_push}
 use Rattle.sdl_log.specs.declared.event.Event.{Event}
 use Rattle.sdl_log.specs.declared.counts.Counts.{Counts}
@@ -28,3 +28,13 @@ counted-more before after old new e are was is adds within =
 -- the number of events of an unstored log after one more
 pub noted : (events : ℕ) (before after : List Event) (e : Event) → events ≡ length before → after ≡ before ++ e ∷ [] → events + 1 ≡ length after
 noted events before after e many is = omega (arith, many, length-append before (e ∷ []), ap length is)
+
+-- the last event is another
+pub set_last : {X : Type 0} (xs : List X) (a b : X) → slice_set (xs ++ a ∷ []) (length xs) b ≡ xs ++ b ∷ []
+set_last [] a b = refl
+set_last (x ∷ xs) a b = ap (λ (l : List _). x ∷ l) (set_last xs a b)
+
+-- the last event is there
+pub get_last : {X : Type 0} (xs : List X) (a other : X) → slice_index_or (xs ++ a ∷ []) (length xs) other ≡ a
+get_last [] a other = refl
+get_last (x ∷ xs) a other = get_last xs a other

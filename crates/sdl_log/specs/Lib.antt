@@ -1,3 +1,4 @@
 pub mod Log
 pub mod Past
 pub mod Counts
+pub mod Filled

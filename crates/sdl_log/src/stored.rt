@@ -1,10 +1,50 @@
 //! A log that is stored whole.
+ghost use Rattle.std.specs.Prelude.{◌≡◌, []};
+ghost use Rattle.sdl_log.specs.Filled.{IsUnfilled, filled};
+
 use crate::event::{Cause, Done, Event, Trigger};
 use crate::keeps::Keeps;
 use arrayvec::ArrayVec;
 use sdl_behaviour::{Frame, Step};
 use sdl_signal::{Item, Pid};
 use std::alloc::{AllocError, Global};
+
+/// Moves all items of one list into an empty one.
+#[inline(always)]
+fn move_all<T: Default + Drop>(from: &mut ArrayVec<T, 8>, to: &mut ArrayVec<T, 8>)
+    requires { to.old.items ≡ [] }
+    ensures { to.new.items ≡ from.old.items }
+{
+    // That there are at most eight is known by it where they are moved.
+    let _few = from.len();
+    while from.len() > 0 {
+        to.push(from.remove(0));
+    }
+}
+
+/// Moves what the transition answered and what its actions did into the event of a turn that has neither yet.
+#[inline(always)]
+fn move_in(event: &mut Event, step: &mut Step, done: &mut ArrayVec<Done, 8>)
+    requires { IsUnfilled event.old }
+    ensures { event.new ≡ filled event.old step.old done.old.items }
+{
+    match event {
+        Event::Turn {
+            step: answer,
+            done: list,
+            ..
+        } => match answer {
+            Some(kept) => {
+                move_all(&mut step.actions, &mut kept.actions);
+                move_all(&mut step.vars, &mut kept.vars);
+                move_all(done, list);
+            }
+            None => unreachable!(),
+        },
+        Event::Entered(_, _) => unreachable!(),
+        Event::Discarded(_, _) => unreachable!(),
+    }
+}
 
 impl Keeps for Vec<Event> {
     ghost use Rattle.std.specs.Prelude.{vec_capacity};
@@ -40,15 +80,21 @@ impl Keeps for Vec<Event> {
         done: &mut ArrayVec<Done, 8>,
         stopped: Option<u64>,
     ) {
-        let event = Event::Turn {
+        let next = step.next;
+        self.push_reserved(Event::Turn {
             pid,
             trigger,
             frame,
-            step: Some(std::mem::replace(step, Step::blank())),
-            done: done.take(),
+            step: Some(Step {
+                actions: ArrayVec::new(),
+                vars: ArrayVec::new(),
+                next,
+            }),
+            done: ArrayVec::new(),
             stopped,
-        };
-        self.push_reserved(event);
+        });
+        let last = self.len() - 1;
+        move_in(&mut self[last], step, done);
     }
 
     fn skip(&mut self, frame: Frame, item: Item) {
