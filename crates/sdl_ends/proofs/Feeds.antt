@@ -1,8 +1,9 @@
 -- What a put at a station puts there, and that the other feeds stay.
-use Rattle.std.proofs.Common.{◌≡◌, ◌≢◌, ℕ, List, [], ◌∷◌, ◌++◌, MatchResult, Result, Option, Some, None, slice_set, slice_index_or, refl, ap, sym, ◌∙◌, subst}
+use Rattle.std.proofs.Common.{◌≡◌, ◌≢◌, ℕ, List, [], Option, Some, None, slice_set, slice_index_or, refl, ap, sym, ◌∙◌, subst}
 use Rattle.sdl_signal.specs.declared.values.Item.{Item}
 use Rattle.sdl_routes.specs.declared.route.Station.{Station}
 use Rattle.sdl_queue.specs.Ends.{FeedEnd, TapEnd, IsSameFeed}
+use Rattle.sdl_ring.specs.RingEnds.{IsPutFrom}
 use Rattle.sdl_ends.specs.declared.index.Index.{Index}
 use Rattle.sdl_ends.specs.Stations.{stations_of}
 use Rattle.sdl_ends.specs.Ends.{WorkerEnds, feed_at, put_at, IsSameEnds}
@@ -14,12 +15,11 @@ use Rattle.sdl_ends.proofs.FeedsLeft.{feed_is, feed_now, feed_elsewhere, marks_n
 abbrev put_of_feed : Option FeedEnd → List Item
 put_of_feed o = elim o as (λ _. List Item) [ None ↦ [] | Some f ↦ f.put ]
 
-put_now : (fs gs : List (Station × FeedEnd)) (s : Station) (f g : FeedEnd) (item : Item) (r : Result (Unit {0}) Item) → feed_at fs s ≡ Some f → feed_at gs s ≡ Some g
-    → MatchResult r (λ _. g.put ≡ f.put ++ item ∷ []) (λ back. (back ≡ item) × (g.put ≡ f.put))
-    → MatchResult r (λ _. put_of_feed (feed_at gs s) ≡ put_of_feed (feed_at fs s) ++ item ∷ []) (λ back. (back ≡ item) × (put_of_feed (feed_at gs s) ≡ put_of_feed (feed_at fs s)))
-put_now fs gs s f g item r e h p =
-    subst (λ (o : Option FeedEnd). MatchResult r (λ _. put_of_feed o ≡ put_of_feed (feed_at fs s) ++ item ∷ []) (λ back. (back ≡ item) × (put_of_feed o ≡ put_of_feed (feed_at fs s)))) (sym h)
-    (subst (λ (o : Option FeedEnd). MatchResult r (λ _. g.put ≡ put_of_feed o ++ item ∷ []) (λ back. (back ≡ item) × (g.put ≡ put_of_feed o))) (sym e) p)
+put_now : (fs gs : List (Station × FeedEnd)) (s : Station) (f g : FeedEnd) (slot left : Option Item) → feed_at fs s ≡ Some f → feed_at gs s ≡ Some g
+    → IsPutFrom slot left f.put g.put → IsPutFrom slot left (put_of_feed (feed_at fs s)) (put_of_feed (feed_at gs s))
+put_now fs gs s f g slot left e h p =
+    subst (λ (o : Option FeedEnd). IsPutFrom slot left (put_of_feed (feed_at fs s)) (put_of_feed o)) (sym h)
+    (subst (λ (o : Option FeedEnd). IsPutFrom slot left (put_of_feed o) g.put) (sym e) p)
 
 -- a feed that puts, at its place among the others
 module _ (index : Index) (tap : Option (Station × TapEnd)) (ps : List Place) (now : WorkerEnds) (view : record { tap = tap; feeds = feeds_held ps } ≡ now) (s : Station) (k : ℕ)
@@ -33,8 +33,7 @@ module _ (index : Index) (tap : Option (Station × TapEnd)) (ps : List Place) (n
   pub marks : IsSameFeed f g → IsSameEnds now then
   marks same = subst (λ (e : WorkerEnds). IsSameEnds e then) view (record { feeds = marks_now index ps s k ok found p read f g has same; tap = refl })
 
-  pub puts : (item : Item) (r : Result (Unit {0}) Item) → MatchResult r (λ _. g.put ≡ f.put ++ item ∷ []) (λ back. (back ≡ item) × (g.put ≡ f.put))
-      → MatchResult r (λ _. put_at then s ≡ put_at now s ++ item ∷ []) (λ back. (back ≡ item) × (put_at then s ≡ put_at now s))
-  puts item r h =
-      subst (λ (e : WorkerEnds). MatchResult r (λ _. put_at then s ≡ put_at e s ++ item ∷ []) (λ back. (back ≡ item) × (put_at then s ≡ put_at e s))) view
-      (put_now (feeds_held ps) (feeds_held (slice_set ps k (p.0, Some g))) s f g item r (feed_is index ps s k ok found p read ∙ has) (feed_now index ps s k ok found p read (Some g)) h)
+  pub puts : (slot left : Option Item) → IsPutFrom slot left f.put g.put → IsPutFrom slot left (put_at now s) (put_at then s)
+  puts slot left h =
+      subst (λ (e : WorkerEnds). IsPutFrom slot left (put_at e s) (put_at then s)) view
+      (put_now (feeds_held ps) (feeds_held (slice_set ps k (p.0, Some g))) s f g slot left (feed_is index ps s k ok found p read ∙ has) (feed_now index ps s k ok found p read (Some g)) h)

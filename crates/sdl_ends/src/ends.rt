@@ -2,6 +2,7 @@
 ghost use Rattle.std.specs.Prelude.{◌≡◌, ◌≢◌, ◌↔◌, ◌<◌, [], ◌∷◌, ◌++◌, None, Some, map, IfOk, IsTrue, MatchOption, MatchResult};
 ghost use Rattle.sdl_routes.specs.declared.route.Station.{Station};
 ghost use Rattle.sdl_routes.specs.Routes.{EachOnce};
+ghost use Rattle.sdl_ring.specs.RingEnds.{IsPutFrom};
 ghost use Rattle.sdl_ends.specs.Stations.{stations_of};
 ghost use Rattle.sdl_ends.specs.Ends.{put_at, taken_by, HasFeed, HasNoBacklog, IsSameEnds};
 ghost use Rattle.std.specs.List.{AllByRecursion};
@@ -74,9 +75,24 @@ impl Ends {
         ensures none { self.old.tap ≡ None → result ≡ None }
         ensures same { IsSameEnds self.old self.new }
     {
+        let mut slot = None;
+        self.take_into(rt, &mut slot);
+        slot
+    }
+
+    /// Takes the item at the front of the worker's station into the slot, which is empty. It stays empty where the station was
+    /// empty at some moment of the call, and for a worker that takes from none. Takes no memory. May wait for other threads.
+    #[inline(always)]
+    pub fn take_into<R: Wait>(&mut self, rt: &R, slot: &mut Option<Item>)
+        requires none { slot.old ≡ None }
+        ensures taken { MatchOption slot.new (taken_by self.new ≡ taken_by self.old) (λ item. taken_by self.new ≡ taken_by self.old ++ item ∷ []) }
+        ensures feeds { self.new.feeds ≡ self.old.feeds }
+        ensures none { self.old.tap ≡ None → slot.new ≡ None }
+        ensures same { IsSameEnds self.old self.new }
+    {
         match &mut self.tap {
-            Some((_, tap)) => tap.take(rt),
-            None => None,
+            Some((_, tap)) => tap.take_into(rt, slot),
+            None => {}
         }
     }
 
@@ -102,12 +118,30 @@ impl Ends {
         ensures tap { self.new.tap ≡ self.old.tap }
         ensures same { IsSameEnds self.old self.new }
     {
+        let mut slot = Some(item);
+        self.put_from(rt, station, &mut slot);
+        match slot {
+            None => Ok(()),
+            Some(back) => Err(back),
+        }
+    }
+
+    /// Puts the item of the slot, where it has one, at the station, where the worker has a feed, and leaves the slot empty. Where
+    /// memory is refused, the item stays there and nothing is put. May wait for other threads.
+    #[inline(always)]
+    pub fn put_from<R: Wait>(&mut self, rt: &R, station: Station, slot: &mut Option<Item>)
+        requires { HasFeed self.old station }
+        ensures put { IsPutFrom slot.old slot.new (put_at self.old station) (put_at self.new station) }
+        ensures others { (s : Station) → s ≢ station → put_at self.new s ≡ put_at self.old s }
+        ensures tap { self.new.tap ≡ self.old.tap }
+        ensures same { IsSameEnds self.old self.new }
+    {
         let Some(place) = self.index.get(station) else {
             unreachable!()
         };
         self.touched.add(mark_of(station));
         match &mut self.feeds[place].1 {
-            Some(feed) => feed.put(rt, item),
+            Some(feed) => feed.put_from(rt, slot),
             None => unreachable!(),
         }
     }

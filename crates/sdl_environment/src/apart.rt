@@ -253,15 +253,18 @@ impl EnvWorker {
         if self.received.reserve(1).is_err() {
             return Err(Refused);
         }
-        let Some(item) = ends.take(rt) else {
+        ends.take_into(rt, astray);
+        let Some(item) = astray else {
             return Ok(false);
         };
-        if !may_leave(structure, routes, &item) {
-            *astray = Some(item);
+        if !may_leave(structure, routes, item) {
             return Err(Refused);
         }
         let names = structure.names();
-        self.output = write(&mut self.sink, self.output, names, routes, &item, output);
+        self.output = write(&mut self.sink, self.output, names, routes, item, output);
+        let Some(item) = astray.take() else {
+            unreachable!()
+        };
         self.received.push_reserved(item);
         Ok(true)
     }

@@ -18,34 +18,32 @@ impl Forwarder {
         ensures step { Carries routes.now self.old ends.old result self.new ends.new }
         ensures ends { IsSameEnds ends.old ends.new }
     {
-        let Some(item) = self.take_apart(rt, ends) else {
+        self.fill_apart(rt, ends);
+        let Some(item) = &self.held else {
             return Forwarded::Idle;
         };
-        let Some(next) = self.next(routes, &item) else {
-            self.held = Some(item);
+        let Some(next) = self.next(routes, item) else {
             return Forwarded::Held;
         };
-        match ends.put(rt, next, item) {
-            Ok(()) => Forwarded::Moved,
-            Err(item) => {
-                self.held = Some(item);
-                Forwarded::Held
-            }
+        ends.put_from(rt, next, &mut self.held);
+        if self.held.is_some() {
+            return Forwarded::Held;
         }
+        Forwarded::Moved
     }
 
-    /// Takes the item that it holds, or else the next one of its path.
-    fn take_apart<R: Wait>(&mut self, rt: &R, ends: &mut Ends) -> Option<Item>
-        ensures taken { MatchOption result
+    /// Holds the next one of its path, where it holds none and there is one.
+    #[inline(always)]
+    fn fill_apart<R: Wait>(&mut self, rt: &R, ends: &mut Ends)
+        ensures taken { MatchOption self.new.held
             ((self.old.held ≡ None) × (taken_by ends.new ≡ taken_by ends.old))
             (λ item. Takes self.old ends.old item ends.new) }
-        ensures emptied { self.new ≡ record { hop = self.old.hop; held = None } }
+        ensures hop { self.new.hop ≡ self.old.hop }
         ensures feeds { ends.new.feeds ≡ ends.old.feeds }
         ensures ends { IsSameEnds ends.old ends.new }
     {
-        if self.held.is_some() {
-            return self.held.take();
+        if self.held.is_none() {
+            ends.take_into(rt, &mut self.held);
         }
-        ends.take(rt)
     }
 }

@@ -1,5 +1,5 @@
 -- What a block does in a step on one thread. (This project's own.)
-use Rattle.std.specs.Prelude.{◌≡◌, ◌≢◌, ℕ, ◌*◌, ◌≤◌, ◌⊎◌, List, [], ◌++◌, Option, None, Some, length, filter, All, slice_get, option_and_then}
+use Rattle.std.specs.Prelude.{◌≡◌, ◌≢◌, ℕ, ◌*◌, ◌≤◌, ◌⊎◌, List, [], ◌++◌, Option, None, length, filter, All, slice_get, option_and_then}
 use Rattle.std.specs.Option.{option_to_list}
 use Rattle.sdl_signal.specs.declared.values.Pid.{Pid}
 use Rattle.sdl_signal.specs.declared.values.Item.{Item}

@@ -1,5 +1,5 @@
 //! Putting out what is in hand where each queue has ends of its own.
-ghost use Rattle.std.specs.Prelude.{◌≡◌, ◌≢◌, ◌<◌, ◌≤◌, ◌∷◌, [], length, IfErr, MatchResult};
+ghost use Rattle.std.specs.Prelude.{◌≡◌, ◌≢◌, ◌<◌, ◌≤◌, ◌∷◌, [], length, IfErr, IfSome, MatchOption, MatchResult};
 ghost use Rattle.sdl_signal.specs.declared.values.Item.{Item};
 ghost use Rattle.sdl_ends.specs.Ends.{IsSameEnds};
 ghost use Rattle.sdl_hand.specs.Puts.{AreRouted, IsRouted};
@@ -52,10 +52,11 @@ impl Hand {
             (λ _. (self.new.outgoing.items ≡ self.old.outgoing.items) × PutsApart routes.now ends.old [] ends.new) }
         ensures kept { self.new.kept ≡ self.old.kept }
     {
-        let item = self.outgoing.remove(0);
-        match put_first_apart(rt, routes, ends, item) {
-            Ok(()) => Ok(()),
-            Err(item) => {
+        let mut slot = Some(self.outgoing.remove(0));
+        put_first_apart(rt, routes, ends, &mut slot);
+        match slot {
+            None => Ok(()),
+            Some(item) => {
                 self.outgoing.insert(0, item);
                 Err(Refused)
             }
@@ -63,22 +64,26 @@ impl Hand {
     }
 }
 
-/// Puts the item at the first station of its route. A refusal hands it back, and nothing is put.
+/// Puts the item of the slot, where it has one, at the first station of its route, and leaves the slot empty. A refusal leaves the
+/// item there, and nothing is put.
 #[inline(always)]
 fn put_first_apart<R: Wait>(
     rt: &R,
     routes: &Routes,
     ends: &mut Ends,
-    item: Item,
-) -> Result<(), Item>
-    requires routed { IsRouted routes.now item }
-    requires ways { HasWayOut routes.now ends.old item }
-    ensures { MatchResult result
-        (λ _. PutsApart routes.now ends.old (item ∷ []) ends.new)
-        (λ back. (back ≡ item) × PutsApart routes.now ends.old [] ends.new) }
+    slot: &mut Option<Item>,
+)
+    requires routed { IfSome slot.old (IsRouted routes.now) }
+    requires ways { IfSome slot.old (HasWayOut routes.now ends.old) }
+    ensures { IfSome slot.old (λ item. MatchOption slot.new
+        (PutsApart routes.now ends.old (item ∷ []) ends.new)
+        (λ back. (back ≡ item) × PutsApart routes.now ends.old [] ends.new)) }
 {
+    let Some(item) = slot else {
+        return;
+    };
     let Some(station) = routes.next(item.route, None) else {
         unreachable!()
     };
-    ends.put(rt, station, item)
+    ends.put_from(rt, station, slot);
 }

@@ -1,7 +1,8 @@
 //! The ends of a queue or of a ring, by one name: who puts, takes and puts together again need not know which it is.
-ghost use Rattle.std.specs.Prelude.{◌≡◌, ◌↔◌, [], ◌∷◌, ◌++◌, map, MatchResult, MatchOption, IfOk, IsTrue};
+ghost use Rattle.std.specs.Prelude.{◌≡◌, ◌↔◌, [], ◌∷◌, ◌++◌, map, None, MatchResult, MatchOption, IfOk, IsTrue};
 ghost use Rattle.std.specs.Arc.{arc_value};
 ghost use Rattle.crossbeam_queue.specs.SegTies.{IsSegPassOf};
+ghost use Rattle.sdl_ring.specs.RingEnds.{IsPutFrom};
 ghost use Rattle.sdl_queue.specs.DelayLine.{IsDelayLine};
 ghost use Rattle.sdl_queue.specs.declared.rule.Tagged.{Tagged};
 ghost use Rattle.sdl_queue.specs.Rule.{IsTap, tap_of};
@@ -52,12 +53,24 @@ impl AnyFeed {
         ensures same { IsSameFeed self.old self.new }
         ensures put { MatchResult result (λ _. self.new.put ≡ self.old.put ++ item ∷ []) (λ back. (back ≡ item) × (self.new.put ≡ self.old.put)) }
     {
+        let mut slot = Some(item);
+        self.put_from(rt, &mut slot);
+        match slot {
+            None => Ok(()),
+            Some(back) => Err(back),
+        }
+    }
+
+    /// Puts the item of the slot, where it has one, and leaves the slot empty. Where memory is refused, the item stays there and
+    /// nothing is put. May wait for other threads, but at a ring.
+    #[inline(always)]
+    pub fn put_from<R: Wait>(&mut self, rt: &R, slot: &mut Option<Item>)
+        ensures same { IsSameFeed self.old self.new }
+        ensures put { IsPutFrom slot.old slot.new self.old.put self.new.put }
+    {
         match &mut self.kind {
-            FeedKind::Queue(feed) => feed.put(rt, item),
-            FeedKind::Ring(feed) => match feed.put(item) {
-                Ok(()) => Ok(()),
-                Err((back, _)) => Err(back),
-            },
+            FeedKind::Queue(feed) => feed.put_from(rt, slot),
+            FeedKind::Ring(feed) => feed.put_from(slot),
         }
     }
 
@@ -104,9 +117,22 @@ impl AnyTap {
         ensures same { IsSameTap self.old self.new }
         ensures taken { MatchOption result (self.new.taken ≡ self.old.taken) (λ x. (t : Tagged) × (t.item ≡ x) × (self.new.taken ≡ self.old.taken ++ t ∷ [])) }
     {
+        let mut slot = None;
+        self.take_into(rt, &mut slot);
+        slot
+    }
+
+    /// Takes the item at the front into the slot, which is empty. It stays empty only where there was none at some moment of the
+    /// call. Takes no memory. May wait for other threads, but at a ring.
+    #[inline(always)]
+    pub fn take_into<R: Wait>(&mut self, rt: &R, slot: &mut Option<Item>)
+        requires none { slot.old ≡ None }
+        ensures same { IsSameTap self.old self.new }
+        ensures taken { MatchOption slot.new (self.new.taken ≡ self.old.taken) (λ x. (t : Tagged) × (t.item ≡ x) × (self.new.taken ≡ self.old.taken ++ t ∷ [])) }
+    {
         match &mut self.kind {
-            TapKind::Queue(tap) => tap.take(rt),
-            TapKind::Ring(tap) => tap.take(),
+            TapKind::Queue(tap) => tap.take_into(rt, slot),
+            TapKind::Ring(tap) => tap.take_into(slot),
         }
     }
 }

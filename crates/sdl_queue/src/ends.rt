@@ -1,6 +1,7 @@
 //! The ends of a queue, each of which its thread owns, and the queue once they are all in one thread again.
-ghost use Rattle.std.specs.Prelude.{◌≡◌, [], ◌∷◌, ◌++◌, ◌+◌, length, map, MatchResult, MatchOption, IfOk};
+ghost use Rattle.std.specs.Prelude.{◌≡◌, [], ◌∷◌, ◌++◌, ◌+◌, length, map, None, MatchResult, MatchOption, IfOk};
 ghost use Rattle.crossbeam_queue.specs.SegTies.{IsSegPassOf};
+ghost use Rattle.sdl_ring.specs.RingEnds.{IsPutFrom};
 ghost use Rattle.sdl_queue.specs.DelayLine.{IsDelayLine};
 ghost use Rattle.sdl_queue.specs.Rule.{IsTap, IsWhole, tap_of, left_of};
 ghost use Rattle.sdl_queue.specs.declared.rule.Tagged.{Tagged};
@@ -45,14 +46,30 @@ impl Feed {
         ensures same { IsSameFeed self.old self.new }
         ensures put { MatchResult result (λ _. self.new.put ≡ self.old.put ++ item ∷ []) (λ back. (back ≡ item) × (self.new.put ≡ self.old.put)) }
     {
+        let mut slot = Some(item);
+        self.put_from(rt, &mut slot);
+        match slot {
+            None => Ok(()),
+            Some(back) => Err(back),
+        }
+    }
+
+    /// Puts the item of the slot, where it has one, and leaves the slot empty. Where memory is refused, the item stays there and
+    /// nothing is put. May wait for other threads.
+    pub fn put_from<R: Wait>(&mut self, rt: &R, slot: &mut Option<Item>)
+        ensures same { IsSameFeed self.old self.new }
+        ensures put { IsPutFrom slot.old slot.new self.old.put self.new.put }
+    {
+        let Some(item) = slot.take() else {
+            return;
+        };
         let tagged = Tagged {
             feeder: self.number,
             item,
         };
         let queue = &self.line.queue;
-        match queue.push_as::<Feeding, R>(rt, &mut self.pass, tagged) {
-            Ok(()) => Ok(()),
-            Err(back) => Err(back.item),
+        if let Err(back) = queue.push_as::<Feeding, R>(rt, &mut self.pass, tagged) {
+            *slot = Some(back.item);
         }
     }
 
@@ -94,8 +111,21 @@ impl Tap {
         ensures same { IsSameTap self.old self.new }
         ensures taken { MatchOption result (self.new.taken ≡ self.old.taken) (λ x. (t : Tagged) × (t.item ≡ x) × (self.new.taken ≡ self.old.taken ++ t ∷ [])) }
     {
-        let tagged = self.line.queue.pop_as::<Tapping, R>(rt, &mut self.pass)?;
-        Some(tagged.item)
+        let mut slot = None;
+        self.take_into(rt, &mut slot);
+        slot
+    }
+
+    /// Takes the item at the front into the slot, which is empty. It stays empty only where the queue was empty at some moment
+    /// of the call. Takes no memory. May wait for other threads.
+    pub fn take_into<R: Wait>(&mut self, rt: &R, slot: &mut Option<Item>)
+        requires none { slot.old ≡ None }
+        ensures same { IsSameTap self.old self.new }
+        ensures taken { MatchOption slot.new (self.new.taken ≡ self.old.taken) (λ x. (t : Tagged) × (t.item ≡ x) × (self.new.taken ≡ self.old.taken ++ t ∷ [])) }
+    {
+        if let Some(tagged) = self.line.queue.pop_as::<Tapping, R>(rt, &mut self.pass) {
+            *slot = Some(tagged.item);
+        }
     }
 
     // Its opening is a queue's.

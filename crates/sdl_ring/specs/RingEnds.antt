@@ -1,6 +1,6 @@
 -- What a contract sees of the ends of a ring: a first-in first-out queue of one feeder and one taker (Z.101, channels).
 -- (This project's own.)
-use Rattle.std.specs.Prelude.{◌≡◌, ℕ, ◌⊎◌, List, [], ◌∷◌, ◌++◌}
+use Rattle.std.specs.Prelude.{◌≡◌, ℕ, ◌⊎◌, List, [], ◌∷◌, ◌++◌, Option, Some, None}
 use denote.RawPtr.{Ptr}
 use Rattle.std.specs.Global.{Global}
 use Rattle.rtrb.specs.Shared.{Names}
@@ -44,3 +44,14 @@ WaitsForRoom backlog room = (backlog ≡ []) ⊎ (room ≡ 0)
 -- the backlog after a put: it is empty as it was, or the item is at its back
 abbrev pub IsNextBacklog : List Item → Item → List Item → Type 0
 IsNextBacklog old item new = ((old ≡ []) × (new ≡ [])) ⊎ (new ≡ old ++ item ∷ [])
+
+-- what was in a slot was put behind the others, or it is there still, and nothing was put
+abbrev pub IsPutFrom : Option Item → Option Item → List Item → List Item → Type 0
+IsPutFrom None left old new = (left ≡ None) × (new ≡ old)
+IsPutFrom (Some item) None old new = new ≡ old ++ item ∷ []
+IsPutFrom (Some item) (Some back) old new = (back ≡ item) × (new ≡ old)
+
+-- the backlog then
+abbrev pub IsBacklogFrom : Option Item → Option Item → List Item → List Item → Type 0
+IsBacklogFrom (Some item) None old new = IsNextBacklog old item new
+IsBacklogFrom _ _ old new = new ≡ old

@@ -1,8 +1,8 @@
 //! The ends of a ring, each of which its thread owns, and the ring once both are in one thread again.
-ghost use Rattle.std.specs.Prelude.{◌≡◌, ◌+◌, ◌≤◌, ◌↔◌, [], ◌∷◌, ◌++◌, length, IsTrue, MatchResult, MatchOption, IfOk};
+ghost use Rattle.std.specs.Prelude.{◌≡◌, ◌+◌, ◌≤◌, ◌↔◌, [], ◌∷◌, ◌++◌, length, IsTrue, None, MatchResult, MatchOption, IfOk};
 ghost use Rattle.std.specs.VecDeque.{deque_len, deque_capacity};
 ghost use Rattle.rtrb.specs.Ring.{known_items};
-ghost use Rattle.sdl_ring.specs.RingEnds.{WaitsForRoom, IsNextBacklog};
+ghost use Rattle.sdl_ring.specs.RingEnds.{WaitsForRoom, IsNextBacklog, IsPutFrom, IsBacklogFrom};
 ghost use Rattle.sdl_ring.specs.Batches.{items_of};
 
 use crate::SerialQueue;
@@ -54,22 +54,39 @@ impl RingFeed {
         ensures backlog { MatchResult result (λ _. IsNextBacklog self.old.backlog item self.new.backlog) (λ _. self.new.backlog ≡ self.old.backlog) }
         ensures full { WaitsForRoom self.new.backlog self.new.room }
     {
+        let mut slot = Some(item);
+        self.put_from(&mut slot);
+        match slot {
+            None => Ok(()),
+            Some(back) => Err((back, AllocError)),
+        }
+    }
+
+    /// Puts the item of the slot, where it has one, as `put` does, and leaves the slot empty. Where memory is refused, the item
+    /// stays there and nothing is put. So no answer with room for an item is made and moved.
+    #[inline(always)]
+    pub fn put_from(&mut self, slot: &mut Option<Item>)
+        ensures same { self.new.opening ≡ self.old.opening }
+        ensures put { IsPutFrom slot.old slot.new self.old.put self.new.put }
+        ensures backlog { IsBacklogFrom slot.old slot.new self.old.backlog self.new.backlog }
+        ensures full { WaitsForRoom self.new.backlog self.new.room }
+    {
         // (no run puts as many)
         if self.count == usize::MAX {
-            return Err((item, AllocError));
+            return;
         }
+        let Some(item) = slot.take() else {
+            return;
+        };
         if self.backlog.is_empty() && !self.producer.is_full() {
             let rest = VecDeque::new(self.alloc);
             self.producer.push_reserved(Batch { first: item, rest });
             self.count += 1;
-            return Ok(());
+            return;
         }
         match self.backlog.push_back(item) {
-            Ok(()) => {
-                self.count += 1;
-                Ok(())
-            }
-            Err(refused) => Err((refused.value, AllocError)),
+            Ok(()) => self.count += 1,
+            Err(refused) => *slot = Some(refused.value),
         }
     }
 
@@ -130,17 +147,28 @@ impl RingTap {
         ensures same { self.new.opening ≡ self.old.opening }
         ensures taken { MatchOption result ((self.new.taken ≡ self.old.taken) × (self.new.seen ≡ [])) (λ item. self.new.taken ≡ self.old.taken ++ item ∷ []) }
     {
+        let mut slot = None;
+        self.take_into(&mut slot);
+        slot
+    }
+
+    /// Takes the item at the front of the ring into the slot, which is empty. It stays empty only where the ring was empty at
+    /// some moment of the call. Takes no memory.
+    #[inline(always)]
+    pub fn take_into(&mut self, slot: &mut Option<Item>)
+        requires none { slot.old ≡ None }
+        ensures same { self.new.opening ≡ self.old.opening }
+        ensures taken { MatchOption slot.new ((self.new.taken ≡ self.old.taken) × (self.new.seen ≡ [])) (λ item. self.new.taken ≡ self.old.taken ++ item ∷ []) }
+    {
         if let Some(item) = self.rest.pop_front() {
             self.count = self.count.saturating_add(1);
-            return Some(item);
+            *slot = Some(item);
+            return;
         }
-        match self.consumer.pop() {
-            Ok(Batch { first, rest }) => {
-                self.rest = rest;
-                self.count = self.count.saturating_add(1);
-                Some(first)
-            }
-            Err(_) => None,
+        if let Ok(Batch { first, rest }) = self.consumer.pop() {
+            self.rest = rest;
+            self.count = self.count.saturating_add(1);
+            *slot = Some(first);
         }
     }
 }

@@ -1,4 +1,4 @@
-use Rattle.std.proofs.Common.{List, length, slice_set, refl, ap, sym, ◌∙◌}
+use Rattle.std.proofs.Common.{List, length, slice_set, refl, ap, ◌∙◌}
 use Rattle.std.specs.List.{insert}
 use Rattle.std.proofs.lemmas.Option.{slice_get_read}
 use Rattle.sdl_signal.specs.declared.values.Item.{Item}
@@ -8,7 +8,6 @@ use Rattle.sdl_queue.specs.declared.rest.Rest.TheVariants.{Serial}
 use Rattle.sdl_forward.proofs.Entries.{set_same}
 use Rattle.sdl_forward.proofs.Adopted.{put_in}
 use Rattle.sdl_forward.proofs.adopting.make_serial.Goals as goal
-use Rattle.std.proofs.Common.{Some}
 
 pub returns-in-Ok : goal.returns-in-Ok
 returns-in-Ok g c =

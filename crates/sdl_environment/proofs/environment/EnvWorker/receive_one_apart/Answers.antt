@@ -1,4 +1,5 @@
 use Rattle.std.proofs.Common.{◌≡◌, ℕ, List, ◌++◌, ◌∷◌, [], ap, sym, ◌∙◌, subst}
+use Rattle.std.proofs.lemmas.Option.{same_Some}
 use Rattle.sdl_signal.specs.Names.{Lexicon}
 use Rattle.sdl_signal.specs.declared.ends.OutputEnd.{OutputEnd}
 use Rattle.sdl_parts.specs.Structure.{lexicon_of}
@@ -27,7 +28,8 @@ returns-clause-writing g c = λ start wrote.
     let after = g.W.Write.contents c.write-self-inside.new.output in
     let end : c.self.inside.output ≡ old.output = ap (λ (w : EnvWorking). w.output) c.self.view_is in
     let received : c.push_reserved.new.self.items ≡ old.received ++ item ∷ [] =
-    c.push_reserved.ensures.items ∙ ap (λ items. items ++ item ∷ []) (c.reserve.ensures.items ∙ ap (λ (w : EnvWorking). w.received) c.self.view_is) in
+    c.push_reserved.ensures.items ∙ ap (λ x. c.reserve.new.self.items ++ x ∷ []) (same_Some c.in-Some-take.item item c.in-Some-take.ensures.value)
+    ∙ ap (λ items. items ++ item ∷ []) (c.reserve.ensures.items ∙ ap (λ (w : EnvWorking). w.received) c.self.view_is) in
     let text : received_text known routes c.push_reserved.new.self.items ≡ received_text known routes old.received ++ received_text known routes (item ∷ []) =
     ap (received_text known routes) received ∙ received_more known routes old.received (item ∷ []) in
     let wrote_one : HasWritten start after (received_text known routes old.received ++ received_text known routes (item ∷ [])) c.write-self-inside.result =

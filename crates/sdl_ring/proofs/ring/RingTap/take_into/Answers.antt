@@ -3,7 +3,7 @@ use Rattle.std.proofs.lemmas.List.{nil_from_length}
 use Rattle.rtrb.specs.Ring.{received, known_items}
 use Rattle.sdl_ring.specs.Batches.{items_of, without}
 use Rattle.sdl_ring.proofs.Batches.{one_more, of_none, without_is, ends_so, split, behind, counted, longer}
-use Rattle.sdl_ring.proofs.ring.RingTap.take.Goals as goal
+use Rattle.sdl_ring.proofs.ring.RingTap.take_into.Goals as goal
 
 pub invariant_of-self : goal.invariant_of-self
 invariant_of-self c =
@@ -37,12 +37,13 @@ returns-in-Ok-clause-taken c =
     let before = without (items_of (received c.self.inside.consumer)) c.self.inside.rest.items in
     without_is (items_of (received c.pop.new.self)) (before ++ c.in-Ok.field-0.first ∷ []) c.in-Ok.field-0.rest.items (all_more c) ∙ ap (λ v. v.taken ++ c.in-Ok.field-0.first ∷ []) c.self.view_is
 
-pub returns-in-Err-clause-taken : goal.returns-in-Err-clause-taken
-returns-in-Err-clause-taken c =
+pub returns-in_default-pop-clause-taken : goal.returns-in_default-pop-clause-taken
+returns-in_default-pop-clause-taken c =
     let old = c.self.inside.rest.items in
     let new = c.pop_front.new.self.items in
     let none = nil_from_length old (omega (arith, c.in_default.ensures.cases.0, c.self.inside.rest.ok.0)) in
-    let none' = nil_from_length new (omega (arith, c.in_default.ensures.cases.1, c.pop_front.new.self.ok.0)) in (
-      ap (λ r. without (items_of r) new) c.in-Err.ensures.empty.0 ∙ ap (λ t. without (items_of (received c.self.inside.consumer)) t) (none' ∙ sym none) ∙ ap (λ v. v.taken) c.self.view_is,
-      ap (λ t. t ++ items_of (known_items c.pop.new.self)) none' ∙ of_none (known_items c.pop.new.self) c.in-Err.ensures.empty.1,
+    let none' = nil_from_length new (omega (arith, c.in_default.ensures.cases.1, c.pop_front.new.self.ok.0)) in
+    rw (c.requires.none) (
+      ap (λ r. without (items_of r) new) c.in_default-pop.ensures.empty.0 ∙ ap (λ t. without (items_of (received c.self.inside.consumer)) t) (none' ∙ sym none) ∙ ap (λ v. v.taken) c.self.view_is,
+      ap (λ t. t ++ items_of (known_items c.pop.new.self)) none' ∙ of_none (known_items c.pop.new.self) c.in_default-pop.ensures.empty.1,
     )

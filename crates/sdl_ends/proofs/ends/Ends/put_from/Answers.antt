@@ -3,7 +3,7 @@ use Rattle.std.proofs.lemmas.Option.{none-some}
 use Rattle.sdl_ends.specs.Ends.{WorkerEnds, feed_at}
 use Rattle.sdl_ends.proofs.FeedsLeft.{absent, within, feed_is, index_now}
 use Rattle.sdl_ends.proofs.Feeds.{puts, others, marks}
-use Rattle.sdl_ends.proofs.ends.Ends.put.Goals as goal
+use Rattle.sdl_ends.proofs.ends.Ends.put_from.Goals as goal
 
 pub unreachable-requires : goal.unreachable-requires
 unreachable-requires g c =
@@ -28,14 +28,14 @@ invariant_of-self g c = index_now c.self.inside.index c.self.inside.feeds.items 
 pub returns-clause-put : goal.returns-clause-put
 returns-clause-put g c =
     puts c.self.inside.index c.self.inside.tap c.self.inside.feeds.items c.args.self.now c.self.view_is c.args.station c.in-Some.place c.self.invariant (sym c.get.ensures ∙ c.in-Some.is)
-    c.index_mut.result.now c.index_mut.ensures.value c.in-Some-1₀.feed c.put.new.self c.in-Some-1₀.is c.args.item c.put.result c.put.ensures.put
+    c.index_mut.result.now c.index_mut.ensures.value c.in-Some-1₀.feed c.put_from.new.self c.in-Some-1₀.is c.args.slot.now c.put_from.new.slot c.put_from.ensures.put
 
 pub returns-clause-others : goal.returns-clause-others
 returns-clause-others g c =
     others c.self.inside.index c.self.inside.tap c.self.inside.feeds.items c.args.self.now c.self.view_is c.args.station c.in-Some.place c.self.invariant (sym c.get.ensures ∙ c.in-Some.is)
-    c.index_mut.result.now c.index_mut.ensures.value c.in-Some-1₀.feed c.put.new.self c.in-Some-1₀.is
+    c.index_mut.result.now c.index_mut.ensures.value c.in-Some-1₀.feed c.put_from.new.self c.in-Some-1₀.is
 
 pub returns-clause-same : goal.returns-clause-same
 returns-clause-same g c =
     marks c.self.inside.index c.self.inside.tap c.self.inside.feeds.items c.args.self.now c.self.view_is c.args.station c.in-Some.place c.self.invariant (sym c.get.ensures ∙ c.in-Some.is)
-    c.index_mut.result.now c.index_mut.ensures.value c.in-Some-1₀.feed c.put.new.self c.in-Some-1₀.is c.put.ensures.same
+    c.index_mut.result.now c.index_mut.ensures.value c.in-Some-1₀.feed c.put_from.new.self c.in-Some-1₀.is c.put_from.ensures.same
