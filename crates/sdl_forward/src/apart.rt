@@ -6,7 +6,6 @@ ghost use Rattle.sdl_forward.specs.Carries.{Carries, Takes, HasWaysOn};
 use crate::{Forwarded, Forwarder};
 use sdl_ends::Ends;
 use sdl_routes::Routes;
-use sdl_signal::Item;
 use std::sync::Wait;
 
 impl Forwarder {

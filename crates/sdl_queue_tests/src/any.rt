@@ -178,3 +178,37 @@ fn three_feeders_of_any_queue_put_in_turn(rt: HostRuntime) -> Result<(), Fail> {
     assert!(rt; tap.take(&rt).is_none());
     Ok(())
 }
+
+/// A put empties the slot, whose item stays there where memory was refused. An empty slot puts nothing, and a take fills one.
+fn pass_by_slots<R: Wait + Abort>(rt: &R, feed: &mut AnyFeed, tap: &mut AnyTap) {
+    let mut slot = Some(item_of(0, 7));
+    feed.put_from(rt, &mut slot);
+    if slot.is_some() {
+        assert!(rt; slot == Some(item_of(0, 7)));
+        feed.put_from(rt, &mut slot);
+    }
+    assert!(rt; slot.is_none());
+    feed.put_from(rt, &mut slot);
+    let mut first = None;
+    tap.take_into(rt, &mut first);
+    assert!(rt; first == Some(item_of(0, 7)));
+    let mut second = None;
+    tap.take_into(rt, &mut second);
+    assert!(rt; second.is_none());
+}
+
+// Run it with each allocation refused in turn, too.
+#[test]
+fn a_slot_is_emptied_by_a_put_and_filled_by_a_take(rt: HostRuntime) -> Result<(), Fail> {
+    let (_, mut feed, mut tap) = match open_queue(&rt, rt.alloc()) {
+        Ok(one) => one,
+        Err(_) => open_queue(&rt, rt.alloc())?,
+    };
+    pass_by_slots(&rt, &mut feed, &mut tap);
+    let (_, mut feed, mut tap) = match open_ring(rt.alloc()) {
+        Ok(one) => one,
+        Err(_) => open_ring(rt.alloc())?,
+    };
+    pass_by_slots(&rt, &mut feed, &mut tap);
+    Ok(())
+}

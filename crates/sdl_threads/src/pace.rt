@@ -43,6 +43,9 @@ const FIRST_UNTOLD: u32 = 8;
 /// After how many steps that did something a worker wakes who waits for room where it takes: half a ring.
 const MOST_ROOM: u32 = 32;
 
+/// After how many steps that did something a worker shows how many they are, unless it has nothing to do before.
+const SHOWN_STEPS: u64 = 16;
+
 /// After how many sleeps in a row that ended by themselves a worker asks outside the system although the others are not at rest, where
 /// they made many steps meanwhile: some systems never rest. So many take 80 ms.
 const FEW_NAPS: u32 = 10;
@@ -103,8 +106,9 @@ struct Idling {
     short_pauses: u32,
     /// There were few before that one.
     doubts: bool,
-    /// How many of its steps did something.
+    /// How many of its steps did something, and up to which of them it has shown so.
     steps: u64,
+    shown: u64,
     /// How many of its sleeps ended by themselves, as it might not ask, since it last did something or was allowed to; and in how many
     /// of the last ones nobody did anything.
     naps: u32,
@@ -138,6 +142,7 @@ impl Idling {
             short_pauses: 0,
             doubts: false,
             steps: 0,
+            shown: 0,
             naps: 0,
             still_naps: 0,
             moved_before: 0,
@@ -209,7 +214,9 @@ impl Idling {
         self.naps = 0;
         self.still_naps = 0;
         self.steps = self.steps.saturating_add(1);
-        told.shows_steps(self.mark, self.steps);
+        if self.steps.wrapping_sub(self.shown) >= SHOWN_STEPS {
+            self.shows(told);
+        }
         self.untold_steps = self.untold_steps.saturating_add(1);
         if self.untold_steps >= self.most_untold {
             self.most_untold = MOST_UNTOLD.min(self.most_untold.saturating_mul(2));
@@ -222,6 +229,14 @@ impl Idling {
             if self.room_steps >= MOST_ROOM {
                 self.gives_room(told);
             }
+        }
+    }
+
+    /// Shows how many of its steps did something. So it does now and then, as a store that others see takes its time.
+    fn shows(&mut self, told: &Told) {
+        if self.shown != self.steps {
+            self.shown = self.steps;
+            told.shows_steps(self.mark, self.steps);
         }
     }
 
@@ -244,6 +259,7 @@ impl Idling {
     /// A step did nothing, but what the worker put still waits for room. It is not at rest, and sleeps until there is some.
     fn waits<R: Wait>(&mut self, rt: &R, told: &Told) {
         told.wakes_each(self.untold);
+        self.shows(told);
         self.gives_room(told);
         if self.pauses_on(told) {
             return;
@@ -259,6 +275,7 @@ impl Idling {
     /// A step did nothing, as the worker may not ask yet. It is not at rest, and sleeps until the others are.
     fn listens<R: Wait>(&mut self, rt: &R, told: &Told) {
         self.tells(told);
+        self.shows(told);
         self.gives_room(told);
         if !self.pauses_on(told) && !self.nods_off(told) {
             told.listens(self.mark);
@@ -271,6 +288,7 @@ impl Idling {
     /// A step did nothing. The worker comes to rest.
     fn rests<R: Wait>(&mut self, rt: &R, told: &Told) {
         self.tells(told);
+        self.shows(told);
         self.gives_room(told);
         if !self.pauses_on(told) && !self.nods_off(told) {
             told.falls_asleep(self.mark);
