@@ -50,6 +50,6 @@ moved rows was between hop held left old mid new item to view same_hop took is f
     let same : hop ≡ was.hop = ap (λ (f : Forwarding). f.hop) view ∙ same_hop in
     let none : left ≡ None = not_some left some in
     let puts : put_at new to ≡ put_at mid to ++ item ∷ [] =
-      subst (λ (l : Option Item). IsPutFrom (Some item) l (put_at mid to) (put_at new to)) none (subst (λ (o : Option Item). IsPutFrom o left (put_at mid to) (put_at new to)) is put) in
+    subst (λ (l : Option Item). IsPutFrom (Some item) l (put_at mid to) (put_at new to)) none (subst (λ (o : Option Item). IsPutFrom o left (put_at mid to) (put_at new to)) is put) in
     brings rows was (record { hop = hop; held = left }) old mid new item to takes (λ i. record { hop = same i; held = none i }) feeds
     (subst (λ (h : Hop). next_station rows (Line h) item ≡ Some to) same_hop next) puts others tap

@@ -67,12 +67,7 @@ impl Hand {
 /// Puts the item of the slot, where it has one, at the first station of its route, and leaves the slot empty. A refusal leaves the
 /// item there, and nothing is put.
 #[inline(always)]
-fn put_first_apart<R: Wait>(
-    rt: &R,
-    routes: &Routes,
-    ends: &mut Ends,
-    slot: &mut Option<Item>,
-)
+fn put_first_apart<R: Wait>(rt: &R, routes: &Routes, ends: &mut Ends, slot: &mut Option<Item>)
     requires routed { IfSome slot.old (IsRouted routes.now) }
     requires ways { IfSome slot.old (HasWayOut routes.now ends.old) }
     ensures { IfSome slot.old (λ item. MatchOption slot.new
