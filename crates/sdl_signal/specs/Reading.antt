@@ -125,3 +125,7 @@ IsReading names text read =
 -- a signal at a gate, without a TO part
 abbrev pub line_without_to : GateId → Signal → EnvLine
 line_without_to gate signal = record { gate = gate; signal = signal; to = None }
+
+-- a line into which a text can be read: it has no values and no TO part
+abbrev pub IsBlankLine : EnvLine → Type 0
+IsBlankLine line = (line.signal.params.items ≡ []) × (line.to ≡ None)

@@ -8,7 +8,7 @@ ghost use Rattle.sdl_signal.specs.Environment.{Counts, EndsItself, GoesOn, HasCa
 
 use crate::ends::InputEnd;
 use crate::naming::Names;
-use crate::reading::{LineFault, read_line};
+use crate::reading::{LineFault, read_into};
 use crate::sources::{LineSource, Seen};
 use crate::values::EnvLine;
 use std::io::Read;
@@ -94,15 +94,16 @@ impl EnvReader {
                 EnvRead::Ended(InputEnd::BadLine(self.carried + 1, LineFault::TooLong))
             }
             Seen::Line(count, passed) => {
-                let read = read_line(names, self.source.line(count));
+                let mut line = EnvLine::default();
+                let read = read_into(names, self.source.line(count), &mut line);
                 self.source.pass(passed);
                 if full {
                     return EnvRead::Ended(InputEnd::TooMuch);
                 }
                 match read {
-                    Ok(signal) => {
+                    Ok(()) => {
                         self.carried += 1;
-                        EnvRead::Line(signal)
+                        EnvRead::Line(line)
                     }
                     Err(fault) => EnvRead::Ended(InputEnd::BadLine(self.carried + 1, fault)),
                 }

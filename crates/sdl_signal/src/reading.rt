@@ -1,17 +1,19 @@
 //! A line of the environment, read by its rules. (This project's own.)
-ghost use Rattle.std.specs.Prelude.{◌≡◌, ◌<◌, ◌⊎◌, ◌↔◌, IfOk, IfErr, IfSome, IfNone, IsSome, IsSomeAnd, IsTrue, Any, option_map, map, take, length, ◌≤◌};
+ghost use Rattle.std.specs.Prelude.{◌≡◌, ◌<◌, ◌⊎◌, ◌↔◌, IfOk, IfErr, OnOk, IfSome, IfNone, IsSome, IsSomeAnd, IsTrue, Any, option_map, map, take, length, ◌≤◌};
 ghost use Rattle.sdl_signal.specs.Line.{LineFits, PidFits, line_text, to_texts, to_part};
 ghost use Rattle.sdl_signal.specs.Names.{Lexicon};
 ghost use Rattle.sdl_signal.specs.Reading as rule;
-ghost use Rattle.sdl_signal.specs.Reading.{Passes, IsFirstFault, IsPidText, HasDistinctNames, NamesFirst, PidNamesFirst};
+ghost use Rattle.sdl_signal.specs.Reading.{IsBlankLine, Passes, IsFirstFault, IsPidText, HasDistinctNames, NamesFirst, PidNamesFirst};
 
 mod fields;
+mod in_order;
 mod values;
 
 use crate::naming::Names;
 use crate::values::{EnvLine, Pid, Signal};
 use arrayvec::ArrayVec;
 use fields::{MANY, fields_of, parts};
+use in_order::read_in_order;
 use std::fmt::{self, Display, Formatter};
 use values::{read_pid, read_values};
 
@@ -101,7 +103,8 @@ fn cut_by_rules(line: &[u8]) -> Result<ArrayVec<&[u8], MANY>, LineFault>
     Ok(found)
 }
 
-/// The line that the text is, or the first rule that it breaks.
+/// The line that the text is, or the first rule that it breaks. It goes through the rules in their order.
+#[inline(never)]
 fn read_by_rules(names: &Names, line: &[u8]) -> Result<EnvLine, LineFault>
     ensures read { IfOk result (λ l. line_text names.now l ≡ Some line.now) }
     ensures first_named { IfOk result (NamesFirst names.now) }
@@ -136,6 +139,28 @@ fn read_by_rules(names: &Names, line: &[u8]) -> Result<EnvLine, LineFault>
     })
 }
 
+/// Reads the text into a blank line, or answers the first rule that it breaks. A line that
+/// breaks none is read from its front to its end.
+#[inline(always)]
+pub(crate) fn read_into(names: &Names, text: &[u8], line: &mut EnvLine) -> Result<(), LineFault>
+    requires { IsBlankLine line.old }
+    ensures read { OnOk result (line_text names.now line.new ≡ Some text.now) }
+    ensures first_named { OnOk result (NamesFirst names.now line.new) }
+    ensures fits { OnOk result (LineFits line.new) }
+    ensures fault { IfErr result (IsFirstFault names.now text.now) }
+{
+    if read_in_order(names, text, line) {
+        return Ok(());
+    }
+    match read_by_rules(names, text) {
+        Ok(read) => {
+            *line = read;
+            Ok(())
+        }
+        Err(fault) => Err(fault),
+    }
+}
+
 /// Reads a line, without its newline, as a signal that enters at a gate of the system. Of equal names the first
 /// counts. No memory is taken.
 ///
@@ -152,5 +177,9 @@ pub fn read_line(names: &Names, line: &[u8]) -> Result<EnvLine, LineFault>
     ensures writable { IfOk result (λ l. IsSome (line_text names.now (record l { to = None }))) }
 {
     names.keep_rules();
-    read_by_rules(names, line)
+    let mut read = EnvLine::default();
+    match read_into(names, line, &mut read) {
+        Ok(()) => Ok(read),
+        Err(fault) => Err(fault),
+    }
 }

@@ -4,8 +4,12 @@ ghost use Rattle.std.specs.Io.KnownBytes.{Appends};
 ghost use Rattle.sdl_signal.specs.Bytes.{IsWritten};
 
 use crate::ahead::RETRIES;
+use arrayvec::ArrayVec;
 use std::io::{ErrorKind, Write};
 use std::marker::Model;
+
+/// How many bytes, a line's newline among them, are handed to a writer at once.
+const MOST_AT_ONCE: usize = 256;
 
 /// What the writing of a line came to.
 #[derive(Clone, Copy, Debug, PartialEq, Eq)]
@@ -44,6 +48,25 @@ impl LineSink {
     /// Writes the line and a newline. A write that takes no byte is a fault. After a fault further lines may
     /// be written, each behind what went out.
     pub fn write<W: Write>(&mut self, output: &mut W, line: &[u8]) -> Written
+        ensures retries { self.old.interrupted ≤ self.new.interrupted }
+        ensures few { self.new.interrupted ≤ 1000 }
+        ensures written { IsWritten (W.contents output.old) (W.contents output.new) line.now result }
+    {
+        if line.len() >= MOST_AT_ONCE {
+            return self.write_apart(output, line);
+        }
+        let mut ended = ArrayVec::<u8, MOST_AT_ONCE>::new();
+        let _fits = ended.try_extend_from_slice(line);
+        ended.push(b'\n');
+        let sent = self.write_bytes(output, &ended);
+        if sent < ended.len() {
+            return Written::Fault(sent);
+        }
+        Written::Whole
+    }
+
+    /// The same of a line of any length, whose newline is written by itself.
+    fn write_apart<W: Write>(&mut self, output: &mut W, line: &[u8]) -> Written
         ensures retries { self.old.interrupted ≤ self.new.interrupted }
         ensures few { self.new.interrupted ≤ 1000 }
         ensures written { IsWritten (W.contents output.old) (W.contents output.new) line.now result }

@@ -30,7 +30,7 @@ fn append_pid(line: &mut ArrayVec<u8, 256>, names: &Names, pid: Pid)
         Pid::Env => append(line, b"env"),
         Pid::Inst(set, serial) => {
             append(line, names.set_name(set));
-            append(line, b":");
+            line.push(b':');
             let mut buffer = Buffer::new();
             append(line, buffer.format(serial).as_bytes());
         }
@@ -65,7 +65,7 @@ fn append_values(line: &mut ArrayVec<u8, 256>, names: &Names, values: &[Value])
     ensures length { length line.new.items ≤ length line.old.items + 44 * length values.now }
 {
     for value in values {
-        append(line, b" ");
+        line.push(b' ');
         append_value(line, names, *value);
     }
 }
@@ -80,7 +80,7 @@ pub fn line_of(names: &Names, gate: GateId, signal: &Signal) -> ArrayVec<u8, 256
 {
     let mut line = ArrayVec::new();
     append(&mut line, names.gate_name(gate));
-    append(&mut line, b" ");
+    line.push(b' ');
     append(&mut line, names.signal(signal.id).name.as_bytes());
     append_values(&mut line, names, &signal.params);
     line

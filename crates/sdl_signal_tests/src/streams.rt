@@ -63,6 +63,28 @@ impl Write for Room {
     }
 }
 
+/// Counts the bytes that it takes, and says whether the last one was a newline.
+#[derive(Drop)]
+struct Count {
+    bytes: usize,
+    ends: bool,
+}
+
+impl Write for Count {
+    fn write(&mut self, buffer: &[u8]) -> io::Result<usize> {
+        let count = buffer.len().min(100);
+        if let Some(last) = buffer[..count].last() {
+            self.ends = *last == b'\n';
+        }
+        self.bytes = self.bytes.saturating_add(count);
+        Ok(count)
+    }
+
+    fn flush(&mut self) -> io::Result<()> {
+        Ok(())
+    }
+}
+
 fn lines_of(text: &[u8], interruptions: u32, fails: bool) -> (usize, LineRead) {
     let mut input = Bytes {
         left: text,
@@ -169,6 +191,20 @@ pub fn ping_names(alloc: Global, line: Name, ping: Name) -> Result<Names, AllocE
     sorts.push(Sort::Integer);
     names.add_signal(ping, sorts)?;
     Ok(names)
+}
+
+#[test]
+fn a_sink_takes_lines_of_any_length(rt: HostRuntime) {
+    let line = [b'a'; 600];
+    for length in [254usize, 255, 256, 257, 600] {
+        let mut output = Count {
+            bytes: 0,
+            ends: false,
+        };
+        let mut sink = LineSink::new();
+        assert!(rt; sink.write(&mut output, &line[..length]) == Written::Whole);
+        assert!(rt; output.bytes == length + 1 && output.ends);
+    }
 }
 
 #[test]

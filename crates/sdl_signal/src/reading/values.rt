@@ -86,7 +86,7 @@ pub(crate) fn read_pid(names: &Names, field: &[u8]) -> Option<Pid>
 }
 
 /// The value of this sort and text.
-fn read_value(names: &Names, sort: Sort, field: &[u8]) -> Option<Value>
+pub(crate) fn read_value(names: &Names, sort: Sort, field: &[u8]) -> Option<Value>
     ensures some { IfSome result (λ v. value_text names.now sort v ≡ Some field.now) }
     ensures fits { IfSome result ValueFits }
     ensures first { IfSome result (ValueNamesFirst names.now) }

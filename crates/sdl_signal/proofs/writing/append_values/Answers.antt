@@ -30,11 +30,11 @@ loop-value-preserved c =
     let many = length-value_texts names (map sort_of vs) vs ts all in
     let inside : i < length ts = omega (arith, many.0, many.1, c.loop-value-test.true) in
     let new = c.append_value.new.line.items in
-    let one = c.append.new.line.items in
+    let one = c.push.new.self.items in
     let text : new ≡ one ++ get_or ts i [] = if_some_at (λ t. new ≡ one ++ t) (value_text names (sort_of v) v) (get_or ts i []) at c.append_value.ensures.text in
     record {
-      texts = appended_more c.args.line.now.items c.loop-value.line.items one new (get_or ts i []) ts i inside refl c.loop-value.invariant.texts c.append.ensures text;
-      few = omega (arith, c.append_value.ensures.few, c.loop-value.invariant.few, ap length c.append.ensures, length-append c.loop-value.line.items (32 ∷ []));
+      texts = appended_more c.args.line.now.items c.loop-value.line.items one new (get_or ts i []) ts i inside refl c.loop-value.invariant.texts c.push.ensures.items text;
+      few = omega (arith, c.append_value.ensures.few, c.loop-value.invariant.few, ap length c.push.ensures.items, length-append c.loop-value.line.items (32 ∷ []));
     }
 
 pub returns-clause-texts : goal.returns-clause-texts

@@ -51,7 +51,7 @@ returns-clause-text c =
     let declared : p.signal.name ≡ c.signal.result.now.name.bytes = ap (λ (s : DeclaredSignal). s.name) (same_Some p.signal d (sym p.signal_at ∙ c.signal.ensures)) in
     let name : p.signal.name ≡ c.as_bytes.result.now = cc in
     let new = c.append_values.new.line.items in
-    let old = c.append-3.new.line.items in
+    let old = c.append-2.new.line.items in
     let texts : new ≡ old ++ spaced p.values = if_some_at (λ ts. new ≡ old ++ spaced ts) (value_texts names (map sort_of vs) vs) p.values (texts_at names l (unwrap_or (line_text names l) []) p vs c.deref-2.ensures.0) c.append_values.ensures.texts in
     text_of_fields names l p.gate p.signal p.values [] p.gate_at p.signal_at p.values_are refl
-    ∙ ap Some (line_joined c.new-line.result.items c.append.new.line.items c.append-2.new.line.items old new p.gate c.gate_name.result.now p.signal.name c.as_bytes.result.now p.values gate name c.new-line.ensures c.append.ensures c.append-2.ensures c.append-3.ensures texts)
+    ∙ ap Some (line_joined c.new-line.result.items c.append.new.line.items c.push.new.self.items old new p.gate c.gate_name.result.now p.signal.name c.as_bytes.result.now p.values gate name c.new-line.ensures c.append.ensures c.push.ensures.items c.append-2.ensures texts)

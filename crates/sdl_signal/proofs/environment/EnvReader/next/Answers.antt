@@ -1,4 +1,4 @@
-use Rattle.std.proofs.Common.{◌≡◌, ◌<◌, Some, None, take, ap, sym, subst, ◌∙◌, arith}
+use Rattle.std.proofs.Common.{◌≡◌, ◌<◌, Some, take, ap, sym, subst, ◌∙◌, arith}
 use Rattle.sdl_signal.specs.Bytes.{HasNoNewline}
 use Rattle.sdl_signal.specs.Source.{Source, HandsOut, to_come}
 use Rattle.sdl_signal.specs.Reading.{IsFirstFault}
