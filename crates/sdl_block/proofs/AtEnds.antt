@@ -18,7 +18,7 @@ use Rattle.sdl_hand.specs.Puts.{answer_of}
 use Rattle.sdl_hand.specs.PutsApart.{PutsApart, PutsOutApart}
 use Rattle.sdl_hand.proofs.Fronts.{beginning-append}
 use Rattle.sdl_hand.proofs.FrontsApart.{same_then, same_ends}
-use Rattle.sdl_block.specs.Phases.{IsSpent, TriesTurn, ArrivesOrStays, PutsFirst, IsEmptyAfter}
+use Rattle.sdl_block.specs.Phases.{IsSpent, LetsArrive, TriesTurn, ArrivesOrStays, PutsFirst, IsEmptyAfter}
 use Rattle.sdl_block.specs.PhasesApart.{TakesNone, TakesThrough, LetsInApart, StepsToApart, IsOneRoundApart}
 use Rattle.sdl_block.proofs.Parts.{Queues}
 use Rattle.sdl_block.proofs.Going.{Going, TakesBy, LetsBy, PutsBy}
@@ -93,14 +93,16 @@ none_taken : (rows : List TableRow) (before after : WorkerEnds) (put : List Item
 none_taken rows before after put h = h.takes ∙ append-nil (taken_by before)
 
 module _ (may : ℕ → Frame → Step → Type 0) (sys : System) where
-  -- an item that was taken arrives, or is kept
-  pub lets_from : (old : Working) (before : WorkerEnds) (i : Item) (mid : Working) (result : Result Bool Refused) (new : Working) (after : WorkerEnds)
-      → (IsSpent old.core → ⊥) → TakesThrough old before (Some i) after → mid ≡ record old { kept = None } → ArrivesOrStays may sys mid i result new → LetsInApart may sys old before result new after
-  lets_from old before i mid (Ok true) new after unspent takes emptied h =
-      (i, unspent, takes, subst (λ (w : Working). ArrivesOrStays may sys w i (Ok true) new) emptied h)
-  lets_from old before i mid (Ok false) new after unspent takes emptied h = absurd h
-  lets_from old before i mid (Err r) new after unspent takes emptied h =
-      inr (unspent, (i, takes, h ∙ ap (λ (w : Working). record w { kept = Some i }) emptied))
+  -- the item that is kept then arrives, or stays
+  pub lets_from : (old : Working) (before : WorkerEnds) (mid : Working) (result : Result Bool Refused) (new : Working) (after : WorkerEnds)
+      → (IsSpent old.core → ⊥) → TakesThrough old before mid.kept after → mid ≡ record old { kept = mid.kept } → ArrivesOrStays may sys mid result new → LetsInApart may sys old before result new after
+  lets_from old before mid (Ok true) new after unspent takes rest (i, kept, arrives) =
+      (i, unspent, subst (λ (k : Option Item). TakesThrough old before k after) kept takes, subst (λ (w : Working). LetsArrive may sys (record w { kept = None }) i new) rest arrives)
+  lets_from old before mid (Ok false) new after unspent takes rest (none, same) =
+      let taken = subst (λ (k : Option Item). TakesThrough old before k after) none takes in
+      (same ∙ rest ∙ ap (λ (k : Option Item). record old { kept = k }) (none ∙ sym taken.0), taken.1, taken.0)
+  lets_from old before mid (Err r) new after unspent takes rest (i, kept, same) =
+      inr (unspent, (i, subst (λ (k : Option Item). TakesThrough old before k after) kept takes, same ∙ rest ∙ ap (λ (k : Option Item). record old { kept = k }) kept))
 
   lets_so : (old : Working) (before : WorkerEnds) (result : Result Bool Refused) (new : Working) (after : WorkerEnds)
       → LetsInApart may sys old before result new after → LetsBy may sys (at_ends sys.routes) old before result new after

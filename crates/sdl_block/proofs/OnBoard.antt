@@ -16,7 +16,7 @@ use Rattle.sdl_hand.specs.declared.hand.Refused.{Refused}
 use Rattle.sdl_hand.specs.Work.{Working, Works, beginning_at}
 use Rattle.sdl_hand.specs.Puts.{Puts, PutsOut, answer_of}
 use Rattle.sdl_hand.proofs.Fronts.{beginning-append}
-use Rattle.sdl_block.specs.Phases.{IsSpent, TakesFrom, ArrivesOrStays, LetsIn, TriesTurn, StepsTo, PutsFirst, IsEmptyAfter}
+use Rattle.sdl_block.specs.Phases.{IsSpent, TakesFrom, LetsArrive, ArrivesOrStays, LetsIn, TriesTurn, StepsTo, PutsFirst, IsEmptyAfter}
 use Rattle.sdl_block.specs.Rounds.{IsOneRound}
 use Rattle.sdl_block.proofs.Parts.{Queues, through}
 use Rattle.sdl_block.proofs.Going.{Going, TakesBy, LetsBy, PutsBy}
@@ -92,14 +92,16 @@ takes_so rows w before i after (inr (kept, front, changes)) =
     )
 
 module _ (may : ℕ → Frame → Step → Type 0) (sys : System) where
-  -- an item that was taken arrives, or is kept
-  pub lets_from : (old : Working) (before : Entries) (i : Item) (mid : Working) (result : Result Bool Refused) (new : Working) (after : Entries)
-      → (IsSpent old.core → ⊥) → TakesFrom old before (Some i) after → mid ≡ record old { kept = None } → ArrivesOrStays may sys mid i result new → LetsIn may sys old before result new after
-  lets_from old before i mid (Ok true) new after unspent takes emptied h =
-      (i, unspent, takes, subst (λ (w : Working). ArrivesOrStays may sys w i (Ok true) new) emptied h)
-  lets_from old before i mid (Ok false) new after unspent takes emptied h = absurd h
-  lets_from old before i mid (Err r) new after unspent takes emptied h =
-      inr (unspent, (i, takes, h ∙ ap (λ (w : Working). record w { kept = Some i }) emptied))
+  -- the item that is kept then arrives, or stays
+  pub lets_from : (old : Working) (before : Entries) (mid : Working) (result : Result Bool Refused) (new : Working) (after : Entries)
+      → (IsSpent old.core → ⊥) → TakesFrom old before mid.kept after → mid ≡ record old { kept = mid.kept } → ArrivesOrStays may sys mid result new → LetsIn may sys old before result new after
+  lets_from old before mid (Ok true) new after unspent takes rest (i, kept, arrives) =
+      (i, unspent, subst (λ (k : Option Item). TakesFrom old before k after) kept takes, subst (λ (w : Working). LetsArrive may sys (record w { kept = None }) i new) rest arrives)
+  lets_from old before mid (Ok false) new after unspent takes rest (none, same) =
+      let taken = subst (λ (k : Option Item). TakesFrom old before k after) none takes in
+      (same ∙ rest ∙ ap (λ (k : Option Item). record old { kept = k }) (none ∙ sym taken.0), taken.2, taken.0, inr taken.1)
+  lets_from old before mid (Err r) new after unspent takes rest (i, kept, same) =
+      inr (unspent, (i, subst (λ (k : Option Item). TakesFrom old before k after) kept takes, same ∙ rest ∙ ap (λ (k : Option Item). record old { kept = k }) kept))
 
   lets_so : (old : Working) (before : Entries) (result : Result Bool Refused) (new : Working) (after : Entries)
       → LetsIn may sys old before result new after → LetsBy may sys (on_board sys.routes (station.Inlet old.core.block)) old before result new after

@@ -36,11 +36,11 @@ pub record LetsArrive (may : ℕ → Frame → Step → Type 0) (sys : System) (
   pub rest : KeepsRest old.core new.core
   pub hand : (new.kept ≡ old.kept) × (new.outgoing ≡ old.outgoing)
 
--- The item arrives, or it is refused and kept.
-abbrev pub ArrivesOrStays : (ℕ → Frame → Step → Type 0) → System → Working → Item → Result Bool Refused → Working → Type 0
-ArrivesOrStays may sys old i (Ok true) new = LetsArrive may sys old i new
-ArrivesOrStays may sys old i (Ok false) new = ⊥
-ArrivesOrStays may sys old i (Err _) new = new ≡ record old { kept = Some i }
+-- The kept item arrives, or it is refused and stays; or none is kept.
+abbrev pub ArrivesOrStays : (ℕ → Frame → Step → Type 0) → System → Working → Result Bool Refused → Working → Type 0
+ArrivesOrStays may sys old (Ok true) new = (i : Item) × (old.kept ≡ Some i) × LetsArrive may sys (record old { kept = None }) i new
+ArrivesOrStays may sys old (Ok false) new = (old.kept ≡ None) × (new ≡ old)
+ArrivesOrStays may sys old (Err _) new = (i : Item) × (old.kept ≡ Some i) × (new ≡ old)
 
 -- the budget is used
 abbrev pub IsSpent : Core → Type 0

@@ -16,7 +16,6 @@ use sdl_ends::Ends;
 use sdl_hand::{Refused, Stepped, answer_of};
 use sdl_instances::Keeps;
 use sdl_routes::Routes;
-use sdl_signal::Item;
 use sdl_transition::Agents;
 use std::sync::Wait;
 
@@ -86,23 +85,20 @@ impl<S: Agents, K: Keeps> BlockWorker<S, K> {
         if self.core.is_spent() {
             return self.let_none_arrive();
         }
-        let Some(item) = self.take_one_apart(rt, ends) else {
-            return Ok(false);
-        };
-        self.admit_or_keep(routes, item, pick)
+        self.fill_apart(rt, ends);
+        self.admit_kept(routes, pick)
     }
 
-    /// Takes the kept item, or else one of the inlet.
+    /// Keeps one of the inlet, where it keeps none and there is one.
     #[inline(always)]
-    fn take_one_apart<R: Wait>(&mut self, rt: &R, ends: &mut Ends) -> Option<Item>
-        ensures taken { TakesThrough (worker_of self.old) ends.old result ends.new }
-        ensures emptied { worker_of self.new ≡ record (worker_of self.old) { kept = None } }
+    fn fill_apart<R: Wait>(&mut self, rt: &R, ends: &mut Ends)
+        ensures taken { TakesThrough (worker_of self.old) ends.old (worker_of self.new).kept ends.new }
+        ensures rest { worker_of self.new ≡ record (worker_of self.old) { kept = (worker_of self.new).kept } }
         ensures parts { behaviours_of self.new ≡ behaviours_of self.old }
         ensures ends { IsSameEnds ends.old ends.new }
     {
-        if self.hand.kept.is_some() {
-            return self.hand.kept.take();
+        if self.hand.kept.is_none() {
+            ends.take_into(rt, &mut self.hand.kept);
         }
-        ends.take(rt)
     }
 }

@@ -1,5 +1,5 @@
 //! A block at work.
-ghost use Rattle.std.specs.Prelude.{◌≡◌, [], All, IsTrue, ◌↔◌, IfOk, MatchResult, false, ⊤};
+ghost use Rattle.std.specs.Prelude.{◌≡◌, [], All, IsTrue, ◌↔◌, MatchResult, false, ⊤};
 ghost use Rattle.sdl_signal.specs.declared.values.Pid.{Pid};
 ghost use Rattle.sdl_log.specs.Counts.{AreCountsOf};
 ghost use Rattle.sdl_forward.specs.Boards.{IsBoardOf};
@@ -7,8 +7,8 @@ ghost use Rattle.sdl_instances.specs.Core.{IsSound, IsLegalIn, IsReady};
 ghost use Rattle.sdl_instances.specs.CoreOf.{core_of, parts_of, CanFire};
 ghost use Rattle.sdl_instances.specs.Run.{turns, waiting};
 ghost use Rattle.sdl_hand.specs.Work.{with_core, StepsAs};
-ghost use Rattle.sdl_block.specs.Phases.{TakesFrom, LetsArrive, ArrivesOrStays, LetsIn, TriesTurn, StepsTo, PutsFirst, IsEmptyAfter};
-ghost use Rattle.sdl_block.specs.Picks.{ArrivesAt, LetsInAt, TriesTurnAt, StepsAt};
+ghost use Rattle.sdl_block.specs.Phases.{TakesFrom, ArrivesOrStays, LetsIn, TriesTurn, StepsTo, PutsFirst, IsEmptyAfter};
+ghost use Rattle.sdl_block.specs.Picks.{LetsInAt, TriesTurnAt, StepsAt};
 ghost use Rattle.sdl_block.specs.Rounds.{IsOneRound};
 ghost use Rattle.sdl_hand.specs.Puts as puts;
 ghost use Rattle.sdl_block.specs.Workers.{worker_of, behaviours_of, system_around};
@@ -19,7 +19,6 @@ use sdl_hand::{Hand, Refused, Stepped, answer_of};
 use sdl_instances::{BlockCore, Event, Keeps, Turn};
 use sdl_log::Counts;
 use sdl_routes::{Routes, Station};
-use sdl_signal::Item;
 use sdl_transition::Agents;
 
 /// A block at work: its core, with what it has in hand.
@@ -104,10 +103,8 @@ impl<S: Agents, K: Keeps> BlockWorker<S, K> {
         if self.core.is_spent() {
             return self.let_none_arrive();
         }
-        let Some(item) = self.take_one(board) else {
-            return Ok(false);
-        };
-        self.admit_or_keep(routes, item, pick)
+        self.fill(board);
+        self.admit_kept(routes, pick)
     }
 
     /// What is answered where no item may arrive since the budget is used: a kept one stays, and is refused.
@@ -120,57 +117,35 @@ impl<S: Agents, K: Keeps> BlockWorker<S, K> {
         }
     }
 
-    /// Lets the item arrive. One that is refused is kept.
+    /// Keeps the front of the inlet, where it keeps none and there is one.
     #[inline(always)]
-    pub(crate) fn admit_or_keep(
-        &mut self,
-        routes: &Routes,
-        item: Item,
-        pick: u32,
-    ) -> Result<bool, Refused>
+    fn fill(&mut self, board: &mut Board)
+        ensures taken { TakesFrom (worker_of self.old) board.old (worker_of self.new).kept board.new }
+        ensures rest { worker_of self.new ≡ record (worker_of self.old) { kept = (worker_of self.new).kept } }
+        ensures parts { behaviours_of self.new ≡ behaviours_of self.old }
+    {
+        if self.hand.kept.is_none() {
+            self.hand.kept = board.take(Station::Inlet(self.core.block()));
+        }
+    }
+
+    /// Lets the kept item arrive, where there is one, and says whether one did. One that is refused stays.
+    #[inline(always)]
+    pub(crate) fn admit_kept(&mut self, routes: &Routes, pick: u32) -> Result<bool, Refused>
         requires sound { IsSound S.may (system_around self.old routes.now) (worker_of self.old).core }
         ensures pick { LetsInAt routes.now pick (worker_of self.old).core (worker_of self.new).core }
-        ensures arrived { ArrivesOrStays S.may (system_around self.old routes.now) (worker_of self.old) item result (worker_of self.new) }
+        ensures arrived { ArrivesOrStays S.may (system_around self.old routes.now) (worker_of self.old) result (worker_of self.new) }
         ensures parts { behaviours_of self.new ≡ behaviours_of self.old }
     {
-        match self.admit(routes, item, pick) {
-            Ok(()) => Ok(true),
-            Err(item) => {
-                self.hand.kept = Some(item);
-                Err(Refused)
-            }
+        let Some(item) = &self.hand.kept else {
+            return Ok(false);
+        };
+        if !self.core.can_arrive(routes, item) {
+            return Err(Refused);
         }
-    }
-
-    /// Takes the kept item, or else the front of the inlet.
-    #[inline(always)]
-    fn take_one(&mut self, board: &mut Board) -> Option<Item>
-        ensures taken { TakesFrom (worker_of self.old) board.old result board.new }
-        ensures emptied { worker_of self.new ≡ record (worker_of self.old) { kept = None } }
-        ensures parts { behaviours_of self.new ≡ behaviours_of self.old }
-    {
-        if self.hand.kept.is_some() {
-            return self.hand.kept.take();
-        }
-        board.take(Station::Inlet(self.core.block()))
-    }
-
-    /// Lets the item arrive. A refusal hands it back and changes nothing.
-    #[inline(always)]
-    fn admit(&mut self, routes: &Routes, item: Item, pick: u32) -> Result<(), Item>
-        requires sound { IsSound S.may (system_around self.old routes.now) (worker_of self.old).core }
-        ensures pick { IfOk result (λ _. ArrivesAt routes.now pick (worker_of self.old).core (worker_of self.new).core) }
-        ensures arrived { MatchResult result
-            (λ _. LetsArrive S.may (system_around self.old routes.now) (worker_of self.old) item (worker_of self.new))
-            (λ back. (back ≡ item) × (worker_of self.new ≡ worker_of self.old)) }
-        ensures parts { behaviours_of self.new ≡ behaviours_of self.old }
-    {
-        if !self.core.can_arrive(routes, &item) {
-            return Err(item);
-        }
-        match self.core.arrive(routes, item, pick) {
-            Ok(_) => Ok(()),
-            Err((item, _)) => Err(item),
+        match self.core.arrive_from(routes, &mut self.hand.kept, pick) {
+            Ok(_) => Ok(true),
+            Err(_) => Err(Refused),
         }
     }
 

@@ -1,5 +1,6 @@
 //! The core of a block: its instances with its log, and the behaviours of its sets.
-ghost use Rattle.std.specs.Prelude.{◌≡◌, List, ◌≤◌, ◌++◌, ◌∷◌, ◌<◌, ◌%◌, ◌^◌, ◌-◌, [], IfOk, IfErr, None};
+ghost use Rattle.std.specs.Prelude.{◌≡◌, List, ◌≤◌, ◌++◌, ◌∷◌, ◌<◌, ◌%◌, ◌^◌, ◌-◌, [], IfOk, IfErr, IsSome, IfSome, None};
+ghost use Rattle.std.specs.Option.{ForSome};
 ghost use Rattle.sdl_signal.specs.declared.ids.SetId.{SetId};
 ghost use Rattle.sdl_signal.specs.declared.values.Pid.{Pid};
 ghost use Rattle.sdl_instances.specs.Legal.{GoesTo, IsOfSet};
@@ -90,7 +91,39 @@ impl<S: Agents, K: Keeps> BlockCore<S, K> {
         ensures parts { parts_of self.new ≡ parts_of self.old }
         ensures err { IfErr result (λ e. (e.0 ≡ item) × (core_of self.new ≡ core_of self.old)) }
     {
-        self.table.arrive(routes, item, pick)
+        let mut slot = Some(item);
+        match self.arrive_from(routes, &mut slot, pick) {
+            Ok(arrival) => Ok(arrival),
+            Err(refused) => match slot {
+                Some(back) => Err((back, refused)),
+                None => unreachable!(),
+            },
+        }
+    }
+
+    /// The same as `arrive`, of the item that the slot has. It leaves the slot empty, but for a refusal, which changes nothing.
+    #[inline(always)]
+    pub fn arrive_from(
+        &mut self,
+        routes: &Routes,
+        slot: &mut Option<Item>,
+        pick: u32,
+    ) -> Result<Arrival, AllocError>
+        requires item { IsSome slot.old }
+        requires stamp { ForSome slot.old (λ item. item.stamp < 2 ^ 64 - 1) }
+        requires legal { ForSome slot.old (IsLegalIn (system_in self.old routes.now)) }
+        requires sound { IsSound S.may (system_in self.old routes.now) (core_of self.old) }
+        requires ends_here { ForSome slot.old (λ item. (set : SetId) × GoesTo routes.now item set × ((p : Pid) → item.to ≡ Some p → IsOfSet set p)) }
+        ensures arrives { IfOk result (λ a. IfSome slot.old (λ item. Arrives routes.now (core_of self.old).state item a (core_of self.new).state)) }
+        ensures log { IfOk result (λ a. IfSome slot.old (λ item. (core_of self.new).log ≡ (core_of self.old).log ++ arrival_event item a ∷ [])) }
+        ensures picked { IfSome slot.old (λ item. (set : SetId) (p : Pid) → GoesTo routes.now item set → item.to ≡ None → result ≡ Ok (arrival.Entered p) → IsLivingAt set (core_of self.old).state (pick % number_living set (core_of self.old).state) p) }
+        ensures emptied { OnOk result (slot.new ≡ None) }
+        ensures sound { IfOk result (λ _. IsSound S.may (system_in self.old routes.now) (core_of self.new)) }
+        ensures rest { KeepsRest (core_of self.old) (core_of self.new) }
+        ensures parts { parts_of self.new ≡ parts_of self.old }
+        ensures err { OnErr result ((slot.new ≡ slot.old) × (core_of self.new ≡ core_of self.old)) }
+    {
+        self.table.arrive_from(routes, slot, pick)
     }
 
     /// Lets the ready instance at `pick` modulo their number, in order of creation, make its start transition, or consume the

@@ -1,5 +1,5 @@
 //! The living instances of a block.
-ghost use Rattle.std.specs.Prelude.{◌≡◌, ◌+◌, ◌<◌, ◌≤◌, ◌^◌, ◌∷◌, List, length, slice_index, OnOk, OnErr, IfOk, IfErr, None, ◌++◌, []};
+ghost use Rattle.std.specs.Prelude.{◌≡◌, ◌+◌, ◌<◌, ◌≤◌, ◌^◌, ◌∷◌, List, length, slice_index, OnOk, OnErr, IfOk, IfErr, None, ◌++◌, [], remove};
 ghost use Rattle.sdl_signal.specs.declared.values.Pid.{Pid};
 ghost use Rattle.sdl_signal.specs.declared.values.Pid.TheVariants as pid;
 ghost use Rattle.sdl_signal.specs.declared.values.Item.{Item};
@@ -190,10 +190,18 @@ impl Living {
                 self.instances.proceed(place, state, vars);
                 None
             }
-            Next::Stop => {
-                let (_, instance) = self.instances.remove(place);
-                Some(instance.port_len())
-            }
+            Next::Stop => Some(self.stop(place)),
         }
+    }
+
+    /// Takes the instance at this place out, and answers with the number of signals in its port. Most transitions don't stop: this
+    /// stands apart from what each of them does.
+    #[inline(never)]
+    fn stop(&mut self, place: usize) -> u64
+        requires within { place < length (state_of self.old).living }
+        ensures { (p : Pid) (r : Record) → StandsAt (state_of self.old) place p r → (result ≡ length r.port) × (state_of self.new ≡ record (state_of self.old) { living = remove (state_of self.old).living place }) }
+    {
+        let (_, instance) = self.instances.remove(place);
+        instance.port_len()
     }
 }

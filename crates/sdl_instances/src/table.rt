@@ -1,5 +1,6 @@
 //! The instances of a block with its log.
-ghost use Rattle.std.specs.Prelude.{◌≡◌, ℕ, ◌++◌, ◌∷◌, ◌<◌, ◌≤◌, ◌%◌, ◌^◌, ◌-◌, [], OnOk, OnErr, IfOk, IfErr, slice_get, length, None, Some, vec_len, vec_capacity};
+ghost use Rattle.std.specs.Prelude.{◌≡◌, ℕ, ◌++◌, ◌∷◌, ◌<◌, ◌≤◌, ◌%◌, ◌^◌, ◌-◌, [], OnOk, OnErr, IfOk, IsSome, IfSome, slice_get, length, None, Some, vec_len, vec_capacity};
+ghost use Rattle.std.specs.Option.{ForSome};
 ghost use Rattle.sdl_signal.specs.declared.ids.SetId.{SetId};
 ghost use Rattle.sdl_signal.specs.declared.values.Pid.{Pid};
 ghost use Rattle.sdl_routes.specs.declared.route.TableRow.{TableRow};
@@ -22,7 +23,6 @@ use arrayvec::ArrayVec;
 use sdl_log::{Arrival, Cause, Counted, Counts, Done, Keeps};
 use sdl_parts::Structure;
 use sdl_processes::Instances;
-use sdl_processes::copies::copied_item;
 use sdl_routes::{EndPoint, Routes};
 use sdl_signal::{BlockId, Item, Pid, RouteId, SetId, Sort};
 use sdl_transition::BlockParts;
@@ -118,42 +118,43 @@ fn end_of(routes: &Routes, route: RouteId) -> SetId
 }
 
 impl<K: Keeps> Table<K> {
-    /// Puts the item into the port of the instance at this place. A refusal changes nothing.
+    /// Puts the item of the slot, which has one, into the port of the instance at this place, and leaves the slot empty. A refusal
+    /// changes nothing.
     #[inline(always)]
-    fn enter(&mut self, place: usize, item: Item) -> Result<Pid, (Item, AllocError)>
-        requires stamp { item.stamp < 2 ^ 64 - 1 }
+    fn enter_from(&mut self, place: usize, slot: &mut Option<Item>) -> Result<Pid, AllocError>
+        requires item { IsSome slot.old }
+        requires stamp { ForSome slot.old (λ item. item.stamp < 2 ^ 64 - 1) }
         requires within { place < length self.old.core.state.living }
-        ensures entered { IfOk result (λ p. (r : Record) × Becomes p r (record r { port = r.port ++ item ∷ [] }) self.old.core.state self.new.core.state) }
+        ensures entered { IfOk result (λ p. IfSome slot.old (λ item. (r : Record) × Becomes p r (record r { port = r.port ++ item ∷ [] }) self.old.core.state self.new.core.state)) }
         ensures place { IfOk result (λ p. slice_get (pids self.old.core.state) place ≡ Some p) }
-        ensures log { IfOk result (λ p. self.new.core.log ≡ self.old.core.log ++ arrival_event item (arrival.Entered p) ∷ []) }
+        ensures log { IfOk result (λ p. IfSome slot.old (λ item. self.new.core.log ≡ self.old.core.log ++ arrival_event item (arrival.Entered p) ∷ [])) }
+        ensures emptied { OnOk result (slot.new ≡ None) }
         ensures rest { (self.new.core.block ≡ self.old.core.block) × (self.new.core.signals ≡ self.old.core.signals) × (self.new.core.sets ≡ self.old.core.sets) × (self.new.core.budget ≡ self.old.core.budget) }
-        ensures err { IfErr result (λ e. (e.0 ≡ item) × (self.new.core ≡ self.old.core)) }
+        ensures err { OnErr result ((slot.new ≡ slot.old) × (self.new.core ≡ self.old.core)) }
     {
-        // Copied first: where it is moved right after its values were written one by one, the processor waits for these.
-        let copy = copied_item(&item);
-        if self.log.make_room().is_err() {
-            return Err((item, AllocError));
-        }
-        let pid = match self.living.instances.receive(place, copy) {
-            Ok(pid) => pid,
-            Err(_) => return Err((item, AllocError)),
-        };
+        self.log.make_room()?;
+        let pid = self.living.instances.receive_from(place, slot)?;
+        // The log reads the item where it now stands, so that none is copied or moved for it.
+        let item = self.living.instances.last_received(place);
         self.stamp = self.stamp.max(item.stamp + 1);
         self.log.enter(item, pid);
         Ok(pid)
     }
 
-    /// Discards the item. A refusal changes nothing.
-    fn discard(&mut self, cause: Cause, item: Item) -> Result<(), (Item, AllocError)>
-        requires stamp { item.stamp < 2 ^ 64 - 1 }
-        ensures log { OnOk result (self.new.core.log ≡ self.old.core.log ++ arrival_event item (arrival.Discarded cause) ∷ []) }
+    /// Discards the item of the slot, which has one, and leaves the slot empty. A refusal changes nothing.
+    fn discard_from(&mut self, cause: Cause, slot: &mut Option<Item>) -> Result<(), AllocError>
+        requires item { IsSome slot.old }
+        requires stamp { ForSome slot.old (λ item. item.stamp < 2 ^ 64 - 1) }
+        ensures log { OnOk result (IfSome slot.old (λ item. self.new.core.log ≡ self.old.core.log ++ arrival_event item (arrival.Discarded cause) ∷ [])) }
         ensures state { OnOk result (self.new.core.state ≡ self.old.core.state) }
+        ensures emptied { OnOk result (slot.new ≡ None) }
         ensures rest { (self.new.core.block ≡ self.old.core.block) × (self.new.core.signals ≡ self.old.core.signals) × (self.new.core.sets ≡ self.old.core.sets) × (self.new.core.budget ≡ self.old.core.budget) }
-        ensures err { IfErr result (λ e. (e.0 ≡ item) × (self.new.core ≡ self.old.core)) }
+        ensures err { OnErr result ((slot.new ≡ slot.old) × (self.new.core ≡ self.old.core)) }
     {
-        if self.log.make_room().is_err() {
-            return Err((item, AllocError));
-        }
+        self.log.make_room()?;
+        let Some(item) = slot.take() else {
+            unreachable!()
+        };
         self.stamp = self.stamp.max(item.stamp + 1);
         self.log.discard(item, cause);
         Ok(())
@@ -163,27 +164,31 @@ impl<K: Keeps> Table<K> {
 impl<K: Keeps> Table<K> {
     ghost use Rattle.sdl_instances.specs.Calls.{LookFinds};
 
-    /// Lets an item arrive: it enters the port of a living instance that it admits, or is discarded where there is none. A refusal changes nothing.
+    /// Lets the item of the slot, which has one, arrive, and leaves the slot empty: the item enters the port of a living instance
+    /// that it admits, or is discarded where there is none. A refusal changes nothing.
     #[inline(always)]
-    pub fn arrive(
+    pub fn arrive_from(
         &mut self,
         routes: &Routes,
-        item: Item,
+        slot: &mut Option<Item>,
         pick: u32,
-    ) -> Result<Arrival, (Item, AllocError)>
-        requires stamp { item.stamp < 2 ^ 64 - 1 }
-        requires ends_here { (set : SetId) × GoesTo routes.now item set × ((p : Pid) → item.to ≡ Some p → IsOfSet set p) }
-        ensures arrives { IfOk result (λ a. Arrives routes.now self.old.core.state item a self.new.core.state) }
-        ensures log { IfOk result (λ a. self.new.core.log ≡ self.old.core.log ++ arrival_event item a ∷ []) }
-        ensures picked { (set : SetId) (p : Pid) → GoesTo routes.now item set → item.to ≡ None → result ≡ Ok (arrival.Entered p) → IsLivingAt set self.old.core.state (pick % number_living set self.old.core.state) p }
+    ) -> Result<Arrival, AllocError>
+        requires item { IsSome slot.old }
+        requires stamp { ForSome slot.old (λ item. item.stamp < 2 ^ 64 - 1) }
+        requires ends_here { ForSome slot.old (λ item. (set : SetId) × GoesTo routes.now item set × ((p : Pid) → item.to ≡ Some p → IsOfSet set p)) }
+        ensures arrives { IfOk result (λ a. IfSome slot.old (λ item. Arrives routes.now self.old.core.state item a self.new.core.state)) }
+        ensures log { IfOk result (λ a. IfSome slot.old (λ item. self.new.core.log ≡ self.old.core.log ++ arrival_event item a ∷ [])) }
+        ensures picked { IfSome slot.old (λ item. (set : SetId) (p : Pid) → GoesTo routes.now item set → item.to ≡ None → result ≡ Ok (arrival.Entered p) → IsLivingAt set self.old.core.state (pick % number_living set self.old.core.state) p) }
+        ensures emptied { OnOk result (slot.new ≡ None) }
         ensures rest { (self.new.core.block ≡ self.old.core.block) × (self.new.core.signals ≡ self.old.core.signals) × (self.new.core.sets ≡ self.old.core.sets) × (self.new.core.budget ≡ self.old.core.budget) }
-        ensures err { IfErr result (λ e. (e.0 ≡ item) × (self.new.core ≡ self.old.core)) }
+        ensures err { OnErr result ((slot.new ≡ slot.old) × (self.new.core ≡ self.old.core)) }
     {
+        let Some(item) = &*slot else { unreachable!() };
         match item.to {
             Some(pid) => match self.living.instances.map().get_index_of(&pid) {
-                Some(place) => Ok(Arrival::Entered(self.enter(place, item)?)),
+                Some(place) => Ok(Arrival::Entered(self.enter_from(place, slot)?)),
                 None => {
-                    self.discard(Cause::Gone, item)?;
+                    self.discard_from(Cause::Gone, slot)?;
                     Ok(Arrival::Discarded(Cause::Gone))
                 }
             },
@@ -191,11 +196,11 @@ impl<K: Keeps> Table<K> {
                 let set = end_of(routes, item.route);
                 let living = self.living.instances.number_of(set);
                 if living == 0 {
-                    self.discard(Cause::NoInstance, item)?;
+                    self.discard_from(Cause::NoInstance, slot)?;
                     return Ok(Arrival::Discarded(Cause::NoInstance));
                 }
                 let place = self.living.instances.place_of(set, at_pick(pick, living));
-                Ok(Arrival::Entered(self.enter(place, item)?))
+                Ok(Arrival::Entered(self.enter_from(place, slot)?))
             }
         }
     }

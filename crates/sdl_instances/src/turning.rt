@@ -56,10 +56,10 @@ impl<K: Keeps> Table<K> {
     }
 
     /// Notes that the instance of the frame let the signal go by the implicit transition.
-    pub fn skip(&mut self, frame: Frame, item: Item)
+    pub fn skip(&mut self, frame: &Frame, item: Item)
         requires room { length self.old.core.log < self.old.capacity }
         requires budget { turns self.old.core.log < self.old.core.budget }
-        ensures { self.new.core ≡ record self.old.core { log = self.old.core.log ++ event.Turn frame.self_pid (trigger.Implicit item) frame None (record { items = [] }) None ∷ [] } }
+        ensures { self.new.core ≡ record self.old.core { log = self.old.core.log ++ event.Turn frame.now.self_pid (trigger.Implicit item) frame.now None (record { items = [] }) None ∷ [] } }
     {
         self.made += 1;
         self.log.skip(frame, item);
@@ -73,7 +73,7 @@ impl<K: Keeps> Table<K> {
         actor: &Actor<S>,
         pick: u32,
         trigger: Trigger,
-        frame: Frame,
+        frame: &Frame,
         step: &mut Step,
         hand: &mut ArrayVec<Item, 8>,
     )
@@ -83,7 +83,7 @@ impl<K: Keeps> Table<K> {
         requires room { length self.old.core.log < self.old.capacity }
         requires budget { (turns self.old.core.log < self.old.core.budget) × (length (origins self.old.core.log) + 8 < 2 ^ 64) }
         requires hand { hand.old.items ≡ [] }
-        ensures { (r : Record) → StandsAt self.old.core.state actor.now.place frame.self_pid r → Completes S.may (system_of self.old.core actor.now.routes.now (block_rules actor.now.parts.now)) pick frame.self_pid trigger frame step.old self.old.core hand.new.items self.new.core }
+        ensures { (r : Record) → StandsAt self.old.core.state actor.now.place frame.now.self_pid r → Completes S.may (system_of self.old.core actor.now.routes.now (block_rules actor.now.parts.now)) pick frame.now.self_pid trigger frame.now step.old self.old.core hand.new.items self.new.core }
     {
         let mark = Mark {
             origin: Origin {

@@ -47,7 +47,7 @@ impl<S: Agents, K: Keeps> BlockCore<S, K> {
                 let mut frame = blank_frame();
                 self.table.show(place, &mut frame);
                 let pid = frame.self_pid;
-                self.turn_at(routes, pick, place, frame, hand);
+                self.turn_at(routes, pick, place, &frame, hand);
                 Ok(Turn::Fired(pid))
             }
         }
@@ -59,15 +59,15 @@ impl<S: Agents, K: Keeps> BlockCore<S, K> {
         routes: &Routes,
         pick: u32,
         place: usize,
-        frame: Frame,
+        frame: &Frame,
         hand: &mut ArrayVec<Item, 8>,
     )
         requires sound { IsSound S.may (system_in self.old routes.now) (core_of self.old) }
         requires parts { CanFire S.may (parts_of self.old) }
-        requires next { (r : Record) × StandsAt (core_of self.old).state place frame.self_pid r × (frame ≡ next_frame frame.self_pid r) × (is_ready r ≡ true) }
+        requires next { (r : Record) × StandsAt (core_of self.old).state place frame.now.self_pid r × (frame.now ≡ next_frame frame.now.self_pid r) × (is_ready r ≡ true) }
         requires room { HasTurnRoom self.old }
         requires hand { hand.old.items ≡ [] }
-        ensures fires { Fires S.may (system_in self.old routes.now) pick frame.self_pid (core_of self.old) hand.new.items (core_of self.new) }
+        ensures fires { Fires S.may (system_in self.old routes.now) pick frame.now.self_pid (core_of self.old) hand.new.items (core_of self.new) }
         ensures parts { parts_of self.new ≡ parts_of self.old }
     {
         match frame.state {
@@ -82,21 +82,21 @@ impl<S: Agents, K: Keeps> BlockCore<S, K> {
         routes: &Routes,
         pick: u32,
         place: usize,
-        frame: Frame,
+        frame: &Frame,
         hand: &mut ArrayVec<Item, 8>,
     )
         requires sound { IsSound S.may (system_in self.old routes.now) (core_of self.old) }
         requires parts { CanFire S.may (parts_of self.old) }
-        requires next { (r : Record) × StandsAt (core_of self.old).state place frame.self_pid r × (frame ≡ next_frame frame.self_pid r) × (r.state ≡ None) }
+        requires next { (r : Record) × StandsAt (core_of self.old).state place frame.now.self_pid r × (frame.now ≡ next_frame frame.now.self_pid r) × (r.state ≡ None) }
         requires room { HasTurnRoom self.old }
         requires hand { hand.old.items ≡ [] }
-        ensures fires { Fires S.may (system_in self.old routes.now) pick frame.self_pid (core_of self.old) hand.new.items (core_of self.new) }
+        ensures fires { Fires S.may (system_in self.old routes.now) pick frame.now.self_pid (core_of self.old) hand.new.items (core_of self.new) }
         ensures parts { parts_of self.new ≡ parts_of self.old }
     {
         self.step.clear();
         self.parts
             .start(set_of(frame.self_pid))
-            .fire_into(&frame, &mut self.step);
+            .fire_into(frame, &mut self.step);
         let actor = Actor {
             routes,
             parts: &self.parts,
@@ -113,24 +113,24 @@ impl<S: Agents, K: Keeps> BlockCore<S, K> {
         pick: u32,
         place: usize,
         state: StateId,
-        frame: Frame,
+        frame: &Frame,
         hand: &mut ArrayVec<Item, 8>,
     )
         requires sound { IsSound S.may (system_in self.old routes.now) (core_of self.old) }
         requires parts { CanFire S.may (parts_of self.old) }
-        requires next { (r : Record) × (i : Item) × (rest : List Item) × StandsAt (core_of self.old).state place frame.self_pid r × (frame ≡ next_frame frame.self_pid r) × (r.state ≡ Some state) × (r.port ≡ i ∷ rest) }
+        requires next { (r : Record) × (i : Item) × (rest : List Item) × StandsAt (core_of self.old).state place frame.now.self_pid r × (frame.now ≡ next_frame frame.now.self_pid r) × (r.state ≡ Some state) × (r.port ≡ i ∷ rest) }
         requires room { HasTurnRoom self.old }
         requires hand { hand.old.items ≡ [] }
-        ensures fires { Fires S.may (system_in self.old routes.now) pick frame.self_pid (core_of self.old) hand.new.items (core_of self.new) }
+        ensures fires { Fires S.may (system_in self.old routes.now) pick frame.now.self_pid (core_of self.old) hand.new.items (core_of self.new) }
         ensures parts { parts_of self.new ≡ parts_of self.old }
     {
         match self
             .parts
-            .row(set_of(frame.self_pid), state, signal_of(&frame))
+            .row(set_of(frame.self_pid), state, signal_of(frame))
         {
             Some(transition) => {
                 self.step.clear();
-                transition.fire_into(&frame, &mut self.step);
+                transition.fire_into(frame, &mut self.step);
                 let item = self.table.consume(place);
                 let actor = Actor {
                     routes,

@@ -53,9 +53,9 @@ impl<K: Keeps> Counted<K> {
 
     /// Notes that the item entered the port of the instance.
     #[inline(always)]
-    pub fn enter(&mut self, item: Item, pid: Pid)
+    pub fn enter(&mut self, item: &Item, pid: Pid)
         requires { length (K.events self.old) < K.capacity self.old }
-        ensures { K.events self.new ≡ K.events self.old ++ event.Entered item pid ∷ [] }
+        ensures { K.events self.new ≡ K.events self.old ++ event.Entered item.now pid ∷ [] }
     {
         // The number of events is one of 64 bits, so that one more can be counted.
         let _number = self.log.number();
@@ -80,13 +80,13 @@ impl<K: Keeps> Counted<K> {
         &mut self,
         pid: Pid,
         trigger: Trigger,
-        frame: Frame,
+        frame: &Frame,
         step: &mut Step,
         done: &mut ArrayVec<Done, 8>,
         stopped: Option<u64>,
     )
         requires { length (K.events self.old) < K.capacity self.old }
-        ensures { K.events self.new ≡ K.events self.old ++ event.Turn pid trigger frame (Some step.old) done.old stopped ∷ [] }
+        ensures { K.events self.new ≡ K.events self.old ++ event.Turn pid trigger frame.now (Some step.old) done.old stopped ∷ [] }
     {
         let _number = self.log.number();
         self.counts.add_turn(&trigger, done, stopped);
@@ -94,9 +94,9 @@ impl<K: Keeps> Counted<K> {
     }
 
     /// Notes that the instance of the frame let the signal go by the implicit transition.
-    pub fn skip(&mut self, frame: Frame, item: Item)
+    pub fn skip(&mut self, frame: &Frame, item: Item)
         requires { length (K.events self.old) < K.capacity self.old }
-        ensures { K.events self.new ≡ K.events self.old ++ event.Turn frame.self_pid (trigger.Implicit item) frame None (record { items = [] }) None ∷ [] }
+        ensures { K.events self.new ≡ K.events self.old ++ event.Turn frame.now.self_pid (trigger.Implicit item) frame.now None (record { items = [] }) None ∷ [] }
     {
         let _number = self.log.number();
         self.counts.add_implicit();

@@ -30,9 +30,9 @@ pub trait Keeps: Drop {
         ensures room { OnOk result (length (events self.new) < capacity self.new) };
 
     /// Notes that the item entered the port of the instance.
-    fn enter(&mut self, item: Item, pid: Pid)
+    fn enter(&mut self, item: &Item, pid: Pid)
         requires { length (events self.old) < capacity self.old }
-        ensures { events self.new ≡ events self.old ++ event.Entered item pid ∷ [] };
+        ensures { events self.new ≡ events self.old ++ event.Entered item.now pid ∷ [] };
 
     /// Notes that the item was discarded.
     fn discard(&mut self, item: Item, cause: Cause)
@@ -45,18 +45,18 @@ pub trait Keeps: Drop {
         &mut self,
         pid: Pid,
         trigger: Trigger,
-        frame: Frame,
+        frame: &Frame,
         step: &mut Step,
         done: &mut ArrayVec<Done, 8>,
         stopped: Option<u64>,
     )
         requires { length (events self.old) < capacity self.old }
-        ensures { events self.new ≡ events self.old ++ event.Turn pid trigger frame (Some step.old) done.old stopped ∷ [] };
+        ensures { events self.new ≡ events self.old ++ event.Turn pid trigger frame.now (Some step.old) done.old stopped ∷ [] };
 
     /// Notes that the instance of the frame let the signal go by the implicit transition.
-    fn skip(&mut self, frame: Frame, item: Item)
+    fn skip(&mut self, frame: &Frame, item: Item)
         requires { length (events self.old) < capacity self.old }
-        ensures { events self.new ≡ events self.old ++ event.Turn frame.self_pid (trigger.Implicit item) frame None (record { items = [] }) None ∷ [] };
+        ensures { events self.new ≡ events self.old ++ event.Turn frame.now.self_pid (trigger.Implicit item) frame.now None (record { items = [] }) None ∷ [] };
 
     /// The events as a list, where they are stored as one: all, or none. No memory is taken.
     fn stored(&self) -> &[Event]

@@ -1,6 +1,7 @@
 //! The log of a block: its events, the ways to keep them, whole or by their number alone, and their counts.
 #![tactic(auto)]
 
+pub mod copies;
 pub mod counted;
 pub mod counts;
 pub mod event;

@@ -2,10 +2,12 @@
 ghost use Rattle.std.specs.Prelude.{◌≡◌, []};
 ghost use Rattle.sdl_log.specs.Filled.{IsUnfilled, filled};
 
+use crate::copies::copied_frame;
 use crate::event::{Cause, Done, Event, Trigger};
 use crate::keeps::Keeps;
 use arrayvec::ArrayVec;
 use sdl_behaviour::{Frame, Step};
+use sdl_copies::copies::copied_item;
 use sdl_signal::{Item, Pid};
 use std::alloc::{AllocError, Global};
 
@@ -63,8 +65,8 @@ impl Keeps for Vec<Event> {
 
     // apart from its callers, since the compiler then writes the event where it stands in the log, without a copy on the way
     #[inline(never)]
-    fn enter(&mut self, item: Item, pid: Pid) {
-        self.push_reserved(Event::Entered(item, pid));
+    fn enter(&mut self, item: &Item, pid: Pid) {
+        self.push_reserved(Event::Entered(copied_item(item), pid));
     }
 
     fn discard(&mut self, item: Item, cause: Cause) {
@@ -75,7 +77,7 @@ impl Keeps for Vec<Event> {
         &mut self,
         pid: Pid,
         trigger: Trigger,
-        frame: Frame,
+        frame: &Frame,
         step: &mut Step,
         done: &mut ArrayVec<Done, 8>,
         stopped: Option<u64>,
@@ -84,7 +86,7 @@ impl Keeps for Vec<Event> {
         self.push_reserved(Event::Turn {
             pid,
             trigger,
-            frame,
+            frame: copied_frame(frame),
             step: Some(Step {
                 actions: ArrayVec::new(),
                 vars: ArrayVec::new(),
@@ -97,11 +99,11 @@ impl Keeps for Vec<Event> {
         move_in(&mut self[last], step, done);
     }
 
-    fn skip(&mut self, frame: Frame, item: Item) {
+    fn skip(&mut self, frame: &Frame, item: Item) {
         let event = Event::Turn {
             pid: frame.self_pid,
             trigger: Trigger::Implicit(item),
-            frame,
+            frame: copied_frame(frame),
             step: None,
             done: ArrayVec::new(),
             stopped: None,

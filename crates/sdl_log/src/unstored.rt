@@ -49,10 +49,10 @@ impl Keeps for Unstored {
         }
     }
 
-    fn enter(&mut self, item: Item, pid: Pid) {
+    fn enter(&mut self, item: &Item, pid: Pid) {
         self.events += 1;
         let before = std::mem::replace(&mut self.history, History::new());
-        self.history = before.and_entered(&item, pid);
+        self.history = before.and_entered(item, pid);
     }
 
     fn discard(&mut self, item: Item, cause: Cause) {
@@ -65,20 +65,20 @@ impl Keeps for Unstored {
         &mut self,
         pid: Pid,
         trigger: Trigger,
-        frame: Frame,
+        frame: &Frame,
         step: &mut Step,
         done: &mut ArrayVec<Done, 8>,
         stopped: Option<u64>,
     ) {
         self.events += 1;
         let before = std::mem::replace(&mut self.history, History::new());
-        self.history = before.and_turn(pid, &trigger, &frame, step, done, stopped);
+        self.history = before.and_turn(pid, &trigger, frame, step, done, stopped);
     }
 
-    fn skip(&mut self, frame: Frame, item: Item) {
+    fn skip(&mut self, frame: &Frame, item: Item) {
         self.events += 1;
         let before = std::mem::replace(&mut self.history, History::new());
-        self.history = before.and_skipped(&frame, &item);
+        self.history = before.and_skipped(frame, &item);
     }
 
     fn stored(&self) -> &[Event] {

@@ -5,6 +5,8 @@ ghost use Rattle.sdl_packed_log.specs.Packed.{KeepsStep, AreHeads, turn_of, turn
 use crate::shown::{Shown, ShownStep, Shows};
 use arrayvec::ArrayVec;
 use sdl_behaviour::{Action, Frame, Next, Step};
+use sdl_copies::copies::copied_item;
+use sdl_log::copies::copied_frame;
 use sdl_log::{Cause, Done, Event, Keeps, Trigger};
 use sdl_signal::{Item, Pid, Value};
 use std::alloc::{AllocError, Global};
@@ -121,9 +123,10 @@ impl Keeps for Packed {
         Ok(())
     }
 
-    fn enter(&mut self, item: Item, pid: Pid) {
+    fn enter(&mut self, item: &Item, pid: Pid) {
         self.room -= 1;
-        self.notes.push_reserved(Note::Entered(item, pid));
+        self.notes
+            .push_reserved(Note::Entered(copied_item(item), pid));
     }
 
     fn discard(&mut self, item: Item, cause: Cause) {
@@ -135,7 +138,7 @@ impl Keeps for Packed {
         &mut self,
         pid: Pid,
         trigger: Trigger,
-        frame: Frame,
+        frame: &Frame,
         step: &mut Step,
         done: &mut ArrayVec<Done, 8>,
         stopped: Option<u64>,
@@ -147,7 +150,7 @@ impl Keeps for Packed {
         self.heads.push_reserved(Head {
             pid,
             trigger,
-            frame,
+            frame: copied_frame(frame),
             last: Some(last),
             stopped,
             actions_end: self.actions.len(),
@@ -155,13 +158,13 @@ impl Keeps for Packed {
         });
     }
 
-    fn skip(&mut self, frame: Frame, item: Item) {
+    fn skip(&mut self, frame: &Frame, item: Item) {
         self.room -= 1;
         self.notes.push_reserved(Note::Turn(self.heads.len()));
         self.heads.push_reserved(Head {
             pid: frame.self_pid,
             trigger: Trigger::Implicit(item),
-            frame,
+            frame: copied_frame(frame),
             last: None,
             stopped: None,
             actions_end: self.actions.len(),

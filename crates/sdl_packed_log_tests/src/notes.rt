@@ -107,13 +107,13 @@ pub fn note<K: Keeps>(log: &mut K, number: u32) -> bool {
         return false;
     }
     match number % 6 {
-        0 => log.enter(item_of(number), pid_of(number)),
+        0 => log.enter(&item_of(number), pid_of(number)),
         1 => log.discard(item_of(number), Cause::NoInstance),
         2 => log.discard(item_of(number), Cause::Gone),
         3 => log.turn(
             pid_of(number),
             Trigger::Fire(item_of(number)),
-            frame_of(number),
+            &frame_of(number),
             &mut step_of(number),
             &mut done_of(number),
             None,
@@ -121,12 +121,12 @@ pub fn note<K: Keeps>(log: &mut K, number: u32) -> bool {
         4 => log.turn(
             pid_of(number),
             Trigger::Start,
-            frame_of(number),
+            &frame_of(number),
             &mut step_of(number),
             &mut done_of(number),
             Some(number as u64),
         ),
-        _ => log.skip(frame_of(number), item_of(number)),
+        _ => log.skip(&frame_of(number), item_of(number)),
     }
     true
 }

@@ -1,5 +1,5 @@
 -- Which instances are ready, and their places in order.
-use Rattle.std.proofs.Common.{◌≡◌, ℕ, zero, suc, ◌+◌, ◌<◌, Bool, true, false, ◌||◌, not, is_none, nat_eq, List, [], ◌∷◌, Option, None, Some, ◌⊎◌, inl, inr, refl, ap, sym, ◌∙◌, true≢false, is_some, unwrap_or, length, length-append, take, drop, cond, ◌++◌, take-append-drop, slice_get, count_by, arith}
+use Rattle.std.proofs.Common.{◌≡◌, ℕ, zero, suc, ◌+◌, ◌<◌, Bool, true, false, ◌||◌, not, is_none, nat_eq, List, [], ◌∷◌, Option, None, Some, ◌⊎◌, inl, inr, refl, ap, sym, ◌∙◌, true≢false, is_some, IsSome, IfSome, unwrap_or, length, length-append, take, drop, cond, ◌++◌, take-append-drop, slice_get, count_by, arith}
 use Rattle.std.proofs.lemmas.List.Sums.{count_by_more_yes, sum_by-append}
 use Rattle.std.proofs.lemmas.Option.{slice_get_within, get_or_from_slice_get}
 use Rattle.std.specs.Map.{values_of}
@@ -29,10 +29,14 @@ ready_is r (inr waiting) = ap (λ b. is_none r.state || b) (port_not_empty r.por
 pub waiting_ready : (r : Record) (i : Item) (rest : List Item) → r.port ≡ i ∷ rest → is_ready r ≡ true
 waiting_ready r i rest port = ready_is r (inr (λ e. let z : length (i ∷ rest) ≡ 0 = ap length (sym port ∙ e) in omega (arith, z)))
 
-pub received_ready : (r t : Record) (i : Item) → t ≡ record r { port = r.port ++ i ∷ [] } → is_ready t ≡ true
+received_ready : (r t : Record) (i : Item) → t ≡ record r { port = r.port ++ i ∷ [] } → is_ready t ≡ true
 received_ready r t i is =
     let more : length (r.port ++ i ∷ []) ≡ length r.port + 1 = length-append r.port (i ∷ []) in
     ready_is t (inr (λ e. let z : length (r.port ++ i ∷ []) ≡ 0 = ap length (sym (ap (λ (x : Record). x.port) is) ∙ e) in omega (arith, z, more)))
+
+pub received_from_ready : (r t : Record) (slot : Option Item) → IsSome slot → IfSome slot (λ i. t ≡ record r { port = r.port ++ i ∷ [] }) → is_ready t ≡ true
+received_from_ready r t None some is = absurd (true≢false (sym some))
+received_from_ready r t (Some i) some is = received_ready r t i is
 
 pub proceeds_ready : (r t : Record) (q : StateId) (vars : List Value) → t ≡ record r { state = Some q; vars = vars } → is_ready t ≡ true → is_ready r ≡ true
 proceeds_ready r t q vars is h = ap (λ b. is_none r.state || b) (sym (ap is_ready is) ∙ h) ∙ waits_for_none (is_none r.state)

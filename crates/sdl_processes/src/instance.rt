@@ -1,5 +1,5 @@
 //! A living instance.
-ghost use Rattle.std.specs.Prelude.{◌≡◌, ◌<◌, ◌++◌, ◌∷◌, [], List, OnOk, OnErr, Some, option_copied, length};
+ghost use Rattle.std.specs.Prelude.{◌≡◌, ◌<◌, ◌++◌, ◌∷◌, [], List, OnOk, OnErr, IfSome, IfNone, Some, None, option_copied, length};
 ghost use Rattle.sdl_signal.specs.declared.values.Item.{Item};
 ghost use Rattle.sdl_processes.specs.Record.{created_record, consumed, front_of, is_ready};
 
@@ -44,20 +44,27 @@ impl Instance {
         }
     }
 
-    /// Puts an item at the back of the port. A refusal changes nothing.
+    /// Puts the item of the slot, where it has one, at the back of the port, and leaves the slot empty. A refusal changes nothing.
     #[inline(always)]
-    pub fn receive(&mut self, item: Item) -> Result<(), AllocError>
-        ensures ok { OnOk result (self.new ≡ record self.old { port = self.old.port ++ item ∷ [] }) }
-        ensures err { OnErr result (self.new ≡ self.old) }
+    pub fn receive_from(&mut self, slot: &mut Option<Item>) -> Result<(), AllocError>
+        ensures ok { OnOk result ((slot.new ≡ None) × IfSome slot.old (λ item. self.new ≡ record self.old { port = self.old.port ++ item ∷ [] }) × IfNone slot.old (self.new ≡ self.old)) }
+        ensures err { OnErr result ((self.new ≡ self.old) × (slot.new ≡ slot.old)) }
     {
-        // where there is room, no answer with an item in it is made and moved
-        if self.port.len() < self.port.capacity() {
+        self.port.reserve(1)?;
+        if let Some(item) = slot.take() {
             self.port.push_back_reserved(item);
-            return Ok(());
         }
-        match self.port.push_back(item) {
-            Ok(()) => Ok(()),
-            Err(_) => Err(AllocError),
+        Ok(())
+    }
+
+    /// The item at the back of the port.
+    pub fn last_received(&self) -> &Item
+        requires { 0 < length self.now.port }
+        ensures { (before : List Item) (item : Item) → self.now.port ≡ before ++ item ∷ [] → result.now ≡ item }
+    {
+        match self.port.back() {
+            Some(item) => item,
+            None => unreachable!(),
         }
     }
 

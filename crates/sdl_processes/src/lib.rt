@@ -3,10 +3,10 @@
 
 mod all_by_set;
 mod by_set;
-pub mod copies;
 pub mod instance;
 pub mod living_instances;
 mod ready;
 
 pub use instance::Instance;
 pub use living_instances::Instances;
+pub use sdl_copies::copies;

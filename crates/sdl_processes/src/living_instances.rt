@@ -1,5 +1,5 @@
 //! The living instances by their places, and which of them are ready.
-ghost use Rattle.std.specs.Prelude.{◌≡◌, ℕ, ◌+◌, ◌<◌, ◌≤◌, ◌++◌, ◌∷◌, [], List, Some, All, OnOk, OnErr, IfOk, IfSome, length, count_by, take, slice_get, slice_set, remove, true};
+ghost use Rattle.std.specs.Prelude.{◌≡◌, ℕ, ◌+◌, ◌<◌, ◌≤◌, ◌++◌, ◌∷◌, [], List, Some, None, All, IsSome, OnOk, OnErr, IfOk, IfSome, length, count_by, take, slice_get, slice_set, remove, true};
 ghost use Rattle.std.specs.Map.{keys_of, values_of};
 ghost use Rattle.sdl_signal.specs.declared.values.Pid.{Pid};
 ghost use Rattle.sdl_signal.specs.declared.values.Pid.TheVariants as pid;
@@ -122,17 +122,20 @@ impl Instances {
         }
     }
 
-    /// Puts an item at the back of the port of the instance at this place. A refusal changes nothing.
+    /// Puts the item of the slot, which has one, at the back of the port of the instance at this place, and leaves the slot empty.
+    /// A refusal changes nothing.
     #[inline(always)]
-    pub fn receive(&mut self, place: usize, item: Item) -> Result<Pid, AllocError>
-        requires { place < length self.old.entries }
-        ensures ok { IfOk result (λ p. (r : Record) × (slice_get self.old.entries place ≡ Some (p, r)) × (self.new.entries ≡ slice_set self.old.entries place (p, record r { port = r.port ++ item ∷ [] }))) }
-        ensures err { OnErr result (self.new.entries ≡ self.old.entries) }
+    pub fn receive_from(&mut self, place: usize, slot: &mut Option<Item>) -> Result<Pid, AllocError>
+        requires within { place < length self.old.entries }
+        requires item { IsSome slot.old }
+        ensures ok { IfOk result (λ p. IfSome slot.old (λ item. (r : Record) × (slice_get self.old.entries place ≡ Some (p, r)) × (self.new.entries ≡ slice_set self.old.entries place (p, record r { port = r.port ++ item ∷ [] })))) }
+        ensures emptied { OnOk result (slot.new ≡ None) }
+        ensures err { OnErr result ((self.new.entries ≡ self.old.entries) × (slot.new ≡ slot.old)) }
     {
         let (pid, instance) = self.map.pair_mut(place);
         let pid = *pid;
         let was_ready = instance.is_ready();
-        match instance.receive(item) {
+        match instance.receive_from(slot) {
             Ok(()) => {
                 if !was_ready {
                     self.ready.note(place);
@@ -141,6 +144,17 @@ impl Instances {
             }
             Err(_) => Err(AllocError),
         }
+    }
+
+    /// The item at the back of the port of the instance at this place.
+    #[inline(always)]
+    pub fn last_received(&self, place: usize) -> &Item
+        requires within { place < length self.now.entries }
+        requires waiting { (p : Pid) (r : Record) → slice_get self.now.entries place ≡ Some (p, r) → 0 < length r.port }
+        ensures { (p : Pid) (r : Record) (before : List Item) (item : Item) → slice_get self.now.entries place ≡ Some (p, r) → r.port ≡ before ++ item ∷ [] → result.now ≡ item }
+    {
+        let (_, instance) = self.get(place);
+        instance.last_received()
     }
 
     /// Takes the signal at the front of its port from the instance at this place, whose SENDER it sets.

@@ -8,14 +8,14 @@ use Rattle.sdl_block.specs.Workers.{worker_of, system_around}
 use Rattle.sdl_block.proofs.AtEnds.{lets_from}
 use Rattle.sdl_block.proofs.worker.BlockWorker.let_one_arrive_apart.Goals as goal
 
-pub admit_or_keep-requires : goal.admit_or_keep-requires
-admit_or_keep-requires g c =
-    record { sound = sound_there g.S.Agents.may _ _ c.args.routes.now _ _ (ap (λ w. w.core) c.take_one_apart.ensures.emptied) (ap (λ p. block_rules p) c.take_one_apart.ensures.parts) c.requires.sound }
+pub admit_kept-requires : goal.admit_kept-requires
+admit_kept-requires g c =
+    record { sound = sound_there g.S.Agents.may _ _ c.args.routes.now _ _ (ap (λ w. w.core) c.fill_apart.ensures.rest) (ap (λ p. block_rules p) c.fill_apart.ensures.parts) c.requires.sound }
 
 pub returns-clause-arrived : goal.returns-clause-arrived
 returns-clause-arrived g c =
     let may = g.S.Agents.may in
-    let same = same_core (worker_of c.args.self.now).core (worker_of c.take_one_apart.new.self).core c.args.routes.now _ _ (ap (λ w. w.core) c.take_one_apart.ensures.emptied) (ap (λ p. block_rules p) c.take_one_apart.ensures.parts) in
-    lets_from may (system_around c.args.self.now c.args.routes.now) (worker_of c.args.self.now) c.args.ends.now c.in-Some.item (worker_of c.take_one_apart.new.self) c.admit_or_keep.result (worker_of c.admit_or_keep.new.self) c.take_one_apart.new.ends
-    (λ used. false≢true (c.if-is_spent.ensures.1 used)) c.in-Some.ensures.taken c.take_one_apart.ensures.emptied
-    (subst (λ (s : System). ArrivesOrStays may s (worker_of c.take_one_apart.new.self) c.in-Some.item c.admit_or_keep.result (worker_of c.admit_or_keep.new.self)) same c.admit_or_keep.ensures.arrived)
+    let same = same_core (worker_of c.args.self.now).core (worker_of c.fill_apart.new.self).core c.args.routes.now _ _ (ap (λ w. w.core) c.fill_apart.ensures.rest) (ap (λ p. block_rules p) c.fill_apart.ensures.parts) in
+    lets_from may (system_around c.args.self.now c.args.routes.now) (worker_of c.args.self.now) c.args.ends.now (worker_of c.fill_apart.new.self) c.admit_kept.result (worker_of c.admit_kept.new.self) c.fill_apart.new.ends
+    (λ used. false≢true (c.if-is_spent.ensures.1 used)) c.fill_apart.ensures.taken c.fill_apart.ensures.rest
+    (subst (λ (s : System). ArrivesOrStays may s (worker_of c.fill_apart.new.self) c.admit_kept.result (worker_of c.admit_kept.new.self)) same c.admit_kept.ensures.arrived)

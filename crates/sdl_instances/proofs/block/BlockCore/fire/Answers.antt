@@ -19,23 +19,28 @@ use Rattle.sdl_instances.proofs.block.BlockCore.fire.Goals as goal
 pub set_of-requires : goal.set_of-requires
 set_of-requires g c =
     let next = c.requires.next in
-    set_at_place g.S.Agents.may (system_in c.args.self.now c.args.routes.now) (core_of c.args.self.now) c.requires.sound c.args.place c.args.frame.self_pid next.0 next.3
+    set_at_place g.S.Agents.may (system_in c.args.self.now c.args.routes.now) (core_of c.args.self.now) c.requires.sound c.args.place c.args.frame.now.self_pid next.0 next.3
+
+pub signal_of-requires : goal.signal_of-requires
+signal_of-requires g c =
+    let next = c.requires.next in
+    (next.1.signal, shown_signal c.args.frame.now c.args.frame.now.self_pid next.0 c.args.state next.1 next.2 next.5 next.6 next.4)
 
 pub row-requires-clause-set : goal.row-requires-clause-set
 row-requires-clause-set g c =
     let next = c.requires.next in
-    rules_of_place g.S.Agents.may (system_in c.args.self.now c.args.routes.now) (core_of c.args.self.now) c.requires.sound c.args.place c.args.frame.self_pid next.0 c.set_of.result next.3 c.set_of.ensures
+    rules_of_place g.S.Agents.may (system_in c.args.self.now c.args.routes.now) (core_of c.args.self.now) c.requires.sound c.args.place c.args.frame.now.self_pid next.0 c.set_of.result next.3 c.set_of.ensures
 
 pub fire_into-requires-clause-frame : goal.fire_into-requires-clause-frame
 fire_into-requires-clause-frame g c =
     let next = c.requires.next in
     let sys = system_in c.args.self.now c.args.routes.now in
     let core = core_of c.args.self.now in
-    let p = c.args.frame.self_pid in
+    let p = c.args.frame.now.self_pid in
     let rule = rule_of c.in-Some.transition.now in
     let rules = rules_at_place g.S.Agents.may sys core c.requires.sound c.args.place p next.0 next.3 in
     let of_set = sym (rules_of_set sys p c.set_of.result c.set_of.ensures) ∙ rules.1 in
-    let signal = c.signal_of.ensures next.1.signal (shown_signal c.args.frame p next.0 c.args.state next.1 next.2 next.5 next.6 next.4) in
+    let signal = c.signal_of.ensures next.1.signal (shown_signal c.args.frame.now p next.0 c.args.state next.1 next.2 next.5 next.6 next.4) in
     let row : row_for rules.0.rows c.args.state next.1.signal.id ≡ Some rule = ap (λ (s : SignalId). row_for rules.0.rows c.args.state s) (sym signal) ∙ c.in-Some.ensures.row rules.0 of_set in
     let shown = shown_at_row g.S.Agents.may sys core p next.0 rules.0 c.requires.sound (c.args.place, next.3) rules.1 next.1 next.2 c.args.state rule next.6 row in
     subst (λ (f : Frame). IsFrameOf rule.offer f) (sym (next.4 ∙ frame_with_signal p next.0 c.args.state next.1 next.2 next.5 next.6)) shown
@@ -43,19 +48,19 @@ fire_into-requires-clause-frame g c =
 pub consume-item-requires-clause-within : goal.consume-item-requires-clause-within
 consume-item-requires-clause-within g c =
     let next = c.requires.next in
-    slice_get_within (core_of c.args.self.now).state.living c.args.place (c.args.frame.self_pid, next.0) next.3
+    slice_get_within (core_of c.args.self.now).state.living c.args.place (c.args.frame.now.self_pid, next.0) next.3
 
 pub consume-item-requires-in-None-clause-within : goal.consume-item-requires-in-None-clause-within
 consume-item-requires-in-None-clause-within g c =
     let next = c.requires.next in
-    slice_get_within (core_of c.args.self.now).state.living c.args.place (c.args.frame.self_pid, next.0) next.3
+    slice_get_within (core_of c.args.self.now).state.living c.args.place (c.args.frame.now.self_pid, next.0) next.3
 
 pub complete-requires-clause-ready : goal.complete-requires-clause-ready
 complete-requires-clause-ready g c =
     let next = c.requires.next in
     let sys = system_in c.args.self.now c.args.routes.now in
     let core = core_of c.args.self.now in
-    let p = c.args.frame.self_pid in
+    let p = c.args.frame.now.self_pid in
     let place = c.args.place in
     let taken = c.consume-item.ensures.consumed p next.0 next.3 in
     let t = consumed next.0 c.consume-item.result taken.0 in
@@ -68,7 +73,7 @@ complete-requires-clause-creatable g c =
     let next = c.requires.next in
     let sys = system_in c.args.self.now c.args.routes.now in
     let core = core_of c.args.self.now in
-    let p = c.args.frame.self_pid in
+    let p = c.args.frame.now.self_pid in
     let rule = rule_of c.in-Some.transition.now in
     let rules = rules_at_place g.S.Agents.may sys core c.requires.sound c.args.place p next.0 next.3 in
     let of_set = sym (rules_of_set sys p c.set_of.result c.set_of.ensures) ∙ rules.1 in
@@ -84,7 +89,7 @@ returns-in-Some-clause-fires g c =
     let may = g.S.Agents.may in
     let sys = system_in c.args.self.now c.args.routes.now in
     let core = core_of c.args.self.now in
-    let p = c.args.frame.self_pid in
+    let p = c.args.frame.now.self_pid in
     let place = c.args.place in
     let item = c.consume-item.result in
     let rule = rule_of c.in-Some.transition.now in
@@ -93,11 +98,11 @@ returns-in-Some-clause-fires g c =
     let taken = c.consume-item.ensures.consumed p next.0 next.3 in
     let t = consumed next.0 item taken.0 in
     let mid = after_consume core place p t in
-    let signal = c.signal_of.ensures item.signal (shown_signal c.args.frame p next.0 c.args.state item taken.0 next.5 taken.1 next.4) in
+    let signal = c.signal_of.ensures item.signal (shown_signal c.args.frame.now p next.0 c.args.state item taken.0 next.5 taken.1 next.4) in
     let row : row_for rules.0.rows c.args.state item.signal.id ≡ Some rule = ap (λ (s : SignalId). row_for rules.0.rows c.args.state s) (sym signal) ∙ c.in-Some.ensures.row rules.0 of_set in
     let stands = subst (λ (m : Core). StandsAt m.state place p t) (sym taken.2) (stands_consumed core.state place p next.0 t next.3) in
-    let done = subst (λ (m : Core). Completes may (system_of m c.args.routes.now (block_rules c.args.self.now.parts)) c.args.pick p (trigger.Fire item) c.args.frame c.fire_into.new.step m c.complete.new.hand.items c.complete.new.self.core) taken.2 (c.complete.ensures t stands) in
-    fires_row may sys c.args.pick place p c.args.frame core c.complete.new.hand.items c.complete.new.self.core next.0 next.3 rules.0 rule c.fire_into.new.step c.args.state item taken.0 mid
+    let done = subst (λ (m : Core). Completes may (system_of m c.args.routes.now (block_rules c.args.self.now.parts)) c.args.pick p (trigger.Fire item) c.args.frame.now c.fire_into.new.step m c.complete.new.hand.items c.complete.new.self.core) taken.2 (c.complete.ensures t stands) in
+    fires_row may sys c.args.pick place p c.args.frame.now core c.complete.new.hand.items c.complete.new.self.core next.0 next.3 rules.0 rule c.fire_into.new.step c.args.state item taken.0 mid
     next.5 taken.1 rules.1 row next.4 c.fire_into.ensures.allowed c.fire_into.ensures.conforms refl done
 
 pub returns-in-None-clause-fires : goal.returns-in-None-clause-fires
@@ -106,13 +111,13 @@ returns-in-None-clause-fires g c =
     let may = g.S.Agents.may in
     let sys = system_in c.args.self.now c.args.routes.now in
     let core = core_of c.args.self.now in
-    let p = c.args.frame.self_pid in
+    let p = c.args.frame.now.self_pid in
     let place = c.args.place in
     let item = c.consume-item-in-None.result in
     let rules = rules_at_place may sys core c.requires.sound place p next.0 next.3 in
     let of_set = sym (rules_of_set sys p c.set_of.result c.set_of.ensures) ∙ rules.1 in
     let taken = c.consume-item-in-None.ensures.consumed p next.0 next.3 in
-    let signal = c.signal_of.ensures item.signal (shown_signal c.args.frame p next.0 c.args.state item taken.0 next.5 taken.1 next.4) in
+    let signal = c.signal_of.ensures item.signal (shown_signal c.args.frame.now p next.0 c.args.state item taken.0 next.5 taken.1 next.4) in
     let none : row_for rules.0.rows c.args.state item.signal.id ≡ None = ap (λ (s : SignalId). row_for rules.0.rows c.args.state s) (sym signal) ∙ c.in-None.ensures.row rules.0 of_set in
-    lets_go may sys c.args.pick place p c.args.frame core c.args.hand.now.items c.skip.new.self.core next.0 next.3 rules.0 c.args.state item taken.0 c.consume-item-in-None.new.self.core
+    lets_go may sys c.args.pick place p c.args.frame.now core c.args.hand.now.items c.skip.new.self.core next.0 next.3 rules.0 c.args.state item taken.0 c.consume-item-in-None.new.self.core
     next.5 taken.1 rules.1 none next.4 c.requires.hand taken.2 c.skip.ensures

@@ -30,7 +30,7 @@ invariant_of-self g c =
     let mid = state_of c.act_all.new.living in
     let new = state_of c.finish-stopped.new.self in
     let did = c.act_all.new.done.items in
-    let e = event.Turn c.args.frame.self_pid c.args.trigger c.args.frame (Some c.args.step.now) c.act_all.new.done c.finish-stopped.result in
+    let e = event.Turn c.args.frame.now.self_pid c.args.trigger c.args.frame.now (Some c.args.step.now) c.act_all.new.done c.finish-stopped.result in
     let ready = subst (λ (h : CoreWithRoom). CanCarryOut h.core.sets c.args.actor.now.place 8 h.creatable h.core.state) (sym c.self.view_is) c.requires.ready in
     let here = standing old c.args.actor.now.place ready.within in
     let stands = c.act_all.ensures.stays here.0 here.1 here.2 in
@@ -38,7 +38,7 @@ invariant_of-self g c =
     let waits = c.act_all.ensures.waits in
     let within = subst (λ (h : CoreWithRoom). turns h.core.log < h.core.budget) (sym c.self.view_is) c.requires.budget.0 in
     let made = c.self.invariant.made_are in
-    let counted = counted_turn (g.K.Keeps.events c.self.inside.log) old.living new.living e c.args.frame.self_pid _ _ _ _ c.number_of_outputs.result refl c.self.invariant (omega (arith, within, made)) (c.number_of_outputs.ensures.counted ∙ ap (λ (ds : List Done). length (flat_map origin_by ds)) c.as_slice-4.ensures.value) (omega (arith, finished, waits)) in
+    let counted = counted_turn (g.K.Keeps.events c.self.inside.log) old.living new.living e c.args.frame.now.self_pid _ _ _ _ c.number_of_outputs.result refl c.self.invariant (omega (arith, within, made)) (c.number_of_outputs.ensures.counted ∙ ap (λ (ds : List Done). length (flat_map origin_by ds)) c.as_slice-4.ensures.value) (omega (arith, finished, waits)) in
     subst (λ l. IsCounted l new.living (c.self.inside.outputs + c.number_of_outputs.result) c.self.inside.stamp (c.self.inside.made + 1) c.self.inside.budget) (sym c.turn.ensures) counted
 
 pub returns : goal.returns
@@ -47,7 +47,7 @@ returns g c r at =
     let routes = c.args.actor.now.routes.now in
     let rules = block_rules c.args.actor.now.parts.now in
     let place = c.args.actor.now.place in
-    let p = c.args.frame.self_pid in
+    let p = c.args.frame.now.self_pid in
     let mid = state_of c.act_all.new.living in
     let did = c.act_all.new.done.items in
     let old : Core = record { block = c.self.inside.block; signals = map (λ s. s.items) c.self.inside.signals.items; sets = c.self.inside.sets.items; state = state_of c.self.inside.living; log = (g.K.Keeps.events c.self.inside.log); budget = c.self.inside.budget } in
@@ -59,8 +59,8 @@ returns g c r at =
     (subst (λ (l : List Done). CarriesOut may c.as_slice.result.now routes rules place m c.as_slice-2.result.now l did old.state mid) c.clear.ensures c.act_all.ensures)) in
     let hand_is = c.add_sent.ensures ∙ ap (λ (l : List _). l ++ flat_map sent_by c.as_slice-3.result.now) c.requires.hand ∙ ap (λ (ds : List Done). flat_map sent_by ds) c.as_slice-3.ensures.value in
     let few = c.as_slice-3.ensures.fits in
-    subst (λ (h : CoreWithRoom). Completes may (system_of h.core routes rules) c.args.pick p c.args.trigger c.args.frame c.args.step.now h.core c.add_sent.new.sent.items new) c.self.view_is
-    (completes may old routes rules c.args.pick place p c.args.trigger c.args.frame c.args.step.now m did mid c.finish-stopped.result c.add_sent.new.sent.items new r
+    subst (λ (h : CoreWithRoom). Completes may (system_of h.core routes rules) c.args.pick p c.args.trigger c.args.frame.now c.args.step.now h.core c.add_sent.new.sent.items new) c.self.view_is
+    (completes may old routes rules c.args.pick place p c.args.trigger c.args.frame.now c.args.step.now m did mid c.finish-stopped.result c.add_sent.new.sent.items new r
     (subst (λ (h : CoreWithRoom). StandsAt h.core.state place p r) (sym c.self.view_is) at)
     refl c.self.invariant.outputs_are c.self.invariant.stamp_is refl
     carried c.finish-stopped.ensures c.turn.ensures hand_is (refl, refl, refl, refl) (subst (λ (ds : List Done). length ds ≤ 8) c.as_slice-3.ensures.value few))

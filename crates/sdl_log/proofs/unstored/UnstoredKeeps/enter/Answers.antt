@@ -7,5 +7,5 @@ use Rattle.sdl_log.proofs.unstored.UnstoredKeeps.enter.Goals as goal
 pub invariant_of-self : goal.invariant_of-self
 invariant_of-self c =
     let u = c.self.inside in
-    noted u.events u.history c.and_entered.result (event.Entered c.args.item c.args.pid) c.self.invariant
-    (c.and_entered.ensures ∙ ap (λ (l : List Event). l ++ event.Entered c.args.item c.args.pid ∷ []) c.replace-before.ensures.value)
+    noted u.events u.history c.and_entered.result (event.Entered c.args.item.now c.args.pid) c.self.invariant
+    (c.and_entered.ensures ∙ ap (λ (l : List Event). l ++ event.Entered c.args.item.now c.args.pid ∷ []) c.replace-before.ensures.value)

@@ -9,6 +9,6 @@ pub invariant_of-self : goal.invariant_of-self
 invariant_of-self c =
     let u = c.self.inside in
     let a = c.args in
-    let e : Event = event.Turn a.frame.self_pid (trigger.Implicit a.item) a.frame None (record { items = [] }) None in
+    let e : Event = event.Turn a.frame.now.self_pid (trigger.Implicit a.item) a.frame.now None (record { items = [] }) None in
     noted u.events u.history c.and_skipped.result e c.self.invariant
     (c.and_skipped.ensures ∙ ap (λ (l : List Event). l ++ e ∷ []) c.replace-before.ensures.value)

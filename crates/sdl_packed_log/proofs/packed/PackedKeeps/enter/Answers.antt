@@ -13,7 +13,7 @@ invariant_of-self c =
     let free = ap (λ (l : Log). l.room) c.self.view_is in
     let n = c.push_reserved.ensures.len in
     let m = c.push_reserved.ensures.capacity in (
-      parts_arrived p.notes.items c.push_reserved.new.self.items p.heads.items p.actions.items p.done.items (note.Entered c.args.item c.args.pid) (event.Entered c.args.item c.args.pid) refl c.push_reserved.ensures.items i.0,
+      parts_arrived p.notes.items c.push_reserved.new.self.items p.heads.items p.actions.items p.done.items (note.Entered c.copied_item.result c.args.pid) (event.Entered c.copied_item.result c.args.pid) refl c.push_reserved.ensures.items i.0,
       omega (arith, i.1, n, m, free, c.requires),
       omega (arith, i.2),
       omega (arith, i.3),
@@ -23,6 +23,7 @@ invariant_of-self c =
 pub returns : goal.returns
 returns c =
     let p = c.self.inside in
-    let e : Event = event.Entered c.args.item c.args.pid in
-    events_arrived p.notes.items c.push_reserved.new.self.items p.heads.items p.actions.items p.done.items (note.Entered c.args.item c.args.pid) e refl c.push_reserved.ensures.items c.self.invariant.0
+    let e : Event = event.Entered c.copied_item.result c.args.pid in
+    events_arrived p.notes.items c.push_reserved.new.self.items p.heads.items p.actions.items p.done.items (note.Entered c.copied_item.result c.args.pid) e refl c.push_reserved.ensures.items c.self.invariant.0
     ∙ ap (λ (l : Log). l.events ++ e ∷ []) c.self.view_is
+    ∙ ap (λ x. c.args.self.now.events ++ event.Entered x c.args.pid ∷ []) c.copied_item.ensures

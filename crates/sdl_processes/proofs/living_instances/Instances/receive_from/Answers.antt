@@ -1,4 +1,5 @@
 use Rattle.std.proofs.Common.{◌≡◌, ◌++◌, ◌∷◌, [], List, Some, slice_get, ap, sym, subst, ◌∙◌, arith}
+use Rattle.std.proofs.lemmas.Option.{IfSome_then}
 use Rattle.indexmap.specs.Layout.{set_value_at}
 use Rattle.sdl_signal.specs.declared.values.Pid.{Pid}
 use Rattle.sdl_processes.specs.Record.{Record}
@@ -6,10 +7,10 @@ use Rattle.std.specs.Map.{values_of}
 use Rattle.sdl_processes.specs.Places.{Listed, AreBySet}
 use Rattle.sdl_processes.specs.Ready.{AreReadyCounts}
 use Rattle.sdl_processes.proofs.Entries.{set_value_at-same, wrote}
-use Rattle.sdl_processes.proofs.Readiness.{received_ready}
+use Rattle.sdl_processes.proofs.Readiness.{received_from_ready}
 use Rattle.sdl_processes.proofs.ReadyCounts.{value_alike, value_fits, value_is_ready, value_long, value_within}
 use Rattle.sdl_processes.proofs.SetPlaces.{by_set_value}
-use Rattle.sdl_processes.proofs.living_instances.Instances.receive.Goals as goal
+use Rattle.sdl_processes.proofs.living_instances.Instances.receive_from.Goals as goal
 
 pub invariant_of-self-in-Err : goal.invariant_of-self-in-Err
 invariant_of-self-in-Err c =
@@ -18,7 +19,7 @@ invariant_of-self-in-Err c =
     let v = c.pair_mut-instance.result.1.now in
     let place = c.args.place in
     let found : slice_get es place ≡ Some (k, v) = c.pair_mut-instance.ensures.value in
-    let same = sym (ap (λ (x : Record). set_value_at es place x) c.in-Err.ensures.err ∙ set_value_at-same es place (k, v) found) in (
+    let same = sym (ap (λ (x : Record). set_value_at es place x) c.in-Err.ensures.err.0 ∙ set_value_at-same es place (k, v) found) in (
       subst (λ (l : List (Pid × Record)). AreReadyCounts c.self.inside.ready (values_of l)) same c.self.invariant.0,
       subst (AreBySet c.self.inside.by_set.lists) same c.self.invariant.1,
     )
@@ -30,7 +31,7 @@ returns-in-Err-clause-err c =
     let v = c.pair_mut-instance.result.1.now in
     let place = c.args.place in
     let found : slice_get es place ≡ Some (k, v) = c.pair_mut-instance.ensures.value in
-    ap (λ (x : Record). set_value_at es place x) c.in-Err.ensures.err ∙ set_value_at-same es place (k, v) found ∙ ap (λ (l : Listed). l.entries) c.self.view_is
+    (ap (λ (x : Record). set_value_at es place x) c.in-Err.ensures.err.0 ∙ set_value_at-same es place (k, v) found ∙ ap (λ (l : Listed). l.entries) c.self.view_is, c.in-Err.ensures.err.1)
 
 pub note-requires : goal.note-requires
 note-requires c =
@@ -39,10 +40,10 @@ note-requires c =
     let v = c.pair_mut-instance.result.1.now in
     let place = c.args.place in
     let found : slice_get es place ≡ Some (k, v) = c.pair_mut-instance.ensures.value in
-    let w = c.receive.new.self in
+    let w = c.receive_from.new.self in
     let long = value_long c.self.inside.ready es place k v w found c.self.invariant.0 in
     let within = value_within c.self.inside.ready es place k v w found c.self.invariant.0 in
-    (values_of es, values_of (set_value_at es place w), c.self.invariant.0, value_is_ready c.self.inside.ready es place k v w found c.self.invariant.0 (sym c.is_ready-was_ready.ensures ∙ c.if-not-was_ready.true) (received_ready v w c.args.item c.in-Ok.ensures.ok), value_fits c.self.inside.ready es place k v w found c.self.invariant.0, omega (arith, long, within))
+    (values_of es, values_of (set_value_at es place w), c.self.invariant.0, value_is_ready c.self.inside.ready es place k v w found c.self.invariant.0 (sym c.is_ready-was_ready.ensures ∙ c.if-not-was_ready.true) (received_from_ready v w c.args.slot.now c.requires.item c.in-Ok.ensures.ok.1), value_fits c.self.inside.ready es place k v w found c.self.invariant.0, omega (arith, long, within))
 
 pub invariant_of-self : goal.invariant_of-self
 invariant_of-self c =
@@ -51,8 +52,8 @@ invariant_of-self c =
     let v = c.pair_mut-instance.result.1.now in
     let place = c.args.place in
     let found : slice_get es place ≡ Some (k, v) = c.pair_mut-instance.ensures.value in
-    let w = c.receive.new.self in (
-      c.note.ensures.counts (values_of es) (values_of (set_value_at es place w)) c.self.invariant.0 (value_is_ready c.self.inside.ready es place k v w found c.self.invariant.0 (sym c.is_ready-was_ready.ensures ∙ c.if-not-was_ready.true) (received_ready v w c.args.item c.in-Ok.ensures.ok)) (value_fits c.self.inside.ready es place k v w found c.self.invariant.0),
+    let w = c.receive_from.new.self in (
+      c.note.ensures.counts (values_of es) (values_of (set_value_at es place w)) c.self.invariant.0 (value_is_ready c.self.inside.ready es place k v w found c.self.invariant.0 (sym c.is_ready-was_ready.ensures ∙ c.if-not-was_ready.true) (received_from_ready v w c.args.slot.now c.requires.item c.in-Ok.ensures.ok.1)) (value_fits c.self.inside.ready es place k v w found c.self.invariant.0),
       by_set_value c.self.inside.by_set.lists es place k v w found c.self.invariant.1,
     )
 
@@ -63,8 +64,8 @@ invariant_of-self-else-not-was_ready c =
     let v = c.pair_mut-instance.result.1.now in
     let place = c.args.place in
     let found : slice_get es place ≡ Some (k, v) = c.pair_mut-instance.ensures.value in
-    let w = c.receive.new.self in (
-      value_alike c.self.inside.ready es place k v w found c.self.invariant.0 (received_ready v w c.args.item c.in-Ok.ensures.ok ∙ sym (sym c.is_ready-was_ready.ensures ∙ c.if-not-was_ready.false)),
+    let w = c.receive_from.new.self in (
+      value_alike c.self.inside.ready es place k v w found c.self.invariant.0 (received_from_ready v w c.args.slot.now c.requires.item c.in-Ok.ensures.ok.1 ∙ sym (sym c.is_ready-was_ready.ensures ∙ c.if-not-was_ready.false)),
       by_set_value c.self.inside.by_set.lists es place k v w found c.self.invariant.1,
     )
 
@@ -77,7 +78,7 @@ returns-then-not-was_ready-clause-ok c =
     let found : slice_get es place ≡ Some (k, v) = c.pair_mut-instance.ensures.value in
     let all = ap (λ (l : Listed). l.entries) c.self.view_is in
     let at : slice_get c.args.self.now.entries place ≡ Some (k, v) = ap (λ (l : List (Pid × Record)). slice_get l place) (sym all) ∙ found in
-    (v, at, wrote es c.args.self.now.entries place k k v v c.receive.new.self (record v { port = v.port ++ c.args.item ∷ [] }) all found at (λ same. c.in-Ok.ensures.ok))
+    IfSome_then c.args.slot.now c.in-Ok.ensures.ok.1 (λ item is. (v, at, wrote es c.args.self.now.entries place k k v v c.receive_from.new.self (record v { port = v.port ++ item ∷ [] }) all found at (λ same. is)))
 
 pub returns-else-not-was_ready-clause-ok : goal.returns-else-not-was_ready-clause-ok
 returns-else-not-was_ready-clause-ok c =
@@ -88,4 +89,4 @@ returns-else-not-was_ready-clause-ok c =
     let found : slice_get es place ≡ Some (k, v) = c.pair_mut-instance.ensures.value in
     let all = ap (λ (l : Listed). l.entries) c.self.view_is in
     let at : slice_get c.args.self.now.entries place ≡ Some (k, v) = ap (λ (l : List (Pid × Record)). slice_get l place) (sym all) ∙ found in
-    (v, at, wrote es c.args.self.now.entries place k k v v c.receive.new.self (record v { port = v.port ++ c.args.item ∷ [] }) all found at (λ same. c.in-Ok.ensures.ok))
+    IfSome_then c.args.slot.now c.in-Ok.ensures.ok.1 (λ item is. (v, at, wrote es c.args.self.now.entries place k k v v c.receive_from.new.self (record v { port = v.port ++ item ∷ [] }) all found at (λ same. is)))

@@ -1,0 +1,4 @@
+//! Copies of signals and items, which take no memory.
+#![tactic(auto)]
+
+pub mod copies;
