@@ -2,6 +2,7 @@
 #![tactic(auto)]
 
 mod kinds;
+mod lead;
 mod pace;
 mod scope;
 mod told;

@@ -1,6 +1,7 @@
 //! One worker's loop, and how it comes to rest.
 ghost use Rattle.sdl_threads.specs.Back.{ComesFrom};
 
+use crate::lead::Lead;
 use crate::told::{ASLEEP, LISTENING, Told};
 use crate::work::{Returned, Stepped, Work};
 use crossbeam_utils::Backoff;
@@ -79,6 +80,9 @@ const LATE_YIELDS: u32 = 2;
 /// The processors are crowded where twice in a row fewer pauses than these lay between two in which a sleep ended by itself.
 const FEW_PAUSES: u32 = 16;
 
+/// How many steps a worker makes without a look at the handle by which its loop goes on for ever.
+const STEPS_AT_ONCE: u32 = 64;
+
 /// How far a worker has come to rest.
 #[derive(Drop)]
 struct Idling {
@@ -92,6 +96,8 @@ struct Idling {
     untold_steps: u32,
     /// After how many such steps it wakes them.
     most_untold: u32,
+    /// How far it is ahead of them.
+    lead: Lead,
     /// How many of its steps did something since somebody waits for room where it takes.
     room_steps: u32,
     /// Its pauses since it last got up.
@@ -134,6 +140,7 @@ impl Idling {
             untold: Marks::none(),
             untold_steps: 0,
             most_untold: FIRST_UNTOLD,
+            lead: Lead::new(),
             room_steps: 0,
             pause: Backoff::new(),
             yields: 0,
@@ -230,6 +237,33 @@ impl Idling {
                 self.gives_room(told);
             }
         }
+    }
+
+    /// A step put something at the stations with these marks, or put nothing.
+    fn puts(&mut self, stations: Marks) {
+        self.untold.join(stations);
+        self.lead.grows(stations);
+    }
+
+    /// Where it is far ahead, it sleeps until somebody that takes what it put has made steps, or has nothing more to do. So those have
+    /// a processor sooner, where there are fewer than workers. Who is about to sleep so wakes those that it waits for: where all wait
+    /// for one another, one of them is awake.
+    fn lets_catch_up<R: Wait>(&mut self, rt: &R, told: &Told) {
+        if !self.lead.is_long(told) {
+            return;
+        }
+        let stations = self.lead.stations();
+        self.shows(told);
+        self.gives_room(told);
+        if told.asks_room_alone(stations, self.mark) {
+            self.tells(told);
+            told.wakes_each(stations);
+            if self.nods_off(told) && told.is_room_asked_by(stations, self.mark) {
+                told.waits(self.mark);
+                told.sleeps(rt, self.mark, LISTENING, 1);
+            }
+        }
+        self.lead.shrinks(told);
     }
 
     /// Shows how many of its steps did something. So it does now and then, as a store that others see takes its time.
@@ -401,34 +435,39 @@ pub(crate) fn drive<W: Work, G: Gate, R: Wait>(
     let mut idling = Idling::new(mark);
     let mut step = 0u64;
     for _ in rt.forever() {
-        let flushed = worker.flush();
-        let asks = worker.asks_outside();
-        let may_ask = !asks || (flushed && idling.may_ask(told));
-        let counts = may_ask || !flushed;
-        if counts {
-            gate.before(number, step);
-        }
-        let pick = (step % 4_294_967_296) as u32;
-        let stepped = worker.step(rt, structure, routes, pick, may_ask);
-        if counts {
-            step = step.saturating_add(1);
-        }
-        idling.untold.join(worker.touched());
-        match stepped {
-            Stepped::Did => idling.stirs(told, may_ask),
-            Stepped::Idle if !flushed => idling.waits(rt, told),
-            Stepped::Idle if asks => idling.listens(rt, told),
-            Stepped::Idle => idling.rests(rt, told),
-            Stepped::Memory => {
-                told.stop();
-                return Returned::Refused(worker);
+        for _ in 0..STEPS_AT_ONCE {
+            let flushed = worker.flush();
+            let asks = worker.asks_outside();
+            let may_ask = !asks || (flushed && idling.may_ask(told));
+            let counts = may_ask || !flushed;
+            if counts {
+                gate.before(number, step);
             }
-        }
-        if worker.is_spent() {
-            told.stop();
-        }
-        if told.is_stopped() {
-            break;
+            let pick = (step % 4_294_967_296) as u32;
+            let stepped = worker.step(rt, structure, routes, pick, may_ask);
+            if counts {
+                step = step.saturating_add(1);
+            }
+            idling.puts(worker.touched());
+            match stepped {
+                Stepped::Did => {
+                    idling.stirs(told, may_ask);
+                    idling.lets_catch_up(rt, told);
+                }
+                Stepped::Idle if !flushed => idling.waits(rt, told),
+                Stepped::Idle if asks => idling.listens(rt, told),
+                Stepped::Idle => idling.rests(rt, told),
+                Stepped::Memory => {
+                    told.stop();
+                    return Returned::Refused(worker);
+                }
+            }
+            if worker.is_spent() {
+                told.stop();
+            }
+            if told.is_stopped() {
+                return Returned::Ran(worker);
+            }
         }
     }
     Returned::Ran(worker)

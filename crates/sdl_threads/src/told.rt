@@ -184,6 +184,38 @@ impl Told {
         }
     }
 
+    /// The same, but at none where another waits. False where one does.
+    pub(crate) fn asks_room_alone(&self, stations: Marks, mark: u32) -> bool {
+        let mut left = stations;
+        let mut alone = true;
+        for _ in 0..MARKS {
+            match left.pop() {
+                Some(station) => {
+                    let asked = self
+                        .room(station)
+                        .compare_exchange(0, mark as u64 + 1, SeqCst, SeqCst);
+                    alone = alone && asked.is_ok();
+                }
+                None => break,
+            }
+        }
+        alone
+    }
+
+    /// Whether the worker with this mark still waits for room at each of the stations with these marks.
+    pub(crate) fn is_room_asked_by(&self, stations: Marks, mark: u32) -> bool {
+        let mut left = stations;
+        for _ in 0..MARKS {
+            match left.pop() {
+                Some(station) => if self.room(station).load(SeqCst) != mark as u64 + 1 {
+                    return false;
+                }
+                None => break,
+            }
+        }
+        true
+    }
+
     /// Whether somebody waits for room at the station with this mark.
     pub(crate) fn is_room_asked(&self, station: u32) -> bool {
         self.room(station).load(SeqCst) != 0
@@ -270,6 +302,22 @@ impl Told {
     /// So many steps of the worker with this mark did something.
     pub(crate) fn shows_steps(&self, mark: u32, steps: u64) {
         self.moved[mark as usize % MARKS].store(steps, Relaxed);
+    }
+
+    /// How many steps did something of the workers that take at the stations with these marks.
+    pub(crate) fn steps_at(&self, stations: Marks) -> u64 {
+        let mut left = stations;
+        let mut steps: u64 = 0;
+        for _ in 0..MARKS {
+            match left.pop() {
+                Some(station) => {
+                    let made = self.moved[station as usize % MARKS].load(Relaxed);
+                    steps = steps.wrapping_add(made);
+                }
+                None => break,
+            }
+        }
+        steps
     }
 
     /// How many steps of the workers with other marks did something.
