@@ -77,16 +77,18 @@ impl Gate for Holding {
 }
 
 /// In Relay, the first step of the forwarder of `sa`, which leads from the gate `left` to L, waits until the environment was about
-/// to make 201 steps.
+/// to make so many steps.
 #[derive(Drop)]
 pub struct HeldPath {
+    steps: u64,
     pub came: AtomicU64,
     pub met: AtomicU64,
 }
 
 impl HeldPath {
-    pub fn new() -> HeldPath {
+    pub fn new(steps: u64) -> HeldPath {
         HeldPath {
+            steps,
             came: AtomicU64::new(0),
             met: AtomicU64::new(0),
         }
@@ -97,7 +99,7 @@ impl Gate for HeldPath {
     fn before(&self, worker: u32, step: u64) {
         if worker == 2 {
             self.came.fetch_add(1, SeqCst);
-        } else if worker == 3 && step == 0 && waits_for(&self.came, 201) {
+        } else if worker == 3 && step == 0 && waits_for(&self.came, self.steps) {
             self.met.fetch_add(1, SeqCst);
         }
     }

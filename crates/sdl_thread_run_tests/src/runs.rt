@@ -6,6 +6,7 @@ use crate::plan::{Logs, lines};
 use sdl_run::{Ledger, RunEnd};
 use sdl_test_systems::Stop;
 use std::alloc::Global;
+use std::process::Abort;
 use std::sync::atomic::AtomicU64;
 use std::sync::atomic::Ordering::SeqCst;
 use std::sync::{Arc, Wait};
@@ -56,26 +57,47 @@ fn threads_carry_signals_and_make_turns(rt: HostRuntime) -> Result<(), Fail> {
     Ok(())
 }
 
-/// What is put while the forwarder of the first path is held waits in its ring and behind it.
-#[test]
-fn two_hundred_lines_come_in_their_order_behind_a_held_forwarder(
-    rt: HostRuntime,
-) -> Result<(), Fail> {
-    let held = HeldPath::new();
-    let calls = Arc::new(rt.alloc(), AtomicU64::new(0))?;
-    let input = lines(rt.alloc(), ["left put", "left put"], 1..201)?;
+/// Runs Relay on so many lines to the left, of which each is to come in its order, while the forwarder of the first path is held
+/// until the environment has read them all.
+fn come_behind_a_held_forwarder<T: Threads + Wait + Sync + Abort>(
+    rt: &T,
+    alloc: Global,
+    count: u32,
+) -> Result<(), Stop> {
+    let end = count.saturating_add(1);
+    let held = HeldPath::new(u64::from(end));
+    let calls = Arc::new(alloc, AtomicU64::new(0))?;
+    let input = lines(alloc, ["left put", "left put"], 1..end)?;
     let left = counted::run(
-        &rt,
-        rt.alloc(),
+        rt,
+        alloc,
         &calls,
         input.as_slice(),
         Some(&held),
         Logs::Stored,
     )?;
     assert!(rt; held.met.load(SeqCst) == 1);
-    let wanted = lines(rt.alloc(), ["sink out", "sink out"], 1..201)?;
+    let wanted = lines(alloc, ["sink out", "sink out"], 1..end)?;
     assert!(rt; left.written.as_slice() == wanted.as_slice());
     assert!(rt; left.end == RunEnd::Quiet);
+    Ok(())
+}
+
+/// What is put while the forwarder of the first path is held waits in its ring and behind it.
+#[test]
+fn two_hundred_lines_come_in_their_order_behind_a_held_forwarder(
+    rt: HostRuntime,
+) -> Result<(), Fail> {
+    come_behind_a_held_forwarder(&rt, rt.alloc(), 200)?;
+    Ok(())
+}
+
+/// The environment comes so far ahead of it that it lets it catch up, and goes on as it does not.
+#[test]
+fn three_thousand_lines_come_in_their_order_behind_a_held_forwarder(
+    rt: HostRuntime,
+) -> Result<(), Fail> {
+    come_behind_a_held_forwarder(&rt, rt.alloc(), 3_000)?;
     Ok(())
 }
 
