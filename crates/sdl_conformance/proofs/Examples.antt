@@ -1,11 +1,13 @@
 -- An offer that goes on, one that stops and one that cannot end; and the step that does nothing.
-use Rattle.std.proofs.Common.{arith, Bool, true, false, List, [], ◌∷◌, ◌≡◌, None, refl, sym, inl, inr}
+use Rattle.std.proofs.Common.{arith, Bool, true, false, List, [], ◌∷◌, ◌≡◌, None, length, refl, ap, sym, inl, inr}
 use Rattle.sdl_signal.specs.declared.ids.StateId.{StateId}
 use Rattle.sdl_behaviour.specs.declared.offer.Offer.{Offer}
 use Rattle.sdl_behaviour.specs.declared.step.Frame.{Frame}
 use Rattle.sdl_behaviour.specs.declared.step.Next.{Next}
 use Rattle.sdl_behaviour.specs.declared.step.Next.TheVariants.{State, Stop}
 use Rattle.sdl_behaviour.specs.declared.step.Step.{Step}
+use Rattle.sdl_behaviour.specs.declared.step.Action.{Action}
+use Rattle.sdl_behaviour.specs.Offers.{IsBlank}
 use Rattle.sdl_conformance.specs.Stay.{CanEnd, DoesNothing}
 
 abbrev idle : StateId
@@ -50,3 +52,10 @@ does_not_stop frame n = let f : Stop ≡ State busy = n.next in cc
 -- without next states it stops
 pub stops_alone : (frame : Frame) → frame.vars.items ≡ [] → DoesNothing (offer [] true) frame (nothing Stop)
 stops_alone frame e = record { actions = refl; vars = sym e; next = refl }
+
+-- into which nothing was put yet, whatever its end
+pub unfilled : (next : Next) → IsBlank (nothing next)
+unfilled next = record { actions = refl; vars = refl }
+
+pub filled : (a : Action) → IsBlank (record (nothing Stop) { actions = record { items = a ∷ [] } }) → ⊥
+filled a blank = let n : length (a ∷ []) ≡ 0 = ap length blank.actions in omega (arith, n)

@@ -1,5 +1,5 @@
 -- Worked lines, on the names of Echo.
-use Rattle.std.proofs.Common.{◌≡◌, ℕ, ap, zero, suc, get_or, ◌++◌, ◌<◌, [], ◌∷◌, Some, None, refl, codes, arith, pos, inl, inr}
+use Rattle.std.proofs.Common.{◌≡◌, ℕ, ap, zero, suc, get_or, ◌++◌, ◌<◌, [], ◌∷◌, Some, None, length, refl, codes, arith, pos, inl, inr}
 use Rattle.std.specs.Fmt.{digits}
 use Rattle.sdl_signal.specs.declared.values.Sort.TheVariants as sort
 use Rattle.sdl_signal.specs.declared.values.Pid.TheVariants as pid
@@ -8,7 +8,7 @@ use Rattle.sdl_signal.specs.declared.values.EnvLine.{EnvLine}
 use Rattle.sdl_signal.specs.declared.reading.LineFault.TheVariants.{NotAscii, Missing, UnknownGate, WrongCount}
 use Rattle.sdl_signal.specs.Names.{Lexicon, is_name}
 use Rattle.sdl_signal.specs.Line.{line_text}
-use Rattle.sdl_signal.specs.Reading.{Fails}
+use Rattle.sdl_signal.specs.Reading.{Fails, IsBlankLine}
 use Rattle.std.specs.Prelude.{true, false}
 
 abbrev pub echo : Lexicon
@@ -62,3 +62,10 @@ door_unknown h = not_line h.0 h.1 h.2
 -- a carriage return is no character of a line
 pub return_not_ascii : Fails echo (codes "line ping 7" ++ 13 ∷ []) NotAscii
 return_not_ascii = (11, 13, omega arith, refl, inl (omega arith))
+
+-- a line into which a text can be read
+pub ping_alone_blank : IsBlankLine (record ping_seven { signal = record { id = record { 0 = 0 }; params = record { items = [] } } })
+ping_alone_blank = (refl, refl)
+
+pub ping_seven_filled : IsBlankLine ping_seven → ⊥
+ping_seven_filled blank = let n : length (value.Integer (pos 7) ∷ []) ≡ 0 = ap length blank.0 in omega (arith, n)
