@@ -26,7 +26,12 @@ impl Entry {
         if self.numbers.is_empty() {
             return None;
         }
-        let place = pick as usize % self.numbers.len();
+        // mostly there is one, and no division
+        let place = if self.numbers.len() == 1 {
+            0
+        } else {
+            pick as usize % self.numbers.len()
+        };
         Some(RouteId(self.numbers[place]))
     }
 
