@@ -47,9 +47,14 @@ pub enum Action {
     Create(SetId),
 }
 
+// It only fills lists. Its bytes are zeros, which are written at once.
 impl Default for Action {
     fn default() -> Self {
-        Action::Create(SetId(0))
+        Action::Output {
+            signal: Signal::default(),
+            dest: Dest::Anywhere,
+            via: Via::Any,
+        }
     }
 }
 

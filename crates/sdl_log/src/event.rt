@@ -42,9 +42,10 @@ pub enum Done {
     Made(Pid),
 }
 
+// It only fills lists. Its bytes are zeros, which are written at once.
 impl Default for Done {
     fn default() -> Self {
-        Done::Made(Pid::Null)
+        Done::Sent(Item::default())
     }
 }
 

@@ -1,14 +1,15 @@
 //! A log that is stored whole.
-ghost use Rattle.std.specs.Prelude.{◌≡◌, []};
-ghost use Rattle.sdl_log.specs.Filled.{IsUnfilled, filled};
+ghost use Rattle.std.specs.Prelude.{◌≡◌, [], Some};
+ghost use Rattle.sdl_log.specs.declared.event.Event.TheVariants as event;
+ghost use Rattle.sdl_log.specs.Filled.{IsUnfilled};
 
 use crate::copies::copied_frame;
 use crate::event::{Cause, Done, Event, Trigger};
 use crate::keeps::Keeps;
 use arrayvec::ArrayVec;
-use sdl_behaviour::{Frame, Step};
-use sdl_copies::copies::copied_item;
-use sdl_signal::{Item, Pid};
+use sdl_behaviour::{Frame, Next, Step};
+use sdl_copies::copies::{add_values, copied_item, copied_signal};
+use sdl_signal::{Item, Pid, StateId};
 use std::alloc::{AllocError, Global};
 
 /// Moves all items of one list into an empty one.
@@ -24,22 +25,82 @@ fn move_all<T: Default + Drop>(from: &mut ArrayVec<T, 8>, to: &mut ArrayVec<T, 8
     }
 }
 
-/// Moves what the transition answered and what its actions did into the event of a turn that has neither yet.
+/// Writes the frame where a blank one stands.
 #[inline(always)]
-fn move_in(event: &mut Event, step: &mut Step, done: &mut ArrayVec<Done, 8>)
-    requires { IsUnfilled event.old }
-    ensures { event.new ≡ filled event.old step.old done.old.items }
+fn write_frame(to: &mut Frame, frame: &Frame)
+    requires { to.old.vars.items ≡ [] }
+    ensures { to.new ≡ frame.now }
 {
-    match event {
+    to.self_pid = frame.self_pid;
+    to.parent = frame.parent;
+    to.offspring = frame.offspring;
+    to.sender = frame.sender;
+    to.state = frame.state;
+    add_values(&mut to.vars, frame.vars.as_slice());
+    to.signal = match &frame.signal {
+        Some(signal) => Some(copied_signal(signal)),
+        None => None,
+    };
+}
+
+/// The event of a turn whose parts are yet to be written. Its bytes are next to all zeros, so that one fill of them writes it.
+fn unfilled() -> Event
+    ensures { IsUnfilled result }
+{
+    Event::Turn {
+        pid: Pid::Null,
+        trigger: Trigger::Start,
+        frame: Frame {
+            self_pid: Pid::Null,
+            parent: Pid::Null,
+            offspring: Pid::Null,
+            sender: Pid::Null,
+            state: None,
+            vars: ArrayVec::new(),
+            signal: None,
+        },
+        step: Some(Step {
+            actions: ArrayVec::new(),
+            vars: ArrayVec::new(),
+            next: Next::State(StateId(0)),
+        }),
+        done: ArrayVec::new(),
+        stopped: None,
+    }
+}
+
+/// Writes the parts of a turn where they are yet to be written. What the transition answered and what its actions did is moved.
+#[inline(always)]
+fn fill(
+    blank: &mut Event,
+    pid: Pid,
+    trigger: Trigger,
+    frame: &Frame,
+    step: &mut Step,
+    done: &mut ArrayVec<Done, 8>,
+    stopped: Option<u64>,
+)
+    requires { IsUnfilled blank.old }
+    ensures { blank.new ≡ event.Turn pid trigger frame.now (Some step.old) done.old stopped }
+{
+    match blank {
         Event::Turn {
+            pid: who,
+            trigger: begun,
+            frame: shown,
             step: answer,
             done: list,
-            ..
+            stopped: dropped,
         } => match answer {
             Some(kept) => {
+                *who = pid;
+                *begun = trigger;
+                write_frame(shown, frame);
                 move_all(&mut step.actions, &mut kept.actions);
                 move_all(&mut step.vars, &mut kept.vars);
+                kept.next = step.next;
                 move_all(done, list);
+                *dropped = stopped;
             }
             None => unreachable!(),
         },
@@ -82,21 +143,9 @@ impl Keeps for Vec<Event> {
         done: &mut ArrayVec<Done, 8>,
         stopped: Option<u64>,
     ) {
-        let next = step.next;
-        self.push_reserved(Event::Turn {
-            pid,
-            trigger,
-            frame: copied_frame(frame),
-            step: Some(Step {
-                actions: ArrayVec::new(),
-                vars: ArrayVec::new(),
-                next,
-            }),
-            done: ArrayVec::new(),
-            stopped,
-        });
+        self.push_reserved(unfilled());
         let last = self.len() - 1;
-        move_in(&mut self[last], step, done);
+        fill(&mut self[last], pid, trigger, frame, step, done, stopped);
     }
 
     fn skip(&mut self, frame: &Frame, item: Item) {
