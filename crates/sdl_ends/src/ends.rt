@@ -180,6 +180,7 @@ impl Ends {
 
 /// Flushes each of these feeds, and says whether no backlog is left.
 #[tactic(auto, using(crate::proofs::Flushed::all_clear))]
+#[inline(always)]
 fn flush_all(feeds: &mut Vec<(Station, Option<AnyFeed>)>) -> bool
     ensures flushed { AreFlushed feeds.old.items feeds.new.items }
     ensures empty { IsTrue result ↔ AllByRecursion IsClearAt feeds.new.items }

@@ -40,19 +40,22 @@ impl Lead {
         self.stations
     }
 
-    /// A step put something at the stations with these marks, or put nothing.
+    /// A step put something at the stations with these marks.
+    #[inline(always)]
     pub(crate) fn grows(&mut self, stations: Marks) {
-        if !stations.is_empty() {
-            self.stations.join(stations);
-            self.steps = self.steps.saturating_add(1);
-        }
+        self.stations.join(stations);
+        self.steps = self.steps.saturating_add(1);
     }
 
     /// Whether the worker is to let others catch up now. It looks now and then.
+    #[inline(always)]
     pub(crate) fn is_long(&self, told: &Told) -> bool {
-        if self.steps % LOOK_BACK_STEPS != 0 {
-            return false;
-        }
+        self.steps % LOOK_BACK_STEPS == 0 && self.is_far(told)
+    }
+
+    /// Whether it is so far ahead.
+    #[inline(never)]
+    fn is_far(&self, told: &Told) -> bool {
         let put = self.steps.saturating_sub(self.steps_before);
         let taken = told.steps_at(self.stations).wrapping_sub(self.taken_before);
         put > taken.saturating_add(MOST_AHEAD)

@@ -108,6 +108,10 @@ struct Idling {
     usual_yields: u32,
     /// How often it looked since its last yield.
     looks: u32,
+    /// It has paused, or said that it is about to sleep, since it last did something.
+    has_paused: bool,
+    /// How many of its steps had done something when it last went on after that.
+    steps_before: u64,
     /// How many pauses it made since the last one in which a sleep ended by itself.
     short_pauses: u32,
     /// There were few before that one.
@@ -146,6 +150,8 @@ impl Idling {
             yields: 0,
             usual_yields: 0,
             looks: 0,
+            has_paused: false,
+            steps_before: 0,
             short_pauses: 0,
             doubts: false,
             steps: 0,
@@ -201,12 +207,33 @@ impl Idling {
     }
 
     /// A step did something, when the worker might ask outside the system, or might not.
+    #[inline(always)]
     fn stirs(&mut self, told: &Told, might_ask: bool) {
         if might_ask {
             self.free_steps = self.free_steps.saturating_add(1);
         } else {
             self.held_steps = self.held_steps.saturating_add(1);
         }
+        self.steps = self.steps.saturating_add(1);
+        self.untold_steps = self.untold_steps.saturating_add(1);
+        if self.has_paused {
+            self.goes_on(told);
+        }
+        if self.untold_steps >= self.most_untold {
+            self.tells_in_between(told);
+        } else if told.has_deep_sleepers() {
+            self.tells(told);
+        }
+        if self.steps % SHOWN_STEPS == 0 {
+            self.shows_on(told);
+        }
+    }
+
+    /// It did something again, after it paused. How often it usually yields before it does is an average over the last times, where
+    /// it paused again soon.
+    #[inline(never)]
+    fn goes_on(&mut self, told: &Told) {
+        self.has_paused = false;
         if !self.awake {
             told.gets_up(self.mark);
             self.awake = true;
@@ -214,25 +241,32 @@ impl Idling {
             self.rests = 0;
             self.sleeps_deeply(told, false);
         }
-        let earlier = self.usual_yields - self.usual_yields / 4;
+        let earlier = if self.steps.wrapping_sub(self.steps_before) > SHOWN_STEPS {
+            0
+        } else {
+            self.usual_yields - self.usual_yields / 4
+        };
+        self.steps_before = self.steps;
         self.usual_yields = earlier.saturating_add(self.yields);
         self.yields = 0;
         self.looks = 0;
         self.naps = 0;
         self.still_naps = 0;
-        self.steps = self.steps.saturating_add(1);
-        if self.steps.wrapping_sub(self.shown) >= SHOWN_STEPS {
-            self.shows(told);
-        }
-        self.untold_steps = self.untold_steps.saturating_add(1);
-        if self.untold_steps >= self.most_untold {
-            self.most_untold = MOST_UNTOLD.min(self.most_untold.saturating_mul(2));
-            self.tells(told);
-        } else if told.has_deep_sleepers() {
-            self.tells(told);
-        }
+    }
+
+    /// It made many steps since it woke those that take what it put.
+    #[inline(never)]
+    fn tells_in_between(&mut self, told: &Told) {
+        self.most_untold = MOST_UNTOLD.min(self.most_untold.saturating_mul(2));
+        self.tells(told);
+    }
+
+    /// Now and then it shows its steps, and looks whether somebody waits for room where it takes.
+    #[inline(never)]
+    fn shows_on(&mut self, told: &Told) {
+        self.shows(told);
         if told.is_room_asked(self.mark) {
-            self.room_steps = self.room_steps.saturating_add(1);
+            self.room_steps = self.room_steps.saturating_add(SHOWN_STEPS as u32);
             if self.room_steps >= MOST_ROOM {
                 self.gives_room(told);
             }
@@ -240,18 +274,29 @@ impl Idling {
     }
 
     /// A step put something at the stations with these marks, or put nothing.
+    #[inline(always)]
     fn puts(&mut self, stations: Marks) {
-        self.untold.join(stations);
-        self.lead.grows(stations);
+        if !stations.is_empty() {
+            self.untold.join(stations);
+            self.lead.grows(stations);
+        }
     }
 
     /// Where it is far ahead, it sleeps until somebody that takes what it put has made steps, or has nothing more to do. So those have
     /// a processor sooner, where there are fewer than workers. Who is about to sleep so wakes those that it waits for: where all wait
     /// for one another, one of them is awake.
+    #[inline(always)]
     fn lets_catch_up<R: Wait>(&mut self, rt: &R, told: &Told) {
         if !self.lead.is_long(told) {
             return;
         }
+        self.falls_back(rt, told);
+    }
+
+    /// It lets those that take what it put catch up.
+    #[inline(never)]
+    fn falls_back<R: Wait>(&mut self, rt: &R, told: &Told) {
+        self.has_paused = true;
         let stations = self.lead.stations();
         self.shows(told);
         self.gives_room(told);
@@ -292,6 +337,7 @@ impl Idling {
 
     /// A step did nothing, but what the worker put still waits for room. It is not at rest, and sleeps until there is some.
     fn waits<R: Wait>(&mut self, rt: &R, told: &Told) {
+        self.has_paused = true;
         told.wakes_each(self.untold);
         self.shows(told);
         self.gives_room(told);
@@ -308,6 +354,7 @@ impl Idling {
 
     /// A step did nothing, as the worker may not ask yet. It is not at rest, and sleeps until the others are.
     fn listens<R: Wait>(&mut self, rt: &R, told: &Told) {
+        self.has_paused = true;
         self.tells(told);
         self.shows(told);
         self.gives_room(told);
@@ -321,6 +368,7 @@ impl Idling {
 
     /// A step did nothing. The worker comes to rest.
     fn rests<R: Wait>(&mut self, rt: &R, told: &Told) {
+        self.has_paused = true;
         self.tells(told);
         self.shows(told);
         self.gives_room(told);
