@@ -57,6 +57,8 @@ impl<S: Agents, K: Keeps> Driver<S, K> {
     }
 
     /// Lets a block make a step.
+    // by itself, as the environment's is, so that the loop over forwarders, whose steps are short, is no longer than they need
+    #[inline(never)]
     fn step_block(&mut self, block: usize, pick: u32) -> Stepped
         requires driving { IsDriving S.may self.old }
         requires within { block < length self.old.blocks.items }
@@ -69,6 +71,7 @@ impl<S: Agents, K: Keeps> Driver<S, K> {
     }
 
     /// Lets a forwarder make a step.
+    #[inline(always)]
     fn step_forwarder(&mut self, forwarder: usize) -> Forwarded
         requires driving { IsDriving S.may self.old }
         requires within { forwarder < length self.old.forwarders.items }
@@ -80,6 +83,7 @@ impl<S: Agents, K: Keeps> Driver<S, K> {
     }
 
     /// Lets the environment make a step.
+    #[inline(never)]
     fn step_environment<R: Read, W: Write>(
         &mut self,
         pick: u32,
@@ -104,6 +108,7 @@ impl<S: Agents, K: Keeps> Driver<S, K> {
     }
 
     /// Lets the worker of this number make a step.
+    #[inline(always)]
     fn step<R: Read, W: Write>(
         &mut self,
         number: u32,
