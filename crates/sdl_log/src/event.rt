@@ -42,10 +42,11 @@ pub enum Done {
     Made(Pid),
 }
 
-// It only fills lists. Its bytes are zeros, which are written at once.
+// It only fills lists. Its bytes are not all zeros, so that an event's are not filled by one call of the C library, which is slower
+// for so many than stores are.
 impl Default for Done {
     fn default() -> Self {
-        Done::Sent(Item::default())
+        Done::Made(Pid::Null)
     }
 }
 

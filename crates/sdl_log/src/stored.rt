@@ -43,7 +43,7 @@ fn write_frame(to: &mut Frame, frame: &Frame)
     };
 }
 
-/// The event of a turn whose parts are yet to be written. Its bytes are next to all zeros, so that one fill of them writes it.
+/// The event of a turn whose parts are yet to be written.
 fn unfilled() -> Event
     ensures { IsUnfilled result }
 {
