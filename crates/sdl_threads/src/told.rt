@@ -134,9 +134,10 @@ impl Told {
         }
     }
 
-    /// The worker with this mark is about to sleep. False where it said so before, and nobody woke it since.
+    /// The worker with this mark is about to sleep. False where it said so before, and nobody woke it since. Who waited for the
+    /// others or for room, until that sleep ended by itself, says so anew.
     pub(crate) fn nods_off(&self, mark: u32) -> bool {
-        self.moves(mark, AWAKE, DROWSY)
+        self.moves(mark, AWAKE, DROWSY) || self.moves(mark, LISTENING, DROWSY)
     }
 
     /// The worker with this mark, which was about to sleep, comes to rest, unless somebody woke it. All are told to stop where it
@@ -149,7 +150,7 @@ impl Told {
         if others.wrapping_add(1) >= self.all_rest() {
             self.stop();
         } else if others.wrapping_add(2) >= self.all_rest() {
-            self.wakes_listener();
+            self.wakes_listener(mark);
         }
     }
 
@@ -161,9 +162,10 @@ impl Told {
         }
     }
 
-    fn wakes_listener(&self) {
+    /// Wakes the one that listens, where it is another than the worker with this mark.
+    fn wakes_listener(&self, mark: u32) {
         let listener = self.listener.load(SeqCst);
-        if listener != 0 {
+        if listener != 0 && listener != mark as u64 + 1 {
             self.wakes(((listener - 1) % MARKS as u64) as u32);
         }
     }
