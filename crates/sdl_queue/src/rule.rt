@@ -8,8 +8,8 @@ use std::collections::LinkedList;
 /// An item with the number of the feeder that put it.
 #[derive(Drop)]
 pub struct Tagged {
-    pub feeder: u32,
     pub item: Item,
+    pub feeder: u32,
 }
 
 /// What one feeder put, in order.
