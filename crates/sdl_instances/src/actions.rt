@@ -80,7 +80,10 @@ pub fn act_all<S: Agents>(
         let one = act(living, sets, actor, action, mark);
         let next = mark.after(&one);
         done.push(one);
-        act_all(living, sets, actor, rest, next, done);
+        // (mostly there is one action, and no call is made for none)
+        if !rest.is_empty() {
+            act_all(living, sets, actor, rest, next, done);
+        }
     }
 }
 

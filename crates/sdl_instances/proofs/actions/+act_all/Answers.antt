@@ -34,8 +34,8 @@ act_all-requires g t c κs within =
       ),
     )
 
-pub returns-in-Some : goal.returns-in-Some
-returns-in-Some g t c =
+pub returns-then-not-is_empty : goal.returns-then-not-is_empty
+returns-then-not-is_empty g t c =
     let first = c.in-Some.ensures.cases in
     let may = g.S.Agents.may in
     let sets = c.args.sets.now in
