@@ -111,34 +111,24 @@ fn add_copy(sent: &mut ArrayVec<Item, 8>, item: &Item)
     );
 }
 
-/// Adds the items that were sent, in order.
+/// Adds the items that were sent, in order, and says how many outputs there were, those that no route fits included.
 #[inline(always)]
-pub fn add_sent(done: &[Done], sent: &mut ArrayVec<Item, 8>)
+pub fn add_sent(done: &[Done], sent: &mut ArrayVec<Item, 8>) -> u64
     requires { length sent.old.items + length done.now ≤ 8 }
-    ensures { sent.new.items ≡ sent.old.items ++ flat_map sent_by done.now }
-{
-    if let Some((one, rest)) = done.split_first() {
-        if let Done::Sent(item) = one {
-            add_copy(sent, item);
-        }
-        add_sent(rest, sent);
-    }
-}
-
-/// The number of outputs, those that no route fits included.
-pub fn number_of_outputs(done: &[Done]) -> u64
+    ensures items { sent.new.items ≡ sent.old.items ++ flat_map sent_by done.now }
     ensures counted { result ≡ length (flat_map origin_by done.now) }
     ensures few { result ≤ length done.now }
 {
-    match done.split_first() {
-        Some((one, rest)) => {
-            let others = number_of_outputs(rest);
-            match one {
-                Done::Made(_) => others,
-                Done::Sent(_) => others + 1,
-                Done::NoRoute(_, _) => others + 1,
-            }
+    let Some((one, rest)) = done.split_first() else {
+        return 0;
+    };
+    let output = match one {
+        Done::Sent(item) => {
+            add_copy(sent, item);
+            1
         }
-        None => 0,
-    }
+        Done::NoRoute(_, _) => 1,
+        Done::Made(_) => 0,
+    };
+    output + add_sent(rest, sent)
 }

@@ -133,11 +133,13 @@ impl<K: Keeps> Table<K> {
         ensures err { OnErr result ((slot.new ≡ slot.old) × (self.new.core ≡ self.old.core)) }
     {
         self.log.make_room()?;
+        let Some(item) = &*slot else { unreachable!() };
+        let stamp = self.stamp.max(item.stamp + 1);
         let pid = self.living.instances.receive_from(place, slot)?;
+        self.stamp = stamp;
         // The log reads the item where it now stands, so that none is copied or moved for it.
-        let item = self.living.instances.last_received(place);
-        self.stamp = self.stamp.max(item.stamp + 1);
-        self.log.enter(item, pid);
+        self.log
+            .enter(self.living.instances.last_received(place), pid);
         Ok(pid)
     }
 

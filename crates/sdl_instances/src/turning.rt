@@ -13,7 +13,7 @@ ghost use Rattle.sdl_instances.specs.Core.{system_of};
 ghost use Rattle.sdl_instances.specs.Living.{StandsAt, CanAct, CanCarryOut, next_frame};
 ghost use Rattle.sdl_instances.specs.Turning.{Completes, Consumes};
 
-use crate::actions::{Actor, act_all, add_sent, number_of_outputs};
+use crate::actions::{Actor, act_all, add_sent};
 use crate::outputs::Mark;
 use crate::table::Table;
 use arrayvec::ArrayVec;
@@ -103,8 +103,7 @@ impl<K: Keeps> Table<K> {
             &mut self.done,
         );
         let stopped = self.living.finish(actor.place, &step.vars, step.next);
-        add_sent(self.done.as_slice(), hand);
-        self.outputs += number_of_outputs(self.done.as_slice());
+        self.outputs += add_sent(self.done.as_slice(), hand);
         self.made += 1;
         let pid = frame.self_pid;
         self.log

@@ -79,40 +79,31 @@ impl Counts {
             Trigger::Fire(_) => self.fired += 1,
             Trigger::Implicit(_) => self.implicit += 1,
         }
-        self.output += number_of_outputs(done.as_slice()) as u128;
-        self.no_route += number_without_route(done.as_slice()) as u128;
+        let (outputs, no_route) = numbers_of_outputs(done.as_slice());
+        self.output += outputs as u128;
+        self.no_route += no_route as u128;
         if let Some(dropped) = stopped {
             self.stopped += dropped as u128;
         }
     }
 }
 
-/// The number of outputs, with or without a route.
-fn number_of_outputs(done: &[Done]) -> u64
-    ensures counted { result ≡ sum_by output_by done.now }
-    ensures few { result ≤ length done.now }
+/// The number of outputs, with or without a route, and of those that no route fits.
+fn numbers_of_outputs(done: &[Done]) -> (u64, u64)
+    ensures outputs { (result.0 ≡ sum_by output_by done.now) × (result.0 ≤ length done.now) }
+    ensures no_route { (result.1 ≡ sum_by no_route_by done.now) × (result.1 ≤ length done.now) }
 {
     let mut outputs: u64 = 0;
+    let mut no_route: u64 = 0;
     for one in done {
         match one {
             Done::Sent(_) => outputs += 1,
-            Done::NoRoute(_, _) => outputs += 1,
+            Done::NoRoute(_, _) => {
+                outputs += 1;
+                no_route += 1;
+            }
             Done::Made(_) => {}
         }
     }
-    outputs
-}
-
-/// The number of outputs that no route fits.
-fn number_without_route(done: &[Done]) -> u64
-    ensures counted { result ≡ sum_by no_route_by done.now }
-    ensures few { result ≤ length done.now }
-{
-    let mut outputs: u64 = 0;
-    for one in done {
-        if let Done::NoRoute(_, _) = one {
-            outputs += 1;
-        }
-    }
-    outputs
+    (outputs, no_route)
 }
