@@ -3,6 +3,7 @@
 
 pub mod agents;
 pub mod behaviour;
+pub mod legality;
 pub mod offer;
 pub mod step;
 pub mod transition;

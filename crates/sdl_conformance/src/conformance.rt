@@ -3,7 +3,7 @@ ghost use Rattle.std.specs.Prelude.{◌≡◌, ℕ, ◌<◌, IsTrue, ◌↔◌, 
 ghost use Rattle.std.specs.List.{HoldsAt};
 ghost use Rattle.sdl_behaviour.specs.Offers.{IsLegalValue, IsLegalDest, IsOfferedAs, IsActionOf, IsNextOf, Conforms};
 
-use crate::legality::{are_legal, is_legal_dest};
+use sdl_behaviour::legality::{are_legal, is_legal_dest};
 use sdl_behaviour::{Action, Dest, Next, Offer, OfferedOutput, Step, Via};
 use sdl_signal::{SetId, Signal, StateId, Value};
 
@@ -58,8 +58,8 @@ fn is_output_of(outputs: &[OfferedOutput], sets: u32, signal: &Signal, to: Dest,
     ensures { IsTrue result ↔ (∥ ((k : ℕ) × (k < length outputs.now) × HoldsAt (IsOfferedAs signal.now via) outputs.now k) ∥₁ × All (IsLegalValue sets) signal.now.params.items × IsLegalDest sets to) }
 {
     offers_output(outputs, signal, via)
-        && are_legal(sets, signal.params.as_slice())
-        && is_legal_dest(sets, to)
+        && are_legal(sets as usize, signal.params.as_slice())
+        && is_legal_dest(sets as usize, to)
 }
 
 fn is_action_of(offer: &Offer, action: &Action) -> bool
@@ -99,6 +99,6 @@ pub fn conforms(offer: &Offer, step: &Step) -> bool
 {
     is_next_of(offer, step.next)
         && Value::are_of_sorts(step.vars.as_slice(), offer.vars.as_slice())
-        && are_legal(offer.sets, step.vars.as_slice())
+        && are_legal(offer.sets as usize, step.vars.as_slice())
         && are_actions_of(offer, step.actions.as_slice())
 }

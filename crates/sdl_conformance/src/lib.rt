@@ -3,7 +3,6 @@
 
 pub mod conformance;
 pub mod copies;
-mod legality;
 pub mod stand_in;
 
 pub use conformance::conforms;

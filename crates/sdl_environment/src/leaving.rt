@@ -1,15 +1,15 @@
 //! Which items may leave through the outlet.
-ghost use Rattle.std.specs.Prelude.{◌≡◌, ◌↔◌, IsTrue, All, IfSome, Some, length, map, slice_get};
+ghost use Rattle.std.specs.Prelude.{◌≡◌, ◌↔◌, IsTrue, Some, length, map, slice_get};
 ghost use Rattle.sdl_signal.specs.Sorts.{sort_of};
-ghost use Rattle.sdl_transition.specs.Offers.{IsLegalPid, IsLegalValue};
 ghost use Rattle.sdl_instances.specs.Arriving.{IsCarried};
 ghost use Rattle.sdl_instances.specs.Core.{signals_of, sets_of};
 ghost use Rattle.sdl_instances.specs.Legal.{IsLegal};
 ghost use Rattle.sdl_outcome.specs.EnvironmentWork.{GoesOut};
 
+use sdl_behaviour::legality::{are_legal, is_legal_pid, names_legal};
 use sdl_parts::{SignalDecl, Structure};
 use sdl_routes::{EndPoint, Routes};
-use sdl_signal::{Item, Pid, Signal, Value};
+use sdl_signal::{Item, Signal, Value};
 
 /// Whether the item may leave through the outlet: it may travel, and its route ends in the environment. No memory is taken.
 pub fn may_leave(structure: &Structure, routes: &Routes, item: &Item) -> bool
@@ -60,41 +60,5 @@ fn has_its_sorts(signals: &[SignalDecl], signal: &Signal) -> bool
     match signals.get(signal.id.0 as usize) {
         Some(found) => Value::are_of_sorts(signal.params.as_slice(), found.sorts.as_slice()),
         None => false,
-    }
-}
-
-/// Whether each instance among the values has one of so many sets, and a serial number of at least 1.
-fn are_legal(sets: usize, values: &[Value]) -> bool
-    ensures { IsTrue result ↔ All (IsLegalValue sets) values.now }
-{
-    values.iter().all(|value| is_legal_value(sets, value))
-}
-
-fn is_legal_value(sets: usize, value: &Value) -> bool
-    ensures { IsTrue result ↔ IsLegalValue sets value.now }
-{
-    match value {
-        Value::Pid(pid) => is_legal_pid(sets, *pid),
-        Value::Integer(_) => true,
-        Value::Boolean(_) => true,
-    }
-}
-
-fn is_legal_pid(sets: usize, pid: Pid) -> bool
-    ensures { IsTrue result ↔ IsLegalPid sets pid }
-{
-    match pid {
-        Pid::Inst(set, serial) => (set.0 as usize) < sets && 1 <= serial,
-        Pid::Null => true,
-        Pid::Env => true,
-    }
-}
-
-fn names_legal(sets: usize, to: Option<Pid>) -> bool
-    ensures { IsTrue result ↔ IfSome to (IsLegalPid sets) }
-{
-    match to {
-        Some(pid) => is_legal_pid(sets, pid),
-        None => true,
     }
 }
