@@ -11,7 +11,7 @@ use Rattle.sdl_signal.specs.declared.values.Item.{Item}
 use Rattle.sdl_signal.specs.declared.values.Signal.{Signal}
 use Rattle.sdl_signal.specs.Names.{Lexicon}
 use Rattle.sdl_signal.specs.Line.{line_text}
-use Rattle.sdl_signal.specs.Bytes.{ended_line}
+use Rattle.sdl_lines.specs.Bytes.{ended_line}
 use Rattle.std.specs.Prelude.{unwrap_or}
 use Rattle.sdl_command.specs.Pipe.{pipe_lexicon, line_at_gate, text_or_none, piped_text, queued_item, queued_items, AreWritable, IsWritable, text_of}
 

@@ -12,7 +12,7 @@ use Rattle.sdl_signal.specs.declared.ends.OutputEnd.{OutputEnd}
 use Rattle.sdl_signal.specs.declared.ends.OutputEnd.TheVariants as output
 use Rattle.sdl_signal.specs.Names.{Lexicon}
 use Rattle.sdl_signal.specs.Line.{line_text}
-use Rattle.sdl_signal.specs.Bytes.{ended_line}
+use Rattle.sdl_lines.specs.Bytes.{ended_line}
 use Rattle.sdl_signal.specs.declared.environment.EnvRead.TheVariants as env
 use Rattle.sdl_signal.specs.Environment.{HasRead, EndsItself}
 

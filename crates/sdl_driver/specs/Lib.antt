@@ -6,6 +6,7 @@ pub use Rattle.sdl_forward.specs as sdl_forward
 pub use Rattle.sdl_hand.specs as sdl_hand
 pub use Rattle.sdl_instances.specs as sdl_instances
 pub use Rattle.sdl_ledger.specs as sdl_ledger
+pub use Rattle.sdl_lines.specs as sdl_lines
 pub use Rattle.sdl_log.specs as sdl_log
 pub use Rattle.sdl_opening.specs as sdl_opening
 pub use Rattle.sdl_order.specs as sdl_order

@@ -19,6 +19,7 @@ pub use sdl_forward;
 pub use sdl_hand;
 pub use sdl_instances;
 pub use sdl_ledger;
+pub use sdl_lines;
 pub use sdl_log;
 pub use sdl_opening;
 pub use sdl_order;

@@ -7,8 +7,8 @@ use Rattle.sdl_signal.specs.declared.ends.InputEnd.{InputEnd}
 use Rattle.sdl_signal.specs.declared.ends.InputEnd.TheVariants as input
 use Rattle.sdl_signal.specs.declared.environment.EnvRead.TheVariants as env
 use Rattle.sdl_signal.specs.Names.{Lexicon}
-use Rattle.sdl_signal.specs.Source.{Source}
-use Rattle.sdl_signal.specs.Bytes.{HasNoNewline, BeginsWithLines, ended_line}
+use Rattle.sdl_lines.specs.Source.{Source}
+use Rattle.sdl_lines.specs.Bytes.{HasNoNewline, BeginsWithLines, ended_line}
 use Rattle.sdl_signal.specs.Environment.{Reading, AreRead, HasCarried, HasCome, HasRead, GoesOn, most_lines}
 use Rattle.sdl_parts.specs.Structure.{Structure, lexicon_of}
 use Rattle.sdl_routes.specs.declared.route.TableRow.{TableRow}

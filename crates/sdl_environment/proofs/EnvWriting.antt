@@ -7,10 +7,10 @@ use Rattle.std.proofs.lemmas.List.{take-append-le, take_at}
 use Rattle.std.proofs.lemmas.List.Concat.{flat_map-append}
 use Rattle.sdl_signal.specs.declared.values.Item.{Item}
 use Rattle.sdl_signal.specs.declared.ends.OutputEnd.TheVariants as output
-use Rattle.sdl_signal.specs.declared.sinks.Written.TheVariants as written
+use Rattle.sdl_lines.specs.declared.sinks.Written.TheVariants as written
 use Rattle.sdl_signal.specs.Names.{Lexicon}
 use Rattle.sdl_signal.specs.Line.{line_text}
-use Rattle.sdl_signal.specs.Bytes.{ended_line, IsWritten}
+use Rattle.sdl_lines.specs.Bytes.{ended_line, IsWritten}
 use Rattle.sdl_routes.specs.declared.route.TableRow.{TableRow}
 use Rattle.sdl_outcome.specs.EnvironmentWork.{HasWritten, received_text, received_line}
 

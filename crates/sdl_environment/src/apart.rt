@@ -1,9 +1,9 @@
 //! The environment's step where each queue has ends of its own.
 ghost use Rattle.std.specs.Prelude.{◌≡◌, ◌≢◌, ◌≤◌, ◌<◌, ℕ, List, length, [], true, false, Option, Some, None, IfOk};
 ghost use Rattle.sdl_signal.specs.declared.values.Item.{Item};
-ghost use Rattle.sdl_signal.specs.Bytes.{HasNoNewline};
-ghost use Rattle.sdl_signal.specs.Source.{HoldsLine};
-ghost use Rattle.sdl_signal.specs.declared.sources.Ended.{Ended};
+ghost use Rattle.sdl_lines.specs.Bytes.{HasNoNewline};
+ghost use Rattle.sdl_lines.specs.Source.{HoldsLine};
+ghost use Rattle.sdl_lines.specs.declared.sources.Ended.{Ended};
 ghost use Rattle.sdl_signal.specs.declared.ends.InputEnd.{InputEnd};
 ghost use Rattle.sdl_parts.specs.Structure.{IsStructure};
 ghost use Rattle.sdl_routes.specs.Routes.{AreRoutesOf};

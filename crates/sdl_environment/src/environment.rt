@@ -1,8 +1,8 @@
 //! The environment at work: it reads lines and outputs their signals, and writes what it receives as lines.
 ghost use Rattle.std.specs.Prelude.{◌≡◌, ◌≢◌, ◌≤◌, ◌<◌, ℕ, List, length, [], true, false, Option, Some, None, All, IfOk};
-ghost use Rattle.sdl_signal.specs.Bytes.{HasNoNewline};
-ghost use Rattle.sdl_signal.specs.Source.{HoldsLine};
-ghost use Rattle.sdl_signal.specs.declared.sources.Ended.{Ended};
+ghost use Rattle.sdl_lines.specs.Bytes.{HasNoNewline};
+ghost use Rattle.sdl_lines.specs.Source.{HoldsLine};
+ghost use Rattle.sdl_lines.specs.declared.sources.Ended.{Ended};
 ghost use Rattle.sdl_signal.specs.declared.ends.InputEnd.{InputEnd};
 ghost use Rattle.sdl_signal.specs.declared.values.Item.{Item};
 ghost use Rattle.sdl_parts.specs.Structure.{IsStructure};

@@ -15,7 +15,7 @@ use Rattle.sdl_signal.specs.declared.ends.OutputEnd.TheVariants as output
 use Rattle.sdl_signal.specs.declared.environment.EnvRead.TheVariants as env
 use Rattle.sdl_signal.specs.Names.{Lexicon}
 use Rattle.sdl_signal.specs.Line.{line_text}
-use Rattle.sdl_signal.specs.Bytes.{ended_line}
+use Rattle.sdl_lines.specs.Bytes.{ended_line}
 use Rattle.sdl_signal.specs.Environment.{Reading, HasCarried, HasRead, EndsItself, most_lines}
 use Rattle.sdl_parts.specs.Structure.{Structure, lexicon_of}
 use Rattle.sdl_routes.specs.declared.route.TableRow.{TableRow}

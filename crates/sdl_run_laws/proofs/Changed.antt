@@ -11,7 +11,7 @@ use Rattle.sdl_driver.specs.sdl_signal.declared.values.EnvLine.{EnvLine}
 use Rattle.sdl_driver.specs.sdl_signal.declared.reading.LineFault.{LineFault}
 use Rattle.sdl_driver.specs.sdl_signal.declared.ends.InputEnd.TheVariants as input
 use Rattle.sdl_driver.specs.sdl_signal.declared.ends.OutputEnd.TheVariants as output
-use Rattle.sdl_driver.specs.sdl_signal.Bytes.{ended_line, IsFirstLine}
+use Rattle.sdl_driver.specs.sdl_lines.Bytes.{ended_line, IsFirstLine}
 use Rattle.sdl_driver.specs.sdl_signal.Line.{line_text}
 use Rattle.sdl_driver.specs.sdl_parts.Structure.{lexicon_of}
 use Rattle.sdl_driver.specs.sdl_routes.declared.route.TableRow.{TableRow}

@@ -3,7 +3,7 @@ use Rattle.std.proofs.Common.{◌≡◌, [], ◌∷◌, Some, refl, codes, lit�
 use Rattle.std.specs.Fmt.{digits}
 use Rattle.sdl_driver.specs.sdl_signal.declared.ends.InputEnd.TheVariants as input
 use Rattle.sdl_driver.specs.sdl_signal.declared.ends.OutputEnd.TheVariants as output
-use Rattle.sdl_driver.specs.sdl_signal.Bytes.{HasNoNewline}
+use Rattle.sdl_driver.specs.sdl_lines.Bytes.{HasNoNewline}
 use Rattle.sdl_driver.specs.sdl_signal.Line.{line_text}
 use Rattle.sdl_driver.specs.sdl_signal.Reading.{NamesFirst}
 use Rattle.sdl_driver.specs.sdl_parts.Structure.{lexicon_of}

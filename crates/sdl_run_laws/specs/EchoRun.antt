@@ -7,7 +7,7 @@ use Rattle.sdl_driver.specs.sdl_signal.declared.values.Pid.TheVariants as pid
 use Rattle.sdl_driver.specs.sdl_signal.declared.values.Signal.{Signal}
 use Rattle.sdl_driver.specs.sdl_signal.declared.values.Item.{Item}
 use Rattle.sdl_driver.specs.sdl_signal.declared.values.EnvLine.{EnvLine}
-use Rattle.sdl_driver.specs.sdl_signal.Bytes.{ended_line}
+use Rattle.sdl_driver.specs.sdl_lines.Bytes.{ended_line}
 use Rattle.sdl_driver.specs.sdl_routes.declared.route.Station.{Station}
 use Rattle.sdl_driver.specs.sdl_routes.declared.route.Station.TheVariants as station
 use Rattle.sdl_driver.specs.sdl_routes.declared.route.Via.TheVariants as via

@@ -5,7 +5,7 @@ ghost use Rattle.sdl_driver.specs.sdl_signal.declared.values.Origin.{Origin};
 ghost use Rattle.sdl_driver.specs.sdl_signal.declared.reading.LineFault.{LineFault};
 ghost use Rattle.sdl_driver.specs.sdl_signal.declared.ends.InputEnd.TheVariants as input;
 ghost use Rattle.sdl_driver.specs.sdl_signal.declared.ends.OutputEnd.TheVariants as output;
-ghost use Rattle.sdl_driver.specs.sdl_signal.Bytes.{ended_line};
+ghost use Rattle.sdl_driver.specs.sdl_lines.Bytes.{ended_line};
 ghost use Rattle.sdl_driver.specs.sdl_parts.Structure.{lexicon_of};
 ghost use Rattle.sdl_agents.specs.Tables.{EchoMay};
 ghost use Rattle.sdl_driver.specs.sdl_instances.Machine.{State};

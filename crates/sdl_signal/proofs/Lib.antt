@@ -1,6 +1,5 @@
 pub mod Carried
 mod InOrder
-pub mod Waiting
 pub mod Rows
 pub mod Named
 pub mod Numbers

@@ -3,8 +3,5 @@ pub mod Line
 pub mod Reading
 pub mod Sorts
 pub mod Writing
-pub mod Bytes
-pub mod Source
-pub mod Sink
 pub mod Environment
 pub mod View

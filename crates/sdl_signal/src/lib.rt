@@ -1,15 +1,12 @@
 //! Values and signals of an SDL system, the environment's lines, and where they are read and written.
 #![tactic(auto)]
 
-mod ahead;
 pub mod ends;
 pub mod environment;
 pub mod ids;
 pub mod laws;
 pub mod naming;
 pub mod reading;
-pub mod sinks;
-pub mod sources;
 pub mod values;
 pub mod writing;
 
@@ -18,7 +15,6 @@ pub use environment::{EnvRead, EnvReader};
 pub use ids::{BlockId, ChannelId, GateId, RouteId, SetId, SignalId, StateId};
 pub use naming::{Name, Names, name};
 pub use reading::{LineFault, read_line};
-pub use sinks::{LineSink, Written, write_line};
-pub use sources::{LineRead, LineSource};
+pub use sdl_lines::{LineRead, LineSink, LineSource, Written, write_line};
 pub use values::{EnvLine, Item, Origin, Pid, Signal, Sort, Value};
 pub use writing::line_of;

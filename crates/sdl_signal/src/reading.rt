@@ -14,11 +14,9 @@ use crate::values::{EnvLine, Pid, Signal};
 use arrayvec::ArrayVec;
 use fields::{MANY, fields_of, parts};
 use in_order::read_in_order;
+use sdl_lines::LONGEST_LINE;
 use std::fmt::{self, Display, Formatter};
 use values::{read_pid, read_values};
-
-/// The bytes of the longest line, without its newline.
-pub(crate) const LONGEST_LINE: usize = 320;
 
 /// Why a line is refused: the first rule that fails. (This project's own.)
 #[derive(Clone, Copy, Debug, PartialEq, Eq)]

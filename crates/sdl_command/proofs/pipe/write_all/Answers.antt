@@ -2,7 +2,7 @@ use Rattle.std.proofs.Common.{◌≡◌, ◌<◌, ◌++◌, ◌∷◌, [], List,
 use Rattle.std.specs.Io.KnownBytes.{Appends}
 use Rattle.std.proofs.KnownBytes.{Appends-trans}
 use Rattle.sdl_signal.specs.Line.{line_text}
-use Rattle.sdl_signal.specs.Bytes.{ended_line}
+use Rattle.sdl_lines.specs.Bytes.{ended_line}
 use Rattle.sdl_command.specs.Pipe.{line_at_gate, text_of}
 use Rattle.sdl_command.proofs.Piped.{text_of-taken, rest_is_writable, written_front}
 use Rattle.sdl_command.proofs.pipe.write_all.Goals as goal

@@ -1,7 +1,7 @@
 //! Lines, written.
 ghost use Rattle.std.specs.Prelude.{◌≡◌, ◌≤◌, take, length};
 ghost use Rattle.std.specs.Io.KnownBytes.{Appends};
-ghost use Rattle.sdl_signal.specs.Bytes.{IsWritten};
+ghost use Rattle.sdl_lines.specs.Bytes.{IsWritten};
 
 use crate::ahead::RETRIES;
 use arrayvec::ArrayVec;
@@ -29,7 +29,7 @@ pub struct LineSink {
 
 impl Model for LineSink {
     ghost use Rattle.std.specs.Prelude.{◌≤◌};
-    ghost use Rattle.sdl_signal.specs.Sink.{Sink};
+    ghost use Rattle.sdl_lines.specs.Sink.{Sink};
 
     ghost Value = { Sink };
 

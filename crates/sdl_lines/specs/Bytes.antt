@@ -2,8 +2,8 @@
 use Rattle.std.specs.Prelude.{◌≡◌, ◌≢◌, ℕ, ◌+◌, ◌<◌, ◌⊎◌, List, [], ◌∷◌, ◌++◌, length, take, Option}
 use Rattle.std.specs.List.{AllByRecursion}
 use Rattle.std.specs.Io.KnownBytes.{Appends}
-use Rattle.sdl_signal.specs.declared.sinks.Written.{Written}
-use Rattle.sdl_signal.specs.declared.sinks.Written.TheVariants as written
+use Rattle.sdl_lines.specs.declared.sinks.Written.{Written}
+use Rattle.sdl_lines.specs.declared.sinks.Written.TheVariants as written
 
 abbrev pub newline : ℕ
 newline = 10

@@ -1,7 +1,7 @@
 use Rattle.std.proofs.Common.{◌-◌, ◌≡◌, length, None}
 use Rattle.std.specs.Io.KnownBytes.{Keeps}
-use Rattle.sdl_signal.specs.Source.{HoldsLine, to_come}
-use Rattle.sdl_signal.proofs.sources.LineSource.see_open.Given as goal
+use Rattle.sdl_lines.specs.Source.{HoldsLine, to_come}
+use Rattle.sdl_lines.proofs.sources.LineSource.see_open.Given as goal
 
 abbrev pub invariant-loop-count : goal.invariant-loop-count
 invariant-loop-count g l =

@@ -1,17 +1,17 @@
 -- A source of lines: what it answers, by the bytes that were to come.
 use Rattle.std.specs.Prelude.{◌≡◌, ℕ, ◌<◌, ◌≤◌, ◌⊎◌, List, [], ◌+◌, ◌++◌, length, take, drop, Option, Some, None, IfSome, ⊤}
 use Rattle.std.specs.Io.KnownBytes.{Keeps, Consumes, IsAtEnd, prepend_known}
-use Rattle.sdl_signal.specs.declared.ahead.BlockRead.{BlockRead}
-use Rattle.sdl_signal.specs.declared.ahead.BlockRead.TheVariants as blocks
-use Rattle.sdl_signal.specs.declared.sources.LineRead.{LineRead}
-use Rattle.sdl_signal.specs.declared.sources.LineRead.TheVariants as reads
-use Rattle.sdl_signal.specs.declared.sources.Seen.{Seen}
-use Rattle.sdl_signal.specs.declared.sources.Seen.TheVariants as seen
-use Rattle.sdl_signal.specs.declared.sources.Waiting.{Waiting}
-use Rattle.sdl_signal.specs.declared.sources.Waiting.TheVariants as waiting
-use Rattle.sdl_signal.specs.declared.sources.Ended.{Ended}
-use Rattle.sdl_signal.specs.declared.sources.Ended.TheVariants as ended
-use Rattle.sdl_signal.specs.Bytes.{HasNoNewline, BeginsTooLong, ended_line}
+use Rattle.sdl_lines.specs.declared.ahead.BlockRead.{BlockRead}
+use Rattle.sdl_lines.specs.declared.ahead.BlockRead.TheVariants as blocks
+use Rattle.sdl_lines.specs.declared.sources.LineRead.{LineRead}
+use Rattle.sdl_lines.specs.declared.sources.LineRead.TheVariants as reads
+use Rattle.sdl_lines.specs.declared.sources.Seen.{Seen}
+use Rattle.sdl_lines.specs.declared.sources.Seen.TheVariants as seen
+use Rattle.sdl_lines.specs.declared.sources.Waiting.{Waiting}
+use Rattle.sdl_lines.specs.declared.sources.Waiting.TheVariants as waiting
+use Rattle.sdl_lines.specs.declared.sources.Ended.{Ended}
+use Rattle.sdl_lines.specs.declared.sources.Ended.TheVariants as ended
+use Rattle.sdl_lines.specs.Bytes.{HasNoNewline, BeginsTooLong, ended_line}
 
 -- a source of lines: the bytes that it took from the reader and has not handed out, and how it ended, where it has
 pub record Source : Type 0 where

@@ -1,7 +1,7 @@
 //! The bytes that were read from an input and not yet handed out.
 ghost use Rattle.std.specs.Prelude.{◌≡◌, ◌+◌, ◌-◌, ◌<◌, ◌≤◌, true, [], ◌++◌, length, take, drop, slice_range};
 ghost use Rattle.std.specs.Io.KnownBytes.{ReadConsumes};
-ghost use Rattle.sdl_signal.specs.Source.{IsBlockRead, IsFilled};
+ghost use Rattle.sdl_lines.specs.Source.{IsBlockRead, IsFilled};
 
 use std::io::{ErrorKind, Read};
 use std::marker::Model;

@@ -1,7 +1,7 @@
 use Rattle.std.proofs.Common.{◌≡◌, ◌-◌, ◌++◌, length, take, drop, arith, ap, ◌∙◌}
 use Rattle.std.proofs.lemmas.List.{length-take-le}
-use Rattle.sdl_signal.proofs.Waiting.{filled}
-use Rattle.sdl_signal.proofs.ahead.Ahead.fill.Goals as goal
+use Rattle.sdl_lines.proofs.Waiting.{filled}
+use Rattle.sdl_lines.proofs.ahead.Ahead.fill.Goals as goal
 
 pub returns-in-Bytes : goal.returns-in-Bytes
 returns-in-Bytes g c =

@@ -1,7 +1,7 @@
 use Rattle.std.proofs.Common.{◌+◌, ◌-◌, ◌≤◌, length, take, drop, arith, sym, ap, ◌∙◌}
 use Rattle.std.proofs.lemmas.List.{length-take}
-use Rattle.sdl_signal.proofs.Waiting.{drop-slice_range}
-use Rattle.sdl_signal.proofs.ahead.Ahead.consume.Goals as goal
+use Rattle.sdl_lines.proofs.Waiting.{drop-slice_range}
+use Rattle.sdl_lines.proofs.ahead.Ahead.consume.Goals as goal
 
 pub returns : goal.returns
 returns c =

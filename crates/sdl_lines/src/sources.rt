@@ -1,13 +1,15 @@
 //! The lines of an input.
 ghost use Rattle.std.specs.Prelude.{◌≡◌, ◌≢◌, ◌≤◌, ◌<◌, ◌+◌, ℕ, true, false, [], ◌∷◌, ◌++◌, length, take, drop, Some, None, IfSome, IfNone, slice_index};
-ghost use Rattle.sdl_signal.specs.Bytes.{newline, HasNoNewline};
-ghost use Rattle.sdl_signal.specs.Source.{HoldsLine, CanPass, IsNextLine, IsWaitingLine, IsLastLine, last_answer, line_read, passed_over, to_come};
+ghost use Rattle.sdl_lines.specs.Bytes.{newline, HasNoNewline};
+ghost use Rattle.sdl_lines.specs.Source.{HoldsLine, CanPass, IsNextLine, IsWaitingLine, IsLastLine, last_answer, line_read, passed_over, to_come};
 
 use crate::ahead::{Ahead, BlockRead};
-use crate::reading::LONGEST_LINE;
 use arrayvec::ArrayVec;
 use std::io::Read;
 use std::marker::Model;
+
+/// The bytes of the longest line, without its newline.
+pub const LONGEST_LINE: usize = 320;
 
 /// What a source of lines answers.
 #[derive(Debug, PartialEq, Eq, Drop)]
@@ -24,7 +26,7 @@ pub enum LineRead {
 
 /// What comes next in a source, where a line still stands in it.
 #[derive(Clone, Copy)]
-pub(crate) enum Seen {
+pub enum Seen {
     /// A line of this many bytes, and how many are to be passed with it: its newline too, where it has one.
     Line(usize, usize),
     Over,
@@ -60,7 +62,7 @@ pub struct LineSource {
 }
 
 impl Model for LineSource {
-    ghost use Rattle.sdl_signal.specs.Source.{Source};
+    ghost use Rattle.sdl_lines.specs.Source.{Source};
 
     ghost Value = { Source };
 
@@ -100,7 +102,7 @@ impl LineSource {
 
     /// The same, but that a line is not yet passed.
     #[inline(always)]
-    pub(crate) fn see<R: Read>(&mut self, input: &mut R) -> Seen
+    pub fn see<R: Read>(&mut self, input: &mut R) -> Seen
         ensures within { CanPass self.new result }
         ensures next { self.old.ended ≡ None
             → IsNextLine (to_come self.old (R.remaining input.old)) (to_come (passed_over self.new result) (R.remaining input.new)) (passed_over self.new result) (line_read self.new result) }
@@ -118,7 +120,7 @@ impl LineSource {
 
     /// The first bytes that wait.
     #[inline(always)]
-    pub(crate) fn line(&self, count: usize) -> &[u8]
+    pub fn line(&self, count: usize) -> &[u8]
         requires { count ≤ length self.now.ahead }
         ensures { result.now ≡ take count self.now.ahead }
     {
@@ -127,7 +129,7 @@ impl LineSource {
 
     /// Passes over the first bytes that wait.
     #[inline(always)]
-    pub(crate) fn pass(&mut self, count: usize)
+    pub fn pass(&mut self, count: usize)
         requires { count ≤ length self.old.ahead }
         ensures { self.new ≡ record self.old { ahead = drop count self.old.ahead } }
     {

@@ -3,7 +3,7 @@ use Rattle.std.proofs.Common.{◌≡◌, ◌≢◌, ℕ, ◌+◌, ◌-◌, ◌<�
 use Rattle.std.proofs.Math.Seq.{take-add}
 use Rattle.std.proofs.lemmas.List.{drop-take, drop-drop, drop_more, take-append-drop, get_or-take, get_or_default, length-take, length-take-le, take_all}
 use Rattle.std.proofs.lemmas.List.Elements.{recursion_from_All}
-use Rattle.sdl_signal.specs.Bytes.{newline, HasNoNewline, BeginsTooLong, ended_line}
+use Rattle.sdl_lines.specs.Bytes.{newline, HasNoNewline, BeginsTooLong, ended_line}
 
 -- what is left of a range when its first bytes are dropped
 pub drop-slice_range : (xs : List ℕ) (start count end : ℕ) → start + count ≤ end → drop count (slice_range xs start end) ≡ slice_range xs (start + count) end

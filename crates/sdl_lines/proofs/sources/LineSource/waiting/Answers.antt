@@ -1,7 +1,7 @@
 use Rattle.std.proofs.Common.{◌≡◌, ◌≤◌, ◌+◌, ◌++◌, List, ℕ, length, take, drop, subst, ap, ◌∙◌}
-use Rattle.sdl_signal.specs.Bytes.{HasNoNewline, BeginsTooLong, ended_line}
-use Rattle.sdl_signal.proofs.Waiting.{first_line, no_line_yet, too_long_line}
-use Rattle.sdl_signal.proofs.sources.LineSource.waiting.Goals as goal
+use Rattle.sdl_lines.specs.Bytes.{HasNoNewline, BeginsTooLong, ended_line}
+use Rattle.sdl_lines.proofs.Waiting.{first_line, no_line_yet, too_long_line}
+use Rattle.sdl_lines.proofs.sources.LineSource.waiting.Goals as goal
 
 pub returns-in-None : goal.returns-in-None
 returns-in-None c =
