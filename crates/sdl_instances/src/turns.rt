@@ -39,12 +39,12 @@ impl<S: Agents, K: Keeps> BlockCore<S, K> {
         ensures parts { parts_of self.new ≡ parts_of self.old }
         ensures err { OnErr result ((core_of self.new ≡ core_of self.old) × (hand.new ≡ hand.old)) }
     {
+        let mut frame = blank_frame();
         match self.table.look(pick) {
             Look::Idle => Ok(Turn::Idle),
             Look::Spent => Ok(Turn::Spent),
             Look::Next(place) => {
                 self.table.make_room()?;
-                let mut frame = blank_frame();
                 self.table.show(place, &mut frame);
                 let pid = frame.self_pid;
                 self.turn_at(routes, pick, place, &frame, hand);

@@ -124,14 +124,20 @@ impl Keeps for Vec<Event> {
         self.reserve(1)
     }
 
-    // apart from its callers, since the compiler then writes the event where it stands in the log, without a copy on the way
+    // apart from its callers, since the compiler then writes the event where it stands in the log, without a copy on the way; and
+    // over an unfilled turn, since what an arrival leaves of its place would else be filled by one call of the C library, which is
+    // slower for so many bytes than stores are
     #[inline(never)]
     fn enter(&mut self, item: &Item, pid: Pid) {
-        self.push_reserved(Event::Entered(copied_item(item), pid));
+        let mut event = unfilled();
+        event = Event::Entered(copied_item(item), pid);
+        self.push_reserved(event);
     }
 
     fn discard(&mut self, item: Item, cause: Cause) {
-        self.push_reserved(Event::Discarded(item, cause));
+        let mut event = unfilled();
+        event = Event::Discarded(item, cause);
+        self.push_reserved(event);
     }
 
     fn turn(
