@@ -303,9 +303,14 @@ impl Idling {
         if told.asks_room_alone(stations, self.mark) {
             self.tells(told);
             told.wakes_each(stations);
-            if self.nods_off(told) && told.is_room_asked_by(stations, self.mark) {
-                told.waits(self.mark);
-                told.sleeps(rt, self.mark, LISTENING, 1);
+            if self.nods_off(told) {
+                if told.is_room_asked_by(stations, self.mark) {
+                    told.waits(self.mark);
+                    told.sleeps(rt, self.mark, LISTENING, 1);
+                } else {
+                    // They have caught up meanwhile. It isn't about to sleep any more, so that where it is next, it asks for room first.
+                    told.gets_up(self.mark);
+                }
             }
         }
         self.lead.shrinks(told);

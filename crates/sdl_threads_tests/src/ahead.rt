@@ -21,7 +21,6 @@ const NOWHERE: u32 = 40;
 struct Runner {
     mark: u32,
     left: u64,
-    made: u64,
     touched: Marks,
 }
 
@@ -30,7 +29,6 @@ impl Runner {
         Runner {
             mark,
             left,
-            made: 0,
             touched: Marks::none(),
         }
     }
@@ -65,7 +63,6 @@ impl Work for Runner {
             return Stepped::Idle;
         }
         self.left -= 1;
-        self.made = self.made.saturating_add(1);
         self.touched.add(NOWHERE);
         Stepped::Did
     }
@@ -87,10 +84,10 @@ impl Work for Runner {
     }
 }
 
-/// How many steps the worker made, where it ran until it was told to stop.
-fn made(worker: &Returned<Runner>) -> Option<u64> {
+/// How many steps the worker has left, where it ran until it was told to stop.
+fn left(worker: &Returned<Runner>) -> Option<u64> {
     match worker {
-        Returned::Ran(worker) => Some(worker.made),
+        Returned::Ran(worker) => Some(worker.left),
         Returned::Refused(_) => None,
         Returned::NotStarted(_) => None,
     }
@@ -110,8 +107,8 @@ fn one_that_waited_for_others_in_vain_comes_to_rest(rt: HostRuntime) -> Result<(
     let (workers, environment) = run_all(&rt, team, checked.structure(), &routes, &OpenGate);
     assert!(rt; workers.len() == 1);
     for worker in workers.as_slice() {
-        assert!(rt; made(worker) == Some(STEPS));
+        assert!(rt; left(worker) == Some(0));
     }
-    assert!(rt; made(&environment) == Some(0));
+    assert!(rt; left(&environment) == Some(0));
     Ok(())
 }
