@@ -2,7 +2,9 @@
 ghost use Rattle.std.specs.Prelude.{◌≡◌, ◌≤◌, ◌<◌, ◌^◌, [], vec_len, vec_capacity, IfOk, IfErr};
 ghost use Rattle.std.specs.List.{All, AllZip};
 ghost use Rattle.sdl_threads.specs.Back.{ComesFrom};
+ghost use Rattle.sdl_threads.specs.Kinds.{KeepsOneOf, SameOneOf};
 
+use crate::kinds::{Kind, block_back, forwarder_back};
 use crate::pace::{Gate, drive};
 use crate::told::Told;
 use crate::work::{Returned, Work};
@@ -26,51 +28,63 @@ pub struct Team<W, E> {
 
 /// A thread's promise: the worker that comes back is this one, and keeps what its steps keep in this system.
 #[derive(Drop)]
-struct ComesBack<W> {
-    worker: Snapshot<W>,
+struct ComesBack<B, F> {
+    worker: Snapshot<Kind<B, F>>,
     structure: Snapshot<Structure>,
     routes: Snapshot<Routes>,
 }
 
-impl<W: Work> Promise<Returned<W>> for ComesBack<W> {
-    ghost kept_by = { λ p r. ComesFrom (W.keeps p.structure.value p.routes.value) W.same p.worker.value r };
+impl<B: Work, F: Work> Promise<Returned<Kind<B, F>>> for ComesBack<B, F> {
+    ghost kept_by = { λ p r. ComesFrom (KeepsOneOf (B.keeps p.structure.value p.routes.value) (F.keeps p.structure.value p.routes.value)) (SameOneOf B.same F.same) p.worker.value r };
 }
 
-/// Runs the worker in this thread, unless it was turned away.
-fn run_one<W: Work, G: Gate, R: Wait>(
+/// Runs the worker in this thread, unless it was turned away. Which kind it is, is told here, and not at each of its steps.
+fn run_one<B: Work, F: Work, G: Gate, R: Wait>(
     rt: &R,
-    worker: W,
+    worker: Kind<B, F>,
     number: u32,
     structure: &Structure,
     routes: &Routes,
     gate: &G,
     told: &Told,
-) -> Returned<W>
-    requires { W.keeps structure.now routes.now worker }
-    ensures { ComesFrom (W.keeps structure.now routes.now) W.same worker result }
+) -> Returned<Kind<B, F>>
+    requires { KeepsOneOf (B.keeps structure.now routes.now) (F.keeps structure.now routes.now) worker }
+    ensures { ComesFrom (KeepsOneOf (B.keeps structure.now routes.now) (F.keeps structure.now routes.now)) (SameOneOf B.same F.same) worker result }
 {
     if told.is_turned_away(number) {
         return Returned::NotStarted(worker);
     }
-    drive(rt, worker, number, structure, routes, gate, told)
+    match worker {
+        Kind::Block(block) => block_back(drive(rt, block, number, structure, routes, gate, told)),
+        Kind::Forwarder(forwarder) => forwarder_back(drive(
+            rt, forwarder, number, structure, routes, gate, told,
+        )),
+    }
 }
 
 /// Starts the worker of this number in a thread of its own. Where that can't start, all are told to stop, and the worker comes back
 /// at once.
-fn start_one<'s, 'e: 's, W: Work + Send + Drop + 'e, G: Gate + 'e, R: Threads + Wait + Sync + 'e>(
+fn start_one<
+    's,
+    'e: 's,
+    B: Work + Send + Drop + 'e,
+    F: Work + Send + Drop + 'e,
+    G: Gate + 'e,
+    R: Threads + Wait + Sync + 'e,
+>(
     scope: &'s Scope<'s, &'e ()>,
     rt: &'e R,
-    worker: W,
+    worker: Kind<B, F>,
     number: u32,
     structure: &'e Structure,
     routes: &'e Routes,
     gate: &'e G,
     told: &'e Told,
-) -> Result<PromisedHandle<Returned<W>, ComesBack<W>>, Returned<W>>
-    requires { W.keeps structure.now routes.now worker }
+) -> Result<PromisedHandle<Returned<Kind<B, F>>, ComesBack<B, F>>, Returned<Kind<B, F>>>
+    requires { KeepsOneOf (B.keeps structure.now routes.now) (F.keeps structure.now routes.now) worker }
     ensures worker { IfOk result (λ thread. thread.promise.worker.value ≡ worker) }
     ensures system { IfOk result (λ thread. (thread.promise.structure.value ≡ structure.now) × (thread.promise.routes.value ≡ routes.now)) }
-    ensures back { IfErr result (λ back. ComesFrom (W.keeps structure.now routes.now) W.same worker back) }
+    ensures back { IfErr result (λ back. ComesFrom (KeepsOneOf (B.keeps structure.now routes.now) (F.keeps structure.now routes.now)) (SameOneOf B.same F.same) worker back) }
 {
     let promise = ComesBack {
         worker: Snapshot::of(&worker),
@@ -79,9 +93,9 @@ fn start_one<'s, 'e: 's, W: Work + Send + Drop + 'e, G: Gate + 'e, R: Threads + 
     };
     let started = scope.spawn_with(
         promise,
-        move || -> Returned<W>
-            requires { W.keeps structure.now routes.now worker }
-            ensures { ComesFrom (W.keeps structure.entry.now routes.entry.now) W.same worker result }
+        move || -> Returned<Kind<B, F>>
+            requires { KeepsOneOf (B.keeps structure.now routes.now) (F.keeps structure.now routes.now) worker }
+            ensures { ComesFrom (KeepsOneOf (B.keeps structure.entry.now routes.entry.now) (F.keeps structure.entry.now routes.entry.now)) (SameOneOf B.same F.same) worker result }
         { run_one(rt, worker, number, structure, routes, gate, told) },
     );
     match started {
@@ -99,25 +113,26 @@ fn start_one<'s, 'e: 's, W: Work + Send + Drop + 'e, G: Gate + 'e, R: Threads + 
 fn run_rest<
     's,
     'e: 's,
-    W: Work + Send + Drop + 'e,
+    B: Work + Send + Drop + 'e,
+    F: Work + Send + Drop + 'e,
     E: Work,
     G: Gate + 'e,
     R: Threads + Wait + Sync + 'e,
 >(
     scope: &'s Scope<'s, &'e ()>,
     rt: &'e R,
-    team: Team<W, E>,
+    team: Team<Kind<B, F>, E>,
     structure: &'e Structure,
     routes: &'e Routes,
     gate: &'e G,
     told: &'e Told,
-) -> (Vec<Returned<W>>, Returned<E>)
+) -> (Vec<Returned<Kind<B, F>>>, Returned<E>)
     requires few { vec_len team.workers < 2 ^ 31 }
-    requires sound { All (W.keeps structure.now routes.now) team.workers.items }
+    requires sound { All (KeepsOneOf (B.keeps structure.now routes.now) (F.keeps structure.now routes.now)) team.workers.items }
     requires sound_environment { E.keeps structure.now routes.now team.environment }
     requires empty { team.done.items ≡ [] }
     requires room { vec_len team.workers ≤ vec_capacity team.done }
-    ensures workers { AllZip (ComesFrom (W.keeps structure.now routes.now) W.same) team.workers.items result.0.items }
+    ensures workers { AllZip (ComesFrom (KeepsOneOf (B.keeps structure.now routes.now) (F.keeps structure.now routes.now)) (SameOneOf B.same F.same)) team.workers.items result.0.items }
     ensures environment { ComesFrom (E.keeps structure.now routes.now) E.same team.environment result.1 }
     ensures len { vec_len result.0 ≡ vec_len team.workers }
     ensures room { vec_capacity result.0 ≡ vec_capacity team.done }
@@ -165,19 +180,25 @@ fn run_rest<
 /// Lets each of the workers make its steps in a thread of its own, and the environment's in this one, until all are told to
 /// stop. Each makes at least one step, but where its thread can't start; then all are told to stop. They come back in the order of
 /// the list.
-pub fn run_all<W: Work + Send + Drop, E: Work + Drop, G: Gate, R: Threads + Wait + Sync>(
+pub fn run_all<
+    B: Work + Send + Drop,
+    F: Work + Send + Drop,
+    E: Work + Drop,
+    G: Gate,
+    R: Threads + Wait + Sync,
+>(
     rt: &R,
-    team: Team<W, E>,
+    team: Team<Kind<B, F>, E>,
     structure: &Structure,
     routes: &Routes,
     gate: &G,
-) -> (Vec<Returned<W>>, Returned<E>)
+) -> (Vec<Returned<Kind<B, F>>>, Returned<E>)
     requires few { vec_len team.workers < 2 ^ 31 }
-    requires sound { All (W.keeps structure.now routes.now) team.workers.items }
+    requires sound { All (KeepsOneOf (B.keeps structure.now routes.now) (F.keeps structure.now routes.now)) team.workers.items }
     requires sound_environment { E.keeps structure.now routes.now team.environment }
     requires empty { team.done.items ≡ [] }
     requires room { vec_len team.workers ≤ vec_capacity team.done }
-    ensures workers { AllZip (ComesFrom (W.keeps structure.now routes.now) W.same) team.workers.items result.0.items }
+    ensures workers { AllZip (ComesFrom (KeepsOneOf (B.keeps structure.now routes.now) (F.keeps structure.now routes.now)) (SameOneOf B.same F.same)) team.workers.items result.0.items }
     ensures environment { ComesFrom (E.keeps structure.now routes.now) E.same team.environment result.1 }
 {
     let told = Told::new(team.workers.len() as u32 + 1);
@@ -185,28 +206,34 @@ pub fn run_all<W: Work + Send + Drop, E: Work + Drop, G: Gate, R: Threads + Wait
 }
 
 /// Lets all make their steps, with these hints between them.
-fn run_told<W: Work + Send + Drop, E: Work + Drop, G: Gate, R: Threads + Wait + Sync>(
+fn run_told<
+    B: Work + Send + Drop,
+    F: Work + Send + Drop,
+    E: Work + Drop,
+    G: Gate,
+    R: Threads + Wait + Sync,
+>(
     rt: &R,
-    team: Team<W, E>,
+    team: Team<Kind<B, F>, E>,
     structure: &Structure,
     routes: &Routes,
     gate: &G,
     told: &Told,
-) -> (Vec<Returned<W>>, Returned<E>)
+) -> (Vec<Returned<Kind<B, F>>>, Returned<E>)
     requires few { vec_len team.workers < 2 ^ 31 }
-    requires sound { All (W.keeps structure.now routes.now) team.workers.items }
+    requires sound { All (KeepsOneOf (B.keeps structure.now routes.now) (F.keeps structure.now routes.now)) team.workers.items }
     requires sound_environment { E.keeps structure.now routes.now team.environment }
     requires empty { team.done.items ≡ [] }
     requires room { vec_len team.workers ≤ vec_capacity team.done }
-    ensures workers { AllZip (ComesFrom (W.keeps structure.now routes.now) W.same) team.workers.items result.0.items }
+    ensures workers { AllZip (ComesFrom (KeepsOneOf (B.keeps structure.now routes.now) (F.keeps structure.now routes.now)) (SameOneOf B.same F.same)) team.workers.items result.0.items }
     ensures environment { ComesFrom (E.keeps structure.now routes.now) E.same team.environment result.1 }
 {
     thread::scope(
         thread::scope_env(),
         rt,
-        |scope| -> (Vec<Returned<W>>, Returned<E>)
-            requires { All (W.keeps structure.now routes.now) team.workers.items × E.keeps structure.now routes.now team.environment × (vec_len team.workers < 2 ^ 31) × (team.done.items ≡ []) × (vec_len team.workers ≤ vec_capacity team.done) }
-            ensures workers { AllZip (ComesFrom (W.keeps structure.entry.now routes.entry.now) W.same) team.workers.items result.0.items }
+        |scope| -> (Vec<Returned<Kind<B, F>>>, Returned<E>)
+            requires { All (KeepsOneOf (B.keeps structure.now routes.now) (F.keeps structure.now routes.now)) team.workers.items × E.keeps structure.now routes.now team.environment × (vec_len team.workers < 2 ^ 31) × (team.done.items ≡ []) × (vec_len team.workers ≤ vec_capacity team.done) }
+            ensures workers { AllZip (ComesFrom (KeepsOneOf (B.keeps structure.entry.now routes.entry.now) (F.keeps structure.entry.now routes.entry.now)) (SameOneOf B.same F.same)) team.workers.items result.0.items }
             ensures environment { ComesFrom (E.keeps structure.entry.now routes.entry.now) E.same team.environment result.1 }
         { run_rest(scope, rt, team, structure, routes, gate, told) },
     )

@@ -5,7 +5,7 @@ use sdl_examples::ECHO;
 use sdl_parts::Structure;
 use sdl_routes::Routes;
 use sdl_test_systems::routes_of;
-use sdl_threads::{Marks, OpenGate, Returned, Stepped, Team, Work, run_all};
+use sdl_threads::{Kind, Marks, OpenGate, Returned, Stepped, Team, Work, run_all};
 use std::sync::Wait;
 use std::test::Fail;
 
@@ -93,13 +93,23 @@ fn left(worker: &Returned<Runner>) -> Option<u64> {
     }
 }
 
+/// The same of one of the list.
+fn left_in_list(worker: &Returned<Kind<Runner, Runner>>) -> Option<u64> {
+    match worker {
+        Returned::Ran(Kind::Block(worker)) => Some(worker.left),
+        Returned::Ran(Kind::Forwarder(worker)) => Some(worker.left),
+        Returned::Refused(_) => None,
+        Returned::NotStarted(_) => None,
+    }
+}
+
 /// The sleep in which it lets others catch up ends by itself, as nobody takes. It comes to rest after that, so that the run ends.
 #[test]
 fn one_that_waited_for_others_in_vain_comes_to_rest(rt: HostRuntime) -> Result<(), Fail> {
     let alloc = rt.alloc();
     let (checked, routes) = routes_of(alloc, ECHO)?;
     let team = Team {
-        workers: vec![in alloc; Runner::new(0, STEPS)]?,
+        workers: vec![in alloc; Kind::Block(Runner::new(0, STEPS))]?,
         environment: Runner::new(1, 0),
         number_of_environment: 1,
         done: Vec::with_capacity(alloc, 1)?,
@@ -107,7 +117,7 @@ fn one_that_waited_for_others_in_vain_comes_to_rest(rt: HostRuntime) -> Result<(
     let (workers, environment) = run_all(&rt, team, checked.structure(), &routes, &OpenGate);
     assert!(rt; workers.len() == 1);
     for worker in workers.as_slice() {
-        assert!(rt; left(worker) == Some(0));
+        assert!(rt; left_in_list(worker) == Some(0));
     }
     assert!(rt; left(&environment) == Some(0));
     Ok(())

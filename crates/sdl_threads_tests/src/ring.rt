@@ -5,7 +5,7 @@ use sdl_examples::ECHO;
 use sdl_parts::Structure;
 use sdl_routes::Routes;
 use sdl_test_systems::{Stop, routes_of};
-use sdl_threads::{Gate, Marks, OpenGate, Returned, Stepped, Team, Work, run_all};
+use sdl_threads::{Gate, Kind, Marks, OpenGate, Returned, Stepped, Team, Work, run_all};
 use std::alloc::Global;
 use std::sync::atomic::AtomicU64;
 use std::sync::atomic::Ordering::SeqCst;
@@ -114,7 +114,7 @@ fn go_round<G: Gate, R: Threads + Wait + Sync>(
     rt: &R,
     alloc: Global,
     gate: &G,
-) -> Result<(Vec<Returned<Passer>>, Returned<Passer>), Stop> {
+) -> Result<(Vec<Returned<Kind<Passer, Passer>>>, Returned<Passer>), Stop> {
     let (checked, routes) = routes_of(alloc, ECHO)?;
     let ring = Arc::new(
         alloc,
@@ -131,7 +131,11 @@ fn go_round<G: Gate, R: Threads + Wait + Sync>(
     let second = passer_at(&ring, 1)?;
     let third = passer_at(&ring, 2)?;
     let fourth = passer_at(&ring, 3)?;
-    let workers = vec![in alloc; first, second, third]?;
+    let workers = vec![in alloc;
+        Kind::Block(first),
+        Kind::Forwarder(second),
+        Kind::Block(third),
+    ]?;
     let team = Team {
         workers,
         environment: fourth,
@@ -159,12 +163,22 @@ fn passed(worker: &Returned<Passer>) -> Option<u64> {
     }
 }
 
+/// The same of one of the list.
+fn passed_in_list(worker: &Returned<Kind<Passer, Passer>>) -> Option<u64> {
+    match worker {
+        Returned::Ran(Kind::Block(worker)) => Some(worker.passed),
+        Returned::Ran(Kind::Forwarder(worker)) => Some(worker.passed),
+        Returned::Refused(_) => None,
+        Returned::NotStarted(_) => None,
+    }
+}
+
 #[test]
 fn none_stops_before_all_are_at_rest(rt: HostRuntime) -> Result<(), Fail> {
     let (workers, fourth) = go_round(&rt, rt.alloc(), &OpenGate)?;
     assert!(rt; workers.len() == 3);
     for worker in workers.as_slice() {
-        assert!(rt; passed(worker) == Some(100));
+        assert!(rt; passed_in_list(worker) == Some(100));
     }
     assert!(rt; passed(&fourth) == Some(100));
     Ok(())

@@ -7,6 +7,6 @@ use Rattle.sdl_threads.proofs.Crossings
 use Rattle.sdl_threads.specs.contracts.workers.run_workers.dyn-1 as dyn
 use Rattle.sdl_threads.proofs.workers.run_workers.Goals as goal
 
-pub run_all-requires-send-W : goal.run_all-requires-send-W
-run_all-requires-send-W g c κs within =
-    param_send _ _ (arg_send _ Exit.no _ (Crossings.at_work (param 0 g.row.S) (Object.Vt (dyn.slots g.row.S g.row.K g.row.E g.row.G g.row.R) g.dyn-1.0) (Object.ghosts_of (dyn.slots g.row.S g.row.K g.row.E g.row.G g.row.R) g.dyn-1.0 g.dyn-1.1) _ c.type_bounds.send-S (search sendable) g.dyn-1.2 (param 1 g.row.K) g.K.Keeps c.type_bounds.send-K))
+pub run_all-requires-send-B : goal.run_all-requires-send-B
+run_all-requires-send-B g c κs within =
+    param_send _ _ (arg_send _ Exit.no _ (Crossings.block_thread (param 0 g.row.S) (Object.Vt (dyn.slots g.row.S g.row.K g.row.E g.row.G g.row.R) g.dyn-1.0) (Object.ghosts_of (dyn.slots g.row.S g.row.K g.row.E g.row.G g.row.R) g.dyn-1.0 g.dyn-1.1) _ c.type_bounds.send-S (search sendable) g.dyn-1.2 (param 1 g.row.K) g.K.Keeps c.type_bounds.send-K))
