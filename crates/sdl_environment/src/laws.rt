@@ -7,10 +7,10 @@ ghost use Rattle.sdl_routes.specs.declared.route.TableRow.{TableRow};
 ghost use Rattle.sdl_routes.specs.declared.route.Station.{Station};
 ghost use Rattle.sdl_routes.specs.Routes.{AreRoutesOf};
 ghost use Rattle.sdl_routes.specs.declared.route.Station.TheVariants.{Outlet};
-ghost use Rattle.sdl_ends.specs.Ends.{WorkerEnds};
-ghost use Rattle.sdl_forward.specs.Boards.{waiting};
-ghost use Rattle.sdl_hand.specs.declared.hand.Stepped.{Stepped};
-ghost use Rattle.sdl_hand.specs.Apart.{AreFresh};
+ghost use Rattle.sdl_outcome.specs.sdl_ends.Ends.{WorkerEnds};
+ghost use Rattle.sdl_outcome.specs.sdl_forward.Boards.{waiting};
+ghost use Rattle.sdl_outcome.specs.sdl_hand.declared.hand.Stepped.{Stepped};
+ghost use Rattle.sdl_outcome.specs.sdl_hand.Apart.{AreFresh};
 ghost use Rattle.sdl_outcome.specs.EnvironmentWork.{EnvWorking, IsEnvFresh, IsEnvSound, IsLegalItem, GoesOut, EnvStepsAs, HasReadSoFar, HasReadAll, HasWrittenSoFar, input_end};
 ghost use Rattle.sdl_environment.specs.EnvApart.{HasGateWays, IsEnvPuttingOut};
 

@@ -1,3 +1,5 @@
+pub use Rattle.sdl_opening.proofs as sdl_opening
+pub use Rattle.sdl_opening.proofs.sdl_ends
 pub mod Same
 pub mod Entries
 pub mod Collected

@@ -16,8 +16,8 @@ use Rattle.sdl_instances.specs.Machine.{System}
 use Rattle.sdl_instances.specs.Run.{IsRun, arrived, sent, turns}
 use Rattle.sdl_instances.specs.Core.{IsReady, IsSound, IsLegalIn}
 use Rattle.sdl_instances.specs.Calls.{KeepsRest}
-use Rattle.sdl_ends.specs.Ends.{WorkerEnds, HasFeed, put_at, taken_by}
-pub use Rattle.sdl_ends.specs.Ends.{AreFresh}
+use Rattle.sdl_forward.specs.sdl_ends.Ends.{WorkerEnds, HasFeed, put_at, taken_by}
+pub use Rattle.sdl_forward.specs.sdl_ends.Ends.{AreFresh}
 use Rattle.sdl_hand.specs.declared.hand.Stepped.{Stepped}
 use Rattle.sdl_hand.specs.declared.hand.Stepped.TheVariants.{Did, Idle, Memory}
 use Rattle.sdl_hand.specs.Work.{Working, beginning_at}

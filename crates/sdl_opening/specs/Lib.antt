@@ -1,3 +1,4 @@
+pub use Rattle.sdl_ends.specs as sdl_ends
 pub mod Stations
 pub mod Workers
 pub mod Puts

@@ -2,16 +2,16 @@
 use Rattle.std.specs.Prelude.{ℕ, suc, ◌+◌, ◌-◌, ◌*◌, cond, List, [], ◌∷◌, Some, None, length, slice_get, sum_by}
 use Rattle.sdl_signal.specs.declared.values.Item.{Item}
 use Rattle.sdl_routes.specs.declared.route.Station.{Station}
-use Rattle.sdl_instances.specs.Run.{turns}
-use Rattle.sdl_forward.specs.Boards.{same_station}
-use Rattle.sdl_opening.specs.declared.worker.Worker.{Worker}
-use Rattle.sdl_opening.specs.declared.worker.Worker.TheVariants.{Block, Environment, Forwarder}
+use Rattle.sdl_outcome.specs.sdl_instances.Run.{turns}
+use Rattle.sdl_outcome.specs.sdl_forward.Boards.{same_station}
+use Rattle.sdl_outcome.specs.sdl_opening.declared.worker.Worker.{Worker}
+use Rattle.sdl_outcome.specs.sdl_opening.declared.worker.Worker.TheVariants.{Block, Environment, Forwarder}
 use Rattle.sdl_outcome.specs.Stations.{Ways, place}
 use Rattle.sdl_outcome.specs.Books.{standing}
 use Rattle.sdl_outcome.specs.Plan.{Plan, ways_of, workers_of}
 use Rattle.sdl_signal.specs.Environment.{most_lines}
 use Rattle.sdl_outcome.specs.EnvironmentWork.{EnvWorking}
-use Rattle.sdl_hand.specs.Work.{Working}
+use Rattle.sdl_outcome.specs.sdl_hand.Work.{Working}
 use Rattle.sdl_order.specs.Driver.{Site, site_books}
 
 -- how many stations of the list there are from s on

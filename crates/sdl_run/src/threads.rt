@@ -1,23 +1,23 @@
 //! A whole run in threads.
 ghost use Rattle.std.specs.Prelude.{◌≡◌, ◌≤◌, length, IfOk, IfErr};
-ghost use Rattle.sdl_transition.specs.Bound.{AreOneSystem, IsBound};
-ghost use Rattle.sdl_serial_run.specs.sdl_driver.Closings.{HasReadIn, HasWrittenIn, StopsByMemory, IsSameBound, outcome_in, plan_of_bound};
-ghost use Rattle.sdl_serial_run.specs.sdl_driver.Ended.{HasEnded};
-ghost use Rattle.sdl_serial_run.specs.sdl_outcome.Lists.{items_in};
-ghost use Rattle.sdl_serial_run.specs.Serial.{IsBoundOf, IsBackIn, plan_of_parts};
+ghost use Rattle.sdl_settling.specs.sdl_transition.Bound.{AreOneSystem, IsBound};
+ghost use Rattle.sdl_settling.specs.sdl_serial_run.sdl_driver.Closings.{HasReadIn, HasWrittenIn, StopsByMemory, IsSameBound, outcome_in, plan_of_bound};
+ghost use Rattle.sdl_settling.specs.sdl_serial_run.sdl_driver.Ended.{HasEnded};
+ghost use Rattle.sdl_settling.specs.sdl_serial_run.sdl_outcome.Lists.{items_in};
+ghost use Rattle.sdl_settling.specs.sdl_serial_run.Serial.{IsBoundOf, IsBackIn, plan_of_parts};
 ghost use Rattle.sdl_run.specs.Room.{IsThreadRoom};
 
 use crate::joining::{Starting, run_apart};
 use crate::room::{ThreadRoom, make_thread_room};
-use sdl_instances::bounds::parts_are_bound;
-use sdl_log::Keeps;
-use sdl_parts::Checked;
-use sdl_routes::Routes;
-use sdl_serial_run::blocks::{gather, start_blocks};
-use sdl_serial_run::sdl_driver::closing::{Closing, StartFault};
+use sdl_settling::sdl_instances::bounds::parts_are_bound;
+use sdl_settling::sdl_log::Keeps;
+use sdl_settling::sdl_parts::Checked;
+use sdl_settling::sdl_routes::Routes;
+use sdl_settling::sdl_serial_run::blocks::{gather, start_blocks};
+use sdl_settling::sdl_serial_run::sdl_driver::closing::{Closing, StartFault};
+use sdl_settling::sdl_threads::Gate;
+use sdl_settling::sdl_transition::{Agents, BlockParts, Bound};
 use sdl_settling::settling::settle;
-use sdl_threads::Gate;
-use sdl_transition::{Agents, BlockParts, Bound};
 use std::alloc::Global;
 use std::io::{Read, Write};
 use std::sync::Wait;

@@ -1,16 +1,16 @@
 -- What a driver that goes on reads and writes, and the system that it hands back.
 use Rattle.std.proofs.Common.{ℕ, List, Option, map, ◌≡◌, sym, ◌∙◌, subst}
-use Rattle.sdl_signal.specs.declared.values.Item.{Item}
-use Rattle.sdl_routes.specs.declared.route.Station.{Station}
-use Rattle.sdl_routes.specs.Routes.{EachOnce}
-use Rattle.sdl_queue.specs.declared.rest.Rest.{Rest}
-use Rattle.sdl_queue.specs.Rest.{left_in}
-use Rattle.sdl_behaviour.specs.declared.step.Frame.{Frame}
-use Rattle.sdl_behaviour.specs.declared.step.Step.{Step}
-use Rattle.sdl_forward.specs.Boards.{stations_of, lists_of}
+use Rattle.sdl_serial_run.specs.sdl_signal.declared.values.Item.{Item}
+use Rattle.sdl_serial_run.specs.sdl_routes.declared.route.Station.{Station}
+use Rattle.sdl_serial_run.specs.sdl_routes.Routes.{EachOnce}
+use Rattle.sdl_serial_run.specs.sdl_driver.sdl_queue.declared.rest.Rest.{Rest}
+use Rattle.sdl_serial_run.specs.sdl_driver.sdl_queue.Rest.{left_in}
+use Rattle.sdl_serial_run.specs.sdl_behaviour.declared.step.Frame.{Frame}
+use Rattle.sdl_serial_run.specs.sdl_behaviour.declared.step.Step.{Step}
+use Rattle.sdl_serial_run.specs.sdl_driver.sdl_forward.Boards.{stations_of, lists_of}
 use Rattle.sdl_serial_run.specs.sdl_block.Workers.{worker_of}
-use Rattle.sdl_opening.proofs.Opened.{order_once}
-use Rattle.sdl_transition.specs.declared.binding.Bound.{Bound}
+use Rattle.sdl_serial_run.proofs.driving.opening.Opened.{order_once}
+use Rattle.sdl_serial_run.specs.sdl_transition.declared.binding.Bound.{Bound}
 use Rattle.sdl_serial_run.specs.sdl_outcome.Plan.{Plan, blocks_in}
 use Rattle.sdl_serial_run.specs.sdl_outcome.EnvironmentWork.{HasReadSoFar, HasWrittenSoFar}
 use Rattle.sdl_serial_run.specs.sdl_driver.declared.closing.Closing.{Closing}

@@ -3,7 +3,7 @@ ghost use Rattle.std.specs.Prelude.{◌≡◌};
 ghost use Rattle.sdl_threads.specs.KindsBack.{back_of_block, back_of_forwarder};
 
 use crate::work::{Returned, Stepped, Work};
-use sdl_ends::Marks;
+use sdl_block::sdl_ends::Marks;
 use sdl_parts::Structure;
 use sdl_routes::Routes;
 use std::sync::Wait;

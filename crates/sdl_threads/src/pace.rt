@@ -5,7 +5,7 @@ use crate::lead::Lead;
 use crate::told::{ASLEEP, LISTENING, Told};
 use crate::work::{Returned, Stepped, Work};
 use crossbeam_utils::Backoff;
-use sdl_ends::{FREE_MARK, Marks};
+use sdl_block::sdl_ends::{FREE_MARK, Marks};
 use sdl_parts::Structure;
 use sdl_routes::Routes;
 use std::hint::spin_loop;

@@ -1,6 +1,6 @@
 //! What the threads tell each other.
 use crossbeam_utils::CachePadded;
-use sdl_ends::{MARKS, Marks};
+use sdl_block::sdl_ends::{MARKS, Marks};
 use std::array::from_fn;
 use std::sync::Wait;
 use std::sync::atomic::AtomicU64;

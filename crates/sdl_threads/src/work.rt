@@ -1,6 +1,6 @@
 //! What a thread knows of its worker, and how the worker comes back.
-use sdl_ends::Marks;
-pub use sdl_hand::Stepped;
+use sdl_block::sdl_ends::Marks;
+pub use sdl_block::sdl_hand::Stepped;
 use sdl_parts::Structure;
 use sdl_routes::Routes;
 use std::sync::Wait;

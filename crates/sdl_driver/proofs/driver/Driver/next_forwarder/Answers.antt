@@ -2,8 +2,8 @@ use Rattle.std.proofs.Common.{◌≡◌, ℕ, [], Some, slice_get, inl, inr, ap,
 use Rattle.std.proofs.lemmas.Option.{same_Some}
 use Rattle.sdl_routes.specs.declared.route.Hop.{Hop}
 use Rattle.sdl_routes.specs.declared.route.Station.TheVariants.{Line}
-use Rattle.sdl_forward.specs.Boards.{waiting}
-use Rattle.sdl_forward.specs.Forwards.{Forwarding}
+use Rattle.sdl_order.specs.sdl_forward.Boards.{waiting}
+use Rattle.sdl_order.specs.sdl_forward.Forwards.{Forwarding}
 use Rattle.sdl_driver.proofs.Rounds.{last}
 use Rattle.sdl_driver.proofs.Scans.{read_at}
 use Rattle.sdl_driver.proofs.driver.Driver.next_forwarder.Goals as goal

@@ -1,7 +1,7 @@
 use Rattle.std.proofs.Common.{◌≡◌, ℕ, ◌<◌, ◌≤◌, [], Some, slice_get}
 use Rattle.sdl_routes.specs.declared.route.Station.TheVariants.{Line}
-use Rattle.sdl_forward.specs.Boards.{waiting}
-use Rattle.sdl_forward.specs.Forwards.{Forwarding}
+use Rattle.sdl_order.specs.sdl_forward.Boards.{waiting}
+use Rattle.sdl_order.specs.sdl_forward.Forwards.{Forwarding}
 use Rattle.sdl_driver.proofs.driver.Driver.next_forwarder.Given as goal
 
 abbrev pub invariant-loop-forwarder : goal.invariant-loop-forwarder
