@@ -1,8 +1,12 @@
 -- Forwarders that a round passes over, since they could do nothing.
-use Rattle.std.proofs.Common.{ℕ, zero, suc, ◌+◌, ◌-◌, ◌<◌, ◌≤◌, Bool, true, false, List, [], ◌∷◌, length, slice_get, set, ◌≡◌, ◌≢◌, Some, None, inl, inr, refl, ap, sym, ◌∙◌, subst, arith}
+use Rattle.std.proofs.Common.{ℕ, zero, suc, ◌+◌, ◌-◌, ◌<◌, ◌≤◌, Bool, true, false, List, [], ◌∷◌, length, map, drop, get_or, slice_get, set, ◌≡◌, ◌≢◌, Some, None, inl, inr, refl, ap, sym, ◌∙◌, subst, ltb, ltb-true, arith}
 use Rattle.std.specs.Bool.{MatchBool, ⊤}
+use Rattle.std.specs.List.Sorted.{IsNonDecreasingBy, IsPartitionPoint, IsPartitionedBy}
 use Rattle.std.proofs.lemmas.Bool.{cases_eq, cases_lt, false≢true}
-use Rattle.std.proofs.lemmas.Option.{same_Some, slice_get_within}
+use Rattle.std.proofs.lemmas.List.{get_or-map, get_or-drop, length-map}
+use Rattle.std.proofs.lemmas.List.Sorted.{IsNonDecreasingBy-drop, IsPartitionedBy-ltb}
+use Rattle.std.proofs.lemmas.Option.{same_Some, slice_get_within, get_or_from_slice_get}
+use Rattle.sdl_routes.specs.declared.route.Hop.{Hop}
 use Rattle.sdl_routes.specs.declared.route.Station.TheVariants.{Line}
 use Rattle.sdl_order.specs.sdl_forward.Boards.{waiting, IsBoardOf}
 use Rattle.sdl_order.specs.sdl_forward.Forwards.{Forwarding}
@@ -12,11 +16,12 @@ use Rattle.sdl_behaviour.specs.declared.step.Frame.{Frame}
 use Rattle.sdl_behaviour.specs.declared.step.Step.{Step}
 use Rattle.sdl_order.specs.sdl_hand.declared.hand.Stepped.{Stepped}
 use Rattle.sdl_order.specs.sdl_hand.declared.hand.Stepped.TheVariants.{Idle, Memory}
-use Rattle.sdl_order.specs.sdl_outcome.Plan.{Plan, blocks_in}
+use Rattle.sdl_order.specs.sdl_outcome.Plan.{Plan, blocks_in, lines_of}
 use Rattle.sdl_order.proofs.sdl_outcome.Lists.{get_set, get_set_other, set_same}
+use Rattle.sdl_order.proofs.sdl_outcome.Lines.{lines_rise, rise_by_channel}
 use Rattle.sdl_order.specs.Driver.{Site, IsAtWork, ForwarderSteps}
 use Rattle.sdl_driver.specs.declared.driver.Driver.{Driver}
-use Rattle.sdl_driver.specs.Drivers.{site_of, plan_of, IsSameSystem, AllFree, IsIdleAt, HasGone, stepped_by}
+use Rattle.sdl_driver.specs.Drivers.{site_of, plan_of, IsSameSystem, AllFree, AreByChannel, IsIdleAt, HasGone, stepped_by}
 use Rattle.sdl_driver.specs.Runs.{workers_below, WorkerSteps, StepsThrough}
 use Rattle.sdl_driver.proofs.Running.{round_on, worker_by}
 
@@ -132,3 +137,38 @@ module _ {S K I : Type 0} {F : I → Type 0} {g : _} (may : ℕ → Frame → St
 pub free_of : (answer : Bool) (A : Type 0) → MatchBool answer A ⊤ → answer ≡ true → A
 free_of true A h e = h
 free_of false A h e = absurd (false≢true e)
+
+-- forwarders stand by channel, as their paths do
+module _ (fs : List Forwarding) where
+  by_path : IsNonDecreasingBy (λ (h : Hop). h.channel.0) (map (λ f. f.hop) fs) → AreByChannel fs
+  by_path up i j d le less =
+      let a = ap (λ (h : Hop). h.channel.0) (get_or-map (λ (f : Forwarding). f.hop) fs i d d.hop (omega arith)) in
+      let b = ap (λ (h : Hop). h.channel.0) (get_or-map (λ (f : Forwarding). f.hop) fs j d d.hop less) in
+      let l = length-map fs (λ (f : Forwarding). f.hop) in
+      let u = up i j d.hop le (omega arith) in
+      omega arith
+
+  pub by_channel : (plan : Plan) → map (λ f. f.hop) fs ≡ lines_of plan → AreByChannel fs
+  by_channel plan same = by_path (subst (IsNonDecreasingBy (λ (h : Hop). h.channel.0)) (sym same) (rise_by_channel (lines_of plan) (lines_rise 0 plan.structure.channels)))
+
+-- Where forwarders stand by channel, those from one on have no lower channel than it, and those before the point at which a
+-- search by halves ends have a lower channel than the one that is looked for.
+module _ (fs : List Forwarding) (order : AreByChannel fs) (from : ℕ) where
+  pub no_lower : (k : ℕ) (f d : Forwarding) → from ≤ k → slice_get fs k ≡ Some f → (get_or fs from d).hop.channel.0 ≤ f.hop.channel.0
+  no_lower k f d le at =
+      let is = ap (λ (x : Forwarding). x.hop.channel.0) (get_or_from_slice_get fs k f d at) in
+      let up = order from k d le (slice_get_within fs k f at) in
+      omega arith
+
+  module _ (rest : List Forwarding) (same : rest ≡ drop from fs) (busy : ℕ) where
+    pub parted : IsPartitionedBy (λ f. ltb f.hop.channel.0 busy) rest
+    parted = subst (IsPartitionedBy (λ (f : Forwarding). ltb f.hop.channel.0 busy)) (sym same)
+        (IsPartitionedBy-ltb (λ (f : Forwarding). f.hop.channel.0) (drop from fs) busy (IsNonDecreasingBy-drop (λ (f : Forwarding). f.hop.channel.0) from fs order))
+
+    pub before_busy : (point : ℕ) → IsPartitionPoint (λ f. ltb f.hop.channel.0 busy ≡ true) (λ f. ltb f.hop.channel.0 busy ≡ false) rest point
+        → (k : ℕ) (f : Forwarding) → from ≤ k → k < from + point → slice_get fs k ≡ Some f → f.hop.channel.0 < busy
+    before_busy point found k f le less at =
+        let place = k - from in
+        let here : from + place ≡ k = omega (arith, le) in
+        let is : get_or rest place f ≡ f = ap (λ (xs : List Forwarding). get_or xs place f) same ∙ (get_or-drop from fs place f ∙ (ap (λ (m : ℕ). get_or fs m f) here ∙ get_or_from_slice_get fs k f f at)) in
+        subst (λ (x : Forwarding). x.hop.channel.0 < busy) is (ltb-true _ _ (found.0 place f (omega arith) (omega (arith, le, less))))

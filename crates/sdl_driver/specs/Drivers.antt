@@ -1,5 +1,6 @@
 -- What a contract sees of a driver: its site, and the plan that it carries out.
 use Rattle.std.specs.Prelude.{◌≡◌, ◌≢◌, ℕ, ◌+◌, ◌<◌, Bool, true, false, List, [], map, length, slice_get, Option, Some, None, All}
+use Rattle.std.specs.List.Sorted.{IsNonDecreasingBy}
 use Rattle.sdl_routes.specs.declared.route.Station.{Station}
 use Rattle.sdl_routes.specs.declared.route.Station.TheVariants.{Line, Outlet}
 use Rattle.sdl_queue.specs.declared.rest.Rest.{Rest}
@@ -62,6 +63,10 @@ pub record IsIdleAt (site : Site) (n : ℕ) : Type 0 where
   pub block : (w : Working) → slice_get site.blocks n ≡ Some w → IsAtRest w site.board
   pub environment : n ≡ length site.blocks → (site.environment.ended ≢ None) × (site.environment.outgoing ≡ []) × (waiting site.board Outlet ≡ [])
   pub forwarder : (k : ℕ) (f : Forwarding) → n ≡ length site.blocks + 1 + k → slice_get site.forwarders k ≡ Some f → (f.held ≡ None) × (waiting site.board (Line f.hop) ≡ [])
+
+-- the forwarders stand by the numbers of their channels, the lowest first
+abbrev pub AreByChannel : List Forwarding → Type 0
+AreByChannel = IsNonDecreasingBy (λ f. f.hop.channel.0)
 
 -- no forwarder holds an item
 abbrev pub AllFree : Site → Type 0

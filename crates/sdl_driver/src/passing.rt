@@ -5,7 +5,7 @@ ghost use Rattle.sdl_order.specs.sdl_forward.Boards.{waiting};
 ghost use Rattle.sdl_order.specs.sdl_forward.Forwards.{Forwarding};
 ghost use Rattle.sdl_order.specs.sdl_hand.declared.hand.Stepped.TheVariants.{Idle};
 ghost use Rattle.sdl_order.specs.sdl_outcome.Plan.{workers_of};
-ghost use Rattle.sdl_driver.specs.Drivers.{site_of, plan_of, IsDriving, AllFree, IsIdleAt};
+ghost use Rattle.sdl_driver.specs.Drivers.{site_of, plan_of, IsDriving, AllFree, AreByChannel, IsIdleAt};
 ghost use Rattle.sdl_driver.specs.Runs.{WorkerSteps};
 
 use crate::driver::Driver;
@@ -26,26 +26,20 @@ impl<S: Agents, K: Keeps> Driver<S, K> {
     }
 
     /// A forwarder up to which, from this one on, nothing waits at any one's path: mostly the first at whose path something
-    /// does.
+    /// does. The search halves what is left, since the forwarders stand by channel.
     fn next_forwarder(&self, from: usize) -> usize
         requires within { from ≤ length self.now.forwarders.items }
+        requires order { AreByChannel self.now.forwarders.items }
         ensures from { from ≤ result }
         ensures within { result ≤ length self.now.forwarders.items }
         ensures empty { (k : ℕ) (f : Forwarding) → from ≤ k → k < result → slice_get self.now.forwarders.items k ≡ Some f → waiting self.now.board (Line f.hop) ≡ [] }
     {
-        let forwarders = self.forwarders.len();
-        if from == forwarders || self.board.has_no_mark() {
-            return forwarders;
+        let forwarders = self.forwarders.as_slice();
+        if from == forwarders.len() || self.board.has_no_mark() {
+            return forwarders.len();
         }
-        let low = self.forwarders[from].hop().channel;
-        let busy = self.board.next_busy(low);
-        for forwarder in from..forwarders {
-            let channel = self.forwarders[forwarder].hop().channel;
-            if channel.0 < low.0 || busy.0 <= channel.0 {
-                return forwarder;
-            }
-        }
-        forwarders
+        let busy = self.board.next_busy(forwarders[from].hop().channel);
+        from + forwarders[from..].partition_point(|forwarder| forwarder.hop().channel.0 < busy.0)
     }
 
     /// The worker that is to make a step, from this one on: where no forwarder holds an item, those at whose paths nothing

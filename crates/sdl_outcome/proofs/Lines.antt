@@ -1,6 +1,7 @@
--- Each delaying path stands once among those of a structure.
-use Rattle.std.proofs.Common.{ℕ, ◌+◌, ◌≤◌, Bool, true, false, cond, List, [], ◌∷◌, ◌++◌, ◌≡◌, ◌≢◌, refl, ap, sym, ◌∙◌, arith}
+-- Each delaying path stands once among those of a structure, and they stand by the numbers of their channels.
+use Rattle.std.proofs.Common.{ℕ, zero, suc, ◌+◌, ◌<◌, ◌≤◌, Bool, true, false, cond, List, [], ◌∷◌, ◌++◌, length, get_or, ◌≡◌, ◌≢◌, refl, ap, sym, ◌∙◌, arith}
 use Rattle.std.specs.List.{AllByRecursion}
+use Rattle.std.specs.List.Sorted.{IsNonDecreasingBy}
 use Rattle.std.proofs.lemmas.Bool.{cond_both, false≢true}
 use Rattle.sdl_signal.specs.declared.ids.SignalId.{SignalId}
 use Rattle.sdl_parts.specs.declared.parts.Channel.{Channel}
@@ -53,3 +54,38 @@ lines_once n [] = tt
 lines_once n (c ∷ cs) =
     once_both (λ (h : Hop). h.channel.0 ≡ n) (λ (h : Hop). n + 1 ≤ h.channel.0) (λ h k p q same. let e = ap (λ (x : Hop). x.channel.0) same in omega arith)
     (lines_at n c) (lines_from (n + 1) cs) (lines_at_are n c) (lines_above (n + 1) cs) (lines_at_once n c) (lines_once (n + 1) cs)
+
+-- no path's channel is lower than that of one before it
+abbrev pub Rise : List Hop → Type 0
+Rise [] = Unit {0}
+Rise (h ∷ hs) = AllByRecursion (λ (k : Hop). h.channel.0 ≤ k.channel.0) hs × Rise hs
+
+-- two lists, the first of paths of one channel, and the second of such as are no lower
+rise_both : (n : ℕ) (xs ys : List Hop) → AllByRecursion (λ (h : Hop). h.channel.0 ≡ n) xs → AllByRecursion (λ (h : Hop). n ≤ h.channel.0) ys → Rise ys → Rise (xs ++ ys)
+rise_both n [] ys p q r = r
+rise_both n (x ∷ xs) ys p q r = (
+  all_append (λ (k : Hop). x.channel.0 ≤ k.channel.0) xs ys
+      (all_weaker (λ (k : Hop). k.channel.0 ≡ n) (λ (k : Hop). x.channel.0 ≤ k.channel.0) (λ k e. omega (arith, p.0)) xs p.1)
+      (all_weaker (λ (k : Hop). n ≤ k.channel.0) (λ (k : Hop). x.channel.0 ≤ k.channel.0) (λ k e. omega (arith, p.0)) ys q),
+  rise_both n xs ys p.1 q r,
+)
+
+pub lines_rise : (n : ℕ) (cs : List Channel) → Rise (lines_from n cs)
+lines_rise n [] = tt
+lines_rise n (c ∷ cs) =
+    rise_both n (lines_at n c) (lines_from (n + 1) cs) (lines_at_are n c)
+    (all_weaker (λ (h : Hop). n + 1 ≤ h.channel.0) (λ (h : Hop). n ≤ h.channel.0) (λ h e. omega arith) (lines_from (n + 1) cs) (lines_above (n + 1) cs))
+    (lines_rise (n + 1) cs)
+
+above_at : (m : ℕ) (hs : List Hop) → AllByRecursion (λ (k : Hop). m ≤ k.channel.0) hs → (j : ℕ) (d : Hop) → j < length hs → m ≤ (get_or hs j d).channel.0
+above_at m [] p j d less = absurd (omega arith)
+above_at m (h ∷ hs) p zero d less = p.0
+above_at m (h ∷ hs) p (suc j) d less = above_at m hs p.1 j d (omega arith)
+
+-- the same by their places
+pub rise_by_channel : (hs : List Hop) → Rise hs → IsNonDecreasingBy (λ (h : Hop). h.channel.0) hs
+rise_by_channel [] r i j d le less = absurd (omega arith)
+rise_by_channel (h ∷ hs) r zero zero d le less = omega arith
+rise_by_channel (h ∷ hs) r zero (suc j) d le less = above_at h.channel.0 hs r.0 j d (omega arith)
+rise_by_channel (h ∷ hs) r (suc i) zero d le less = absurd (omega arith)
+rise_by_channel (h ∷ hs) r (suc i) (suc j) d le less = rise_by_channel hs r.1 i j d (omega arith) (omega arith)

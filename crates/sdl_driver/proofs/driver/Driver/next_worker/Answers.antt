@@ -3,7 +3,7 @@ use Rattle.std.proofs.lemmas.List.{length-map}
 use Rattle.sdl_block.specs.Workers.{worker_of}
 use Rattle.sdl_driver.specs.Drivers.{site_of, plan_of}
 use Rattle.sdl_driver.proofs.Drives.{workers_count, workers_few}
-use Rattle.sdl_driver.proofs.PassedOver.{passed_over}
+use Rattle.sdl_driver.proofs.PassedOver.{passed_over, by_channel}
 use Rattle.sdl_driver.proofs.driver.Driver.next_worker.Goals as goal
 
 pub next_forwarder-requires : goal.next_forwarder-requires
@@ -13,7 +13,7 @@ next_forwarder-requires g c =
     let b = length-map d.blocks.items worker_of in
     let e = c.len-first.ensures in
     let w = c.requires.within in
-    record { within = omega arith }
+    record { within = omega arith; order = by_channel d.forwarders.items (plan_of d) c.requires.driving.work.forwarders }
 
 pub overflow_cast-result : goal.overflow_cast-result
 overflow_cast-result g c =
