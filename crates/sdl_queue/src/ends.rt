@@ -123,6 +123,22 @@ impl Tap {
         ensures same { IsSameTap self.old self.new }
         ensures taken { MatchOption slot.new (self.new.taken ≡ self.old.taken) (λ x. (t : Tagged) × (t.item ≡ x) × (self.new.taken ≡ self.old.taken ++ t ∷ [])) }
     {
+        let queue = &self.line.queue;
+        let head = queue.head(&mut self.pass);
+        match queue.try_pop_from::<Tapping, R>(rt, &mut self.pass, head) {
+            Ok(Some(tagged)) => *slot = Some(tagged.item),
+            Ok(None) => {}
+            Err(_) => self.take_again(rt, slot),
+        }
+    }
+
+    // Takes the item at the front where a first attempt met another that takes. There is one tap, so that this is for the proof alone.
+    #[inline(never)]
+    fn take_again<R: Wait>(&mut self, rt: &R, slot: &mut Option<Item>)
+        requires none { slot.old ≡ None }
+        ensures same { IsSameTap self.old self.new }
+        ensures taken { MatchOption slot.new (self.new.taken ≡ self.old.taken) (λ x. (t : Tagged) × (t.item ≡ x) × (self.new.taken ≡ self.old.taken ++ t ∷ [])) }
+    {
         if let Some(tagged) = self.line.queue.pop_as::<Tapping, R>(rt, &mut self.pass) {
             *slot = Some(tagged.item);
         }
