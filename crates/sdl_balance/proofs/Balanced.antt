@@ -21,7 +21,7 @@ use Rattle.sdl_ledger.specs.sdl_outcome.EnvironmentWork.{env_sent}
 use Rattle.sdl_ledger.specs.sdl_outcome.Plan.{Plan, system_at}
 use Rattle.sdl_ledger.specs.sdl_outcome.Outcome.{WorkerHand, Outcome, AreRunsFrom}
 use Rattle.sdl_ledger.specs.Counts.{IsTraced, IsLimited, IsLedgerOf, Balances, CountsFit, output_by, no_route_by, no_route_at, entered_in, no_instance_in, gone_in, fired_in, implicit_in, stopped_in, items_held, over_events, all_output, all_no_route, all_entered, all_left, waiting_in, most_outputs}
-use Rattle.sdl_ledger.proofs.sdl_outcome.Sums.{sum_both}
+use Rattle.sdl_ledger.proofs.outcome.Sums.{sum_both}
 use Rattle.sdl_ledger.proofs.Adding.{sum_map}
 use Rattle.sdl_balance.proofs.Ports.{ports_balance}
 use Rattle.sdl_balance.proofs.Traces.{nothing_lost}

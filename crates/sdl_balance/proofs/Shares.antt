@@ -14,10 +14,10 @@ use Rattle.sdl_ledger.specs.sdl_opening.declared.worker.Worker.TheVariants.{Bloc
 use Rattle.sdl_ledger.specs.sdl_outcome.Stations.{Among, Once, place, taker, same_worker}
 use Rattle.sdl_ledger.specs.sdl_outcome.Plan.{blocks_from}
 use Rattle.sdl_ledger.specs.sdl_outcome.Outcome.{of_worker}
-use Rattle.sdl_ledger.proofs.sdl_outcome.Lists.{all_weaker, all_map}
-use Rattle.sdl_ledger.proofs.sdl_outcome.Comparisons.{same_station_is, same_station_itself, same_worker_is, same_worker_itself}
-use Rattle.sdl_ledger.proofs.sdl_outcome.Workers.{place_apart, taker_place}
-use Rattle.sdl_ledger.proofs.sdl_outcome.Sums.{sum_same, sum_none}
+use Rattle.sdl_ledger.proofs.outcome.Lists.{all_weaker, all_map}
+use Rattle.sdl_ledger.proofs.outcome.Comparisons.{same_station_is, same_station_itself, same_worker_is, same_worker_itself}
+use Rattle.sdl_ledger.proofs.outcome.Workers.{place_apart, taker_place}
+use Rattle.sdl_ledger.proofs.outcome.Sums.{sum_same, sum_none}
 use Rattle.sdl_balance.proofs.Spread.{all_apart}
 
 other_worker : (v w : Worker) → v ≢ w → same_worker v w ≡ false

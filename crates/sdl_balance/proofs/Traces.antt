@@ -23,7 +23,7 @@ use Rattle.sdl_log.specs.declared.event.Event.{Event}
 use Rattle.sdl_ledger.specs.sdl_instances.Machine.{State}
 use Rattle.sdl_ledger.specs.sdl_instances.Run.{Leads as LeadsTo, IsRun, done_in, sent_by, sent, arrived, all_done, initial}
 use Rattle.sdl_ledger.specs.sdl_instances.Core.{numbers_of, sets_of}
-use Rattle.sdl_ledger.proofs.sdl_instances.Home.{IsHome, IsFromBlock, next_home, run_home}
+use Rattle.sdl_ledger.proofs.instances.Home.{IsHome, IsFromBlock, next_home, run_home}
 use Rattle.sdl_ledger.specs.sdl_forward.Boards.{same_station, stations_of}
 use Rattle.sdl_ledger.specs.sdl_opening.declared.worker.Worker.{Worker}
 use Rattle.sdl_ledger.specs.sdl_opening.declared.worker.Worker.TheVariants.{Block, Environment, Forwarder}
@@ -33,14 +33,14 @@ use Rattle.sdl_ledger.specs.sdl_outcome.Books.{Books, of_route, standing, left}
 use Rattle.sdl_ledger.specs.sdl_outcome.Plan.{Plan, blocks_in, blocks_from, lines_of, workers_of, ways_of, system_at, starter, worker_of_set}
 use Rattle.sdl_ledger.specs.sdl_outcome.Outcome.{WorkerHand, Outcome, AreRunsFrom, of_worker, books_of}
 use Rattle.sdl_ledger.specs.Counts.{IsTraced}
-use Rattle.sdl_ledger.proofs.sdl_outcome.Lists.{all_front, all_end, all_append, all_weaker, all_every, all_both}
-use Rattle.sdl_ledger.proofs.sdl_outcome.Comparisons.{same_station_is, same_station_itself, same_worker_is, same_worker_itself}
-use Rattle.sdl_ledger.proofs.sdl_outcome.AlongStations.{place_taker}
-use Rattle.sdl_ledger.proofs.sdl_outcome.Along.{no_other}
-use Rattle.sdl_ledger.proofs.sdl_outcome.Ways.{ways_are, leads_within, row_of}
-use Rattle.sdl_ledger.proofs.sdl_outcome.Workers.{count_blocks}
-use Rattle.sdl_ledger.proofs.sdl_outcome.Workers.{workers_once}
-use Rattle.sdl_ledger.proofs.sdl_outcome.Sums.{sum_same, sum_both}
+use Rattle.sdl_ledger.proofs.outcome.Lists.{all_front, all_end, all_append, all_weaker, all_every, all_both}
+use Rattle.sdl_ledger.proofs.outcome.Comparisons.{same_station_is, same_station_itself, same_worker_is, same_worker_itself}
+use Rattle.sdl_ledger.proofs.outcome.AlongStations.{place_taker}
+use Rattle.sdl_ledger.proofs.outcome.Along.{no_other}
+use Rattle.sdl_ledger.proofs.outcome.Ways.{ways_are, leads_within, row_of}
+use Rattle.sdl_ledger.proofs.outcome.Workers.{count_blocks}
+use Rattle.sdl_ledger.proofs.outcome.Workers.{workers_once}
+use Rattle.sdl_ledger.proofs.outcome.Sums.{sum_same, sum_both}
 use Rattle.sdl_ledger.proofs.Adding.{sum_map}
 use Rattle.sdl_balance.proofs.Spread.{below, below_less, number, number_all, number_none, sum_over, sum_swap, sum_reverse}
 use Rattle.sdl_balance.proofs.Shares.{AreAt, at_none, at_next, all_workers, no_worker, over_workers, no_station, over_stations, order_once, once_each, places_once, among_places}

@@ -1,7 +1,7 @@
-pub use Rattle.sdl_hand.proofs as sdl_hand
-pub use Rattle.sdl_hand.proofs.sdl_ends
-pub use Rattle.sdl_hand.proofs.sdl_forward
-pub use Rattle.sdl_hand.proofs.sdl_instances
+pub use Rattle.sdl_hand.proofs as hand
+pub use Rattle.sdl_hand.proofs.ends
+pub use Rattle.sdl_hand.proofs.forward
+pub use Rattle.sdl_hand.proofs.instances
 pub mod Parts
 pub mod Systems
 pub mod Going

@@ -29,9 +29,9 @@ use Rattle.sdl_order.specs.Driver.{Site, IsAtWork, BlockSteps, EnvironmentSteps,
 use Rattle.sdl_order.specs.sdl_outcome.EnvironmentWork.{EnvWorking, EnvStepsAs, HasReadSoFar, HasWrittenSoFar}
 use Rattle.sdl_driver.specs.Drivers.{site_of, plan_of, IsDriving, IsSameSystem, ReadsOver, WritesOver, StepAnswers, stepped_by}
 use Rattle.sdl_order.specs.Measure.{work_left}
-use Rattle.sdl_order.proofs.sdl_outcome.Lists.{set_same}
+use Rattle.sdl_order.proofs.outcome.Lists.{set_same}
 use Rattle.sdl_order.proofs.Between.{site_is, block_steps, environment_steps, forwarder_steps}
-use Rattle.sdl_order.proofs.sdl_outcome.Workers.{count_blocks}
+use Rattle.sdl_order.proofs.outcome.Workers.{count_blocks}
 use Rattle.sdl_order.proofs.Measure.{moves_lower}
 use Rattle.sdl_order.proofs.Lowers.{works_lower}
 use Rattle.sdl_order.proofs.LowersEnvironment.{env_lowers}

@@ -26,7 +26,7 @@ use Rattle.sdl_order.specs.sdl_outcome.Plan.{MayTravel, system_at}
 use Rattle.sdl_order.specs.Driver.{BlockSteps}
 use Rattle.sdl_driver.specs.Drivers.{site_of, plan_of, IsDriving}
 use Rattle.sdl_driver.specs.Runs.{BlockStepsAt}
-use Rattle.sdl_order.proofs.sdl_outcome.Lists.{map_set}
+use Rattle.sdl_order.proofs.outcome.Lists.{map_set}
 use Rattle.sdl_order.proofs.Starts.{block}
 use Rattle.sdl_order.proofs.BlockStep.{of_block_was}
 

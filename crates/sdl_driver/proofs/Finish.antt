@@ -12,7 +12,7 @@ use Rattle.sdl_ledger.specs.Counts.{IsTraced, IsLimited, IsLedgerOf, IsOnRoute, 
 use Rattle.sdl_order.specs.sdl_outcome.Ends.{EndsAs}
 use Rattle.sdl_driver.specs.Ended.{HasEnded}
 use Rattle.sdl_order.specs.Driver.{Site, IsAtWork, outcome_of, finals_of}
-use Rattle.sdl_order.proofs.sdl_outcome.Lists.{all_weaker}
+use Rattle.sdl_order.proofs.outcome.Lists.{all_weaker}
 use Rattle.sdl_order.proofs.Whole.{headline}
 use Rattle.sdl_order.proofs.Ending.{complete, cores, lawful, lefts, within_from, outgoing_same, outcome_in_order, forwarders_put}
 use Rattle.sdl_balance.proofs.Balanced.{balanced}

@@ -1,7 +1,7 @@
-pub use Rattle.sdl_order.proofs.sdl_hand as hand
-pub use Rattle.sdl_order.proofs.sdl_opening as opening
+pub use Rattle.sdl_order.proofs.hand
+pub use Rattle.sdl_order.proofs.opening
 pub use Rattle.sdl_order.proofs as order
-pub use Rattle.sdl_order.proofs.sdl_outcome as outcome
+pub use Rattle.sdl_order.proofs.outcome
 pub mod Driving
 pub mod Drives
 pub mod Rounds

@@ -17,8 +17,8 @@ use Rattle.sdl_behaviour.specs.declared.step.Step.{Step}
 use Rattle.sdl_order.specs.sdl_hand.declared.hand.Stepped.{Stepped}
 use Rattle.sdl_order.specs.sdl_hand.declared.hand.Stepped.TheVariants.{Idle, Memory}
 use Rattle.sdl_order.specs.sdl_outcome.Plan.{Plan, blocks_in, lines_of}
-use Rattle.sdl_order.proofs.sdl_outcome.Lists.{get_set, get_set_other, set_same}
-use Rattle.sdl_order.proofs.sdl_outcome.Lines.{lines_rise, rise_by_channel}
+use Rattle.sdl_order.proofs.outcome.Lists.{get_set, get_set_other, set_same}
+use Rattle.sdl_order.proofs.outcome.Lines.{lines_rise, rise_by_channel}
 use Rattle.sdl_order.specs.Driver.{Site, IsAtWork, ForwarderSteps}
 use Rattle.sdl_driver.specs.declared.driver.Driver.{Driver}
 use Rattle.sdl_driver.specs.Drivers.{site_of, plan_of, IsSameSystem, AllFree, AreByChannel, IsIdleAt, HasGone, stepped_by}

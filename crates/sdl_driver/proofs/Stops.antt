@@ -16,7 +16,7 @@ use Rattle.sdl_order.specs.Driver.{Site, IsAtWork, IsIdle, outcome_of, finals_of
 use Rattle.sdl_driver.specs.Drivers.{NoneSpent, FirstSpent, AllDone, SomeUndone, AllLeft, SomeLeft}
 use Rattle.sdl_driver.specs.Closings.{end_by}
 use Rattle.sdl_order.specs.sdl_outcome.Ends.{EndsAs, IsQuiet}
-use Rattle.sdl_order.proofs.sdl_outcome.Comparisons.{same_station_is, same_station_itself}
+use Rattle.sdl_order.proofs.outcome.Comparisons.{same_station_is, same_station_itself}
 use Rattle.sdl_order.proofs.Quiet.{number, get_map, quiet_end, none_spent_end, spent_end}
 
 -- no station stands before itself

@@ -14,7 +14,7 @@ use Rattle.sdl_outcome.specs.sdl_hand.declared.hand.Stepped.{Stepped}
 use Rattle.sdl_outcome.specs.sdl_hand.declared.hand.Stepped.TheVariants.{Did, Idle, Memory}
 use Rattle.sdl_outcome.specs.sdl_hand.Work.{beginning_at}
 use Rattle.sdl_outcome.specs.sdl_hand.Apart.{AreFresh}
-use Rattle.sdl_outcome.proofs.sdl_hand.Fronts.{beginning-append}
+use Rattle.sdl_outcome.proofs.hand.Fronts.{beginning-append}
 use Rattle.sdl_outcome.specs.declared.environment_output.EnvOut.{EnvOut}
 use Rattle.sdl_outcome.specs.EnvironmentWork.{EnvWorking, IsEnvFresh, IsEnvSound, IsLegalItem, GoesOut, ComesIn, AreCounted, origin_of, env_origins, env_sent}
 use Rattle.sdl_environment.specs.EnvApart.{HasGateWays, EnvWorksApart, EnvStepsApart, IsEnvPuttingOut}

@@ -28,7 +28,7 @@ use Rattle.sdl_routes.specs.declared.route.Hop.{Hop}
 use Rattle.sdl_routes.specs.Routes.{AreRoutesOf, IsRoute, IsLastStation, IsEndPoint, is_delaying}
 use Rattle.sdl_transition.specs.Offers.{IsLegalPid, IsLegalValue}
 use Rattle.sdl_outcome.specs.sdl_instances.Core.{signals_of, sets_of, numbers_of}
-use Rattle.sdl_outcome.proofs.sdl_forward.Same.{same_station_is}
+use Rattle.sdl_outcome.proofs.forward.Same.{same_station_is}
 use Rattle.sdl_outcome.specs.sdl_hand.Work.{beginning_at, first_station, is_station}
 use Rattle.sdl_outcome.specs.declared.environment_output.EnvOut.{EnvOut}
 use Rattle.sdl_outcome.specs.declared.environment_output.EnvOut.TheVariants as env_out

@@ -13,7 +13,7 @@ use Rattle.sdl_outcome.specs.sdl_forward.Boards.{stations_of, waiting}
 use Rattle.sdl_outcome.specs.sdl_hand.declared.hand.Refused.{Refused}
 use Rattle.sdl_outcome.specs.sdl_hand.Work.{beginning_at}
 use Rattle.sdl_outcome.specs.sdl_hand.Puts.{Puts, PutsOut}
-use Rattle.sdl_outcome.proofs.sdl_hand.Fronts.{beginning-append}
+use Rattle.sdl_outcome.proofs.hand.Fronts.{beginning-append}
 use Rattle.sdl_outcome.specs.declared.environment_output.EnvOut.{EnvOut}
 use Rattle.sdl_outcome.specs.declared.environment_output.EnvOut.TheVariants as env_out
 use Rattle.sdl_outcome.specs.EnvironmentWork.{EnvWorking, IsEnvSound, IsLegalItem, GoesOut, ComesIn, ReadsOn, AreCounted, IsOutputOf, origin_of, env_origins, env_sent, sent_of}

@@ -12,8 +12,8 @@ use Rattle.sdl_outcome.specs.sdl_ends.Ends.{WorkerEnds, IsSameEnds, put_at, take
 use Rattle.sdl_outcome.specs.sdl_hand.declared.hand.Refused.{Refused}
 use Rattle.sdl_outcome.specs.sdl_hand.Work.{beginning_at}
 use Rattle.sdl_outcome.specs.sdl_hand.PutsApart.{HasWayOut, HaveWaysOut, PutsApart, PutsOutApart}
-use Rattle.sdl_outcome.proofs.sdl_hand.Fronts.{beginning-append}
-use Rattle.sdl_outcome.proofs.sdl_hand.FrontsApart.{has_feed_still}
+use Rattle.sdl_outcome.proofs.hand.Fronts.{beginning-append}
+use Rattle.sdl_outcome.proofs.hand.FrontsApart.{has_feed_still}
 use Rattle.sdl_outcome.specs.declared.environment_output.EnvOut.{EnvOut}
 use Rattle.sdl_outcome.specs.EnvironmentWork.{EnvWorking, IsEnvSound, ComesIn, env_sent}
 use Rattle.sdl_environment.specs.EnvPhases.{Reads}

@@ -1,5 +1,5 @@
-pub use Rattle.sdl_opening.proofs as sdl_opening
-pub use Rattle.sdl_opening.proofs.sdl_ends
+pub use Rattle.sdl_opening.proofs as opening
+pub use Rattle.sdl_opening.proofs.ends
 pub mod Same
 pub mod Entries
 pub mod Collected

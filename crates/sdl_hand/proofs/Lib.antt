@@ -1,6 +1,6 @@
-pub use Rattle.sdl_forward.proofs as sdl_forward
-pub use Rattle.sdl_forward.proofs.sdl_ends
-pub use Rattle.sdl_forward.proofs.sdl_opening
-pub use Rattle.sdl_instances.proofs as sdl_instances
+pub use Rattle.sdl_forward.proofs as forward
+pub use Rattle.sdl_forward.proofs.ends
+pub use Rattle.sdl_forward.proofs.opening
+pub use Rattle.sdl_instances.proofs as instances
 pub mod Fronts
 pub mod FrontsApart

@@ -28,8 +28,8 @@ use Rattle.sdl_order.specs.sdl_hand.Apart.{IsPuttingOut, HasOwnWays, StartsIn}
 use Rattle.sdl_order.specs.sdl_outcome.Plan.{Plan, IsPlan, blocks_in, lines_of, workers_of, ways_of, system_at}
 use Rattle.sdl_order.specs.sdl_outcome.declared.environment_output.EnvOut.{EnvOut}
 use Rattle.sdl_order.specs.sdl_outcome.EnvironmentWork.{EnvWorking, IsEnvFresh, IsLegalItem, ComesIn, AreCounted, env_sent, env_origins}
-use Rattle.sdl_order.proofs.sdl_outcome.Lists.{all_at}
-use Rattle.sdl_order.proofs.sdl_outcome.Ways.{stations_at, start_at}
+use Rattle.sdl_order.proofs.outcome.Lists.{all_at}
+use Rattle.sdl_order.proofs.outcome.Ways.{stations_at, start_at}
 use Rattle.sdl_order.specs.Driver.{Site, IsCoreAt}
 use Rattle.sdl_order.proofs.StepEnvironment.{env_starts}
 use Rattle.sdl_order.proofs.ForwarderStep.{next_is}

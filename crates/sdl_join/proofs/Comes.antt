@@ -19,7 +19,7 @@ use Rattle.sdl_order.specs.sdl_opening.declared.worker.Worker.TheVariants.{Block
 use Rattle.sdl_order.specs.sdl_opening.Workers.{Ways, IsAgent, Among, next}
 use Rattle.sdl_order.specs.sdl_opening.Opens.{AreOpen, ends_of}
 use Rattle.sdl_order.specs.sdl_opening.Used.{AreUsed}
-use Rattle.sdl_order.proofs.sdl_opening.Using.{used_length}
+use Rattle.sdl_order.proofs.opening.Using.{used_length}
 use Rattle.sdl_order.specs.sdl_forward.Boards.{waiting, lists_of, IsBoardOf, AreAllStations}
 use Rattle.sdl_order.specs.sdl_forward.Forwards.{Forwarding, next_station}
 use Rattle.sdl_order.specs.sdl_forward.HandsOn.{IsHandingOn, going_to}
@@ -28,8 +28,8 @@ use Rattle.sdl_order.specs.sdl_hand.Apart.{IsPuttingOut}
 use Rattle.sdl_order.specs.sdl_outcome.Steps.{bound_for}
 use Rattle.sdl_order.specs.sdl_outcome.Plan.{Plan, IsPlan, MayTravel, blocks_in, lines_of, workers_of, ways_of, system_at}
 use Rattle.sdl_order.specs.sdl_outcome.EnvironmentWork.{ComesIn, env_sent}
-use Rattle.sdl_order.proofs.sdl_outcome.Lists.{filter_agrees}
-use Rattle.sdl_order.proofs.sdl_outcome.Workers.{workers_once}
+use Rattle.sdl_order.proofs.outcome.Lists.{filter_agrees}
+use Rattle.sdl_order.proofs.outcome.Workers.{workers_once}
 use Rattle.sdl_order.specs.Driver.{Site, site_books, held_at}
 use Rattle.sdl_order.proofs.BlockStep.{bound_is}
 use Rattle.sdl_order.proofs.StepEnvironment.{env_bound_is}

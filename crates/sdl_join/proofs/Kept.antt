@@ -9,7 +9,7 @@ use Rattle.sdl_order.specs.sdl_opening.declared.worker.Worker.{Worker}
 use Rattle.sdl_order.specs.sdl_opening.Workers.{Among, same_worker}
 use Rattle.sdl_order.specs.sdl_opening.Opens.{AreOwnEnds, ends_of}
 use Rattle.sdl_order.specs.sdl_opening.Used.{AreUsed}
-use Rattle.sdl_order.proofs.sdl_outcome.Lists.{all_map}
+use Rattle.sdl_order.proofs.outcome.Lists.{all_map}
 
 pub all_unmap : {X Y : Type 0} (P : Y → Type 0) (f : X → Y) (xs : List X) → AllByRecursion P (map f xs) → AllByRecursion (λ x. P (f x)) xs
 all_unmap P f [] h = tt

@@ -19,11 +19,11 @@ use Rattle.sdl_order.specs.sdl_forward.Boards.{waiting, lists_of}
 use Rattle.sdl_order.specs.sdl_opening.declared.worker.Worker.{Worker}
 use Rattle.sdl_order.specs.sdl_opening.Workers.{Among, place, taker, same_worker}
 use Rattle.sdl_order.specs.sdl_opening.Opens.{AreOwnEnds, ends_of}
-use Rattle.sdl_order.proofs.sdl_opening.Bringing.{among_left, among_right}
-use Rattle.sdl_order.proofs.sdl_outcome.Lists.{all_weaker}
-use Rattle.sdl_order.proofs.sdl_outcome.Comparisons.{same_station_is, same_station_itself}
-use Rattle.sdl_order.proofs.sdl_outcome.AlongStations.{place_taker}
-use Rattle.sdl_order.proofs.sdl_outcome.Workers.{taker_place}
+use Rattle.sdl_order.proofs.opening.Bringing.{among_left, among_right}
+use Rattle.sdl_order.proofs.outcome.Lists.{all_weaker}
+use Rattle.sdl_order.proofs.outcome.Comparisons.{same_station_is, same_station_itself}
+use Rattle.sdl_order.proofs.outcome.AlongStations.{place_taker}
+use Rattle.sdl_order.proofs.outcome.Workers.{taker_place}
 use Rattle.sdl_environment.specs.sdl_ends.Ends.{WorkerEnds, feed_at, put_at, number_at, taken_by, tap_at, column, taps, IsRejoinedAt, AreRejoined}
 use Rattle.sdl_join.proofs.Places.{ends_behind, ends_here}
 use Rattle.sdl_join.proofs.Kept.{all_unmap}

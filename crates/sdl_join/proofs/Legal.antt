@@ -8,8 +8,8 @@ use Rattle.sdl_order.specs.sdl_opening.declared.worker.Worker.{Worker}
 use Rattle.sdl_order.specs.sdl_opening.Workers.{Ways, IsAgent, Among}
 use Rattle.sdl_order.specs.sdl_outcome.Stations.{Leads, AreWays, IsWay}
 use Rattle.sdl_order.specs.sdl_outcome.Books.{Books, InOrder, of_route, outs, came, left, standing}
-use Rattle.sdl_order.proofs.sdl_outcome.Lists.{all_front, all_end, all_filter}
-use Rattle.sdl_order.proofs.sdl_outcome.Along.{back_from}
+use Rattle.sdl_order.proofs.outcome.Lists.{all_front, all_end, all_filter}
+use Rattle.sdl_order.proofs.outcome.Along.{back_from}
 
 of_route_tail : (P : Item → Type 0) (b : Bool) (x : Item) (xs : List Item) → AllByRecursion P (cond b (x ∷ xs) xs) → AllByRecursion P xs
 of_route_tail P true x xs h = h.1

@@ -20,10 +20,10 @@ use Rattle.sdl_order.specs.sdl_hand.Work.{is_station}
 use Rattle.sdl_order.specs.sdl_outcome.Stations.{Leads, AreWays, IsWay, Once}
 use Rattle.sdl_order.specs.sdl_outcome.Books.{Books, InOrder, of_route, outs, came, left, standing}
 use Rattle.sdl_order.specs.sdl_outcome.Steps.{bound_for}
-use Rattle.sdl_order.proofs.sdl_outcome.Lists.{all_front, all_end, all_append, all_weaker, all_both, all_every, all_map, all_passes, all_filter, filter_within, filter_none}
+use Rattle.sdl_order.proofs.outcome.Lists.{all_front, all_end, all_append, all_weaker, all_both, all_every, all_map, all_passes, all_filter, filter_within, filter_none}
 use Rattle.sdl_order.specs.sdl_opening.Opens.{Brings}
-use Rattle.sdl_order.proofs.sdl_outcome.AlongStations.{before_one, next_among, place_taker, after_rest, after_itself, next_agent}
-use Rattle.sdl_order.proofs.sdl_outcome.Along.{same_route, is_station_is, route_bound, way, ways, head, first_way, back_from}
+use Rattle.sdl_order.proofs.outcome.AlongStations.{before_one, next_among, place_taker, after_rest, after_itself, next_agent}
+use Rattle.sdl_order.proofs.outcome.Along.{same_route, is_station_is, route_bound, way, ways, head, first_way, back_from}
 use Rattle.sdl_environment.specs.sdl_ends.Ends.{WorkerEnds, feed_at, put_at, number_at, taken_by}
 use Rattle.sdl_join.specs.Joins.{given, pending, Joined}
 

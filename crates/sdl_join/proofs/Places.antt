@@ -12,12 +12,12 @@ use Rattle.sdl_order.specs.sdl_opening.declared.worker.Worker.{Worker}
 use Rattle.sdl_order.specs.sdl_opening.declared.worker.Worker.TheVariants.{Block, Environment, Forwarder}
 use Rattle.sdl_order.specs.sdl_opening.Workers.{Among, same_worker, blocks_from}
 use Rattle.sdl_order.specs.sdl_opening.Opens.{ends_of}
-use Rattle.sdl_order.proofs.sdl_opening.Distributing.{place_get}
+use Rattle.sdl_order.proofs.opening.Distributing.{place_get}
 use Rattle.sdl_order.specs.sdl_forward.Forwards.{Forwarding}
 use Rattle.sdl_order.specs.sdl_outcome.Plan.{Plan, blocks_in, lines_of, workers_of}
-use Rattle.sdl_order.proofs.sdl_outcome.Comparisons.{same_hop_is, same_hop_itself, same_worker_is, same_worker_itself}
-use Rattle.sdl_order.proofs.sdl_outcome.Lists.{all_at}
-use Rattle.sdl_order.proofs.sdl_outcome.Workers.{workers_once, count_blocks}
+use Rattle.sdl_order.proofs.outcome.Comparisons.{same_hop_is, same_hop_itself, same_worker_is, same_worker_itself}
+use Rattle.sdl_order.proofs.outcome.Lists.{all_at}
+use Rattle.sdl_order.proofs.outcome.Workers.{workers_once, count_blocks}
 use Rattle.sdl_order.specs.Driver.{held_at}
 
 -- another worker's ends are looked for further on

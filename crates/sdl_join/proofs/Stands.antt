@@ -18,10 +18,10 @@ use Rattle.sdl_order.specs.sdl_outcome.Books.{Books, InOrder, standing}
 use Rattle.sdl_order.specs.sdl_outcome.Plan.{Plan, IsPlan, MayTravel, ways_of}
 use Rattle.sdl_order.specs.sdl_outcome.EnvironmentWork.{ComesIn, GoesOut, env_sent}
 use Rattle.sdl_order.specs.Driver.{Site, site_books, kept_by, IsAtWork}
-use Rattle.sdl_order.proofs.sdl_outcome.Lists.{all_front, all_end, all_weaker}
+use Rattle.sdl_order.proofs.outcome.Lists.{all_front, all_end, all_weaker}
 use Rattle.sdl_order.proofs.Starts.{block, run_starts}
 use Rattle.sdl_order.proofs.Quiet.{passing, route_at, station_cases, last_outlet}
-use Rattle.sdl_order.proofs.sdl_outcome.Ways.{ways_are}
+use Rattle.sdl_order.proofs.outcome.Ways.{ways_are}
 use Rattle.sdl_environment.specs.sdl_ends.Ends.{WorkerEnds}
 use Rattle.sdl_join.specs.Joins.{HasPut, given, pending, Joined, kept_with, IsJoined}
 use Rattle.sdl_join.proofs.Order.{keeps_order}

@@ -1,5 +1,5 @@
-pub use Rattle.sdl_outcome.proofs as sdl_outcome
-pub use Rattle.sdl_outcome.proofs.sdl_forward
-pub use Rattle.sdl_outcome.proofs.sdl_instances
-pub use Rattle.sdl_outcome.proofs.sdl_opening
+pub use Rattle.sdl_outcome.proofs as outcome
+pub use Rattle.sdl_outcome.proofs.forward
+pub use Rattle.sdl_outcome.proofs.instances
+pub use Rattle.sdl_outcome.proofs.opening
 pub mod Adding

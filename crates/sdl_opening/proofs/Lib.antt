@@ -1,4 +1,4 @@
-pub use Rattle.sdl_ends.proofs as sdl_ends
+pub use Rattle.sdl_ends.proofs as ends
 pub mod Collected
 pub mod Counted
 pub mod Giving

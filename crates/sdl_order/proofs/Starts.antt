@@ -17,7 +17,7 @@ use Rattle.sdl_log.specs.declared.event.Event.{Event}
 use Rattle.sdl_outcome.specs.sdl_instances.Machine.{State}
 use Rattle.sdl_outcome.specs.sdl_instances.Run.{Leads, done_in, sent_by, sent, all_done, initial}
 use Rattle.sdl_outcome.specs.sdl_instances.Core.{Core, IsSound, IsBoundIn, numbers_of, sets_of}
-use Rattle.sdl_outcome.proofs.sdl_instances.Home.{IsHome, IsFromBlock, next_home, run_home}
+use Rattle.sdl_outcome.proofs.instances.Home.{IsHome, IsFromBlock, next_home, run_home}
 use Rattle.sdl_outcome.specs.sdl_opening.declared.worker.Worker.{Worker}
 use Rattle.sdl_outcome.specs.sdl_opening.declared.worker.Worker.TheVariants.{Block, Environment}
 use Rattle.sdl_outcome.specs.Plan.{Plan, ways_of, system_at, starter, worker_of_set}

@@ -1,8 +1,8 @@
-pub use Rattle.sdl_hand.proofs as sdl_hand
-pub use Rattle.sdl_hand.proofs.sdl_ends
-pub use Rattle.sdl_hand.proofs.sdl_forward
-pub use Rattle.sdl_hand.proofs.sdl_instances
-pub use Rattle.sdl_hand.proofs.sdl_opening
+pub use Rattle.sdl_hand.proofs as hand
+pub use Rattle.sdl_hand.proofs.ends
+pub use Rattle.sdl_hand.proofs.forward
+pub use Rattle.sdl_hand.proofs.instances
+pub use Rattle.sdl_hand.proofs.opening
 pub mod Comparisons
 pub mod Lists
 pub mod AlongStations

@@ -10,7 +10,7 @@ use Rattle.sdl_block.specs.sdl_forward.Forwards.{Forwarding}
 use Rattle.sdl_block.specs.sdl_forward.HandsOn.{IsHandingOn}
 use Rattle.sdl_block.specs.sdl_hand.Work.{Working}
 use Rattle.sdl_block.specs.sdl_hand.Apart.{IsPuttingOut}
-use Rattle.sdl_block.proofs.sdl_hand.FrontsApart.{has_feed_still}
+use Rattle.sdl_block.proofs.hand.FrontsApart.{has_feed_still}
 
 pub taken_same : (old new : WorkerEnds) → new.tap ≡ old.tap → taken_by new ≡ taken_by old
 taken_same old new tap = ap (λ o. taken_by (record { tap = o; feeds = [] })) tap

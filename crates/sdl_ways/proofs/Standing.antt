@@ -13,7 +13,7 @@ use Rattle.sdl_hand.specs.sdl_opening.declared.worker.Worker.{Worker}
 use Rattle.sdl_hand.specs.sdl_opening.declared.worker.Worker.TheVariants.{Block, Environment, Forwarder}
 use Rattle.sdl_hand.specs.sdl_opening.Workers.{same_worker, blocks_from, path_line, lines_from, workers_in}
 use Rattle.sdl_hand.specs.sdl_opening.Opens.{ends_of}
-use Rattle.sdl_hand.proofs.sdl_opening.Bringing.{same_worker_is, same_worker_itself, all_at}
+use Rattle.sdl_hand.proofs.opening.Bringing.{same_worker_is, same_worker_itself, all_at}
 
 -- a number for each worker, where there are so many blocks: those of the blocks, then that of the environment, then two for
 -- each channel
