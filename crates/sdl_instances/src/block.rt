@@ -30,7 +30,8 @@ pub struct BlockCore<S, K: Keeps = Vec<Event>> {
     pub(crate) table: Table<K>,
     pub(crate) parts: BlockParts<S>,
     /// What the last transition answered, as far as the log has not taken it. The step stays, so that none is made for each turn.
-    pub(crate) step: Step,
+    /// In a box, so that a worker is handed on without it.
+    pub(crate) step: Box<Step>,
 }
 
 impl<S: Agents, K: Keeps> BlockCore<S, K> {
@@ -59,12 +60,11 @@ impl<S: Agents, K: Keeps> BlockCore<S, K> {
     {
         let structure = checked.structure();
         structure.parts_agree();
+        let Ok(step) = Box::new(alloc, Step::blank()) else {
+            return Err((parts, AllocError));
+        };
         match Table::first(alloc, &parts, structure, budget) {
-            Ok(table) => Ok(BlockCore {
-                table,
-                parts,
-                step: Step::blank(),
-            }),
+            Ok(table) => Ok(BlockCore { table, parts, step }),
             Err(_) => Err((parts, AllocError)),
         }
     }

@@ -39,8 +39,8 @@ pub struct Table<K: Keeps> {
     pub(crate) living: Living,
     pub(crate) log: Counted<K>,
     /// What the actions of the last turn did, as far as the log has not taken it. The list stays, so that none is made for each
-    /// turn.
-    pub(crate) done: ArrayVec<Done, 8>,
+    /// turn. In a box, so that a worker is handed on without it.
+    pub(crate) done: Box<ArrayVec<Done, 8>>,
     pub(crate) outputs: u64,
     pub(crate) stamp: u64,
     pub(crate) made: u32,
@@ -74,6 +74,7 @@ impl<K: Keeps> Table<K> {
         let signals = sorts_of(alloc, structure.signals())?;
         let sets = numbers_of_sets(alloc, structure.sets())?;
         let last = first_serials(alloc, parts.block, sets.as_slice())?;
+        let done = Box::new(alloc, ArrayVec::new())?;
         let instances = Instances::of_map(alloc, first_living(alloc, parts, sets.as_slice())?)?;
         Ok(Table {
             block: parts.block,
@@ -85,7 +86,7 @@ impl<K: Keeps> Table<K> {
                 last,
             },
             log: Counted::new(alloc),
-            done: ArrayVec::new(),
+            done,
             outputs: 0,
             stamp: 0,
             made: 0,

@@ -93,20 +93,20 @@ impl<K: Keeps> Table<K> {
             stamp: self.stamp,
             pick,
         };
-        self.done.clear();
+        let done = &mut *self.done;
+        done.clear();
         act_all(
             &mut self.living,
             self.sets.as_slice(),
             actor,
             step.actions.as_slice(),
             mark,
-            &mut self.done,
+            done,
         );
         let stopped = self.living.finish(actor.place, &step.vars, step.next);
-        self.outputs += add_sent(self.done.as_slice(), hand);
+        self.outputs += add_sent(done.as_slice(), hand);
         self.made += 1;
         let pid = frame.self_pid;
-        self.log
-            .turn(pid, trigger, frame, step, &mut self.done, stopped);
+        self.log.turn(pid, trigger, frame, step, done, stopped);
     }
 }

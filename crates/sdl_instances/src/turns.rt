@@ -93,17 +93,18 @@ impl<S: Agents, K: Keeps> BlockCore<S, K> {
         ensures fires { Fires S.may (system_in self.old routes.now) pick frame.now.self_pid (core_of self.old) hand.new.items (core_of self.new) }
         ensures parts { parts_of self.new ≡ parts_of self.old }
     {
-        self.step.clear();
+        let step = &mut *self.step;
+        step.clear();
         self.parts
             .start(set_of(frame.self_pid))
-            .fire_into(frame, &mut self.step);
+            .fire_into(frame, step);
         let actor = Actor {
             routes,
             parts: &self.parts,
             place,
         };
         self.table
-            .complete(&actor, pick, Trigger::Start, frame, &mut self.step, hand);
+            .complete(&actor, pick, Trigger::Start, frame, step, hand);
     }
 
     /// Lets the instance at this place consume the signal at the front of its port, in this state.
@@ -129,22 +130,17 @@ impl<S: Agents, K: Keeps> BlockCore<S, K> {
             .row(set_of(frame.self_pid), state, signal_of(frame))
         {
             Some(transition) => {
-                self.step.clear();
-                transition.fire_into(frame, &mut self.step);
+                let step = &mut *self.step;
+                step.clear();
+                transition.fire_into(frame, step);
                 let item = self.table.consume(place);
                 let actor = Actor {
                     routes,
                     parts: &self.parts,
                     place,
                 };
-                self.table.complete(
-                    &actor,
-                    pick,
-                    Trigger::Fire(item),
-                    frame,
-                    &mut self.step,
-                    hand,
-                );
+                self.table
+                    .complete(&actor, pick, Trigger::Fire(item), frame, step, hand);
             }
             None => {
                 let item = self.table.consume(place);
