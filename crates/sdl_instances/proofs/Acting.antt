@@ -268,6 +268,13 @@ stamp_after m (done.Sent i) = refl
 stamp_after m (done.NoRoute o id) = refl
 stamp_after m (done.Made q) = refl
 
+-- an output takes a number
+pub mark_output : (routes : List TableRow) (p : Pid) (r : Record) (signal : Signal) (d : Dest) (v : Via) (m : Mark) (x : Done) → OutputsAs routes p r signal d v m x
+    → record m { origin = record m.origin { number = m.origin.number + 1 } } ≡ mark_after m x
+mark_output routes p r signal d v m (done.Sent i) h = refl
+mark_output routes p r signal d v m (done.NoRoute o id) h = refl
+mark_output routes p r signal d v m (done.Made q) h = absurd h
+
 pub number_after : (m : Mark) (x : Done) → (mark_after m x).origin.number ≤ m.origin.number + 1
 number_after m (done.Sent i) = omega arith
 number_after m (done.NoRoute o id) = omega arith

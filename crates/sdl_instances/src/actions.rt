@@ -6,7 +6,8 @@ ghost use Rattle.sdl_processes.specs.Record.{Record};
 ghost use Rattle.sdl_transition.specs.Rules.{block_rules};
 ghost use Rattle.sdl_transition.specs.Index.{IsIndexed};
 ghost use Rattle.sdl_instances.specs.Machine.{Does, set_of};
-ghost use Rattle.sdl_instances.specs.Living.{state_of, creatable_of, StandsAt, CanAct, CanCarryOut, CarriesOut, TakesAt, system_with};
+ghost use Rattle.sdl_instances.specs.Living.{state_of, creatable_of, StandsAt, CanAct, CanCarryOut, CarriesOut, TakesAt, system_with, mark_after};
+ghost use Rattle.sdl_log.specs.declared.event.Done.{Done};
 ghost use Rattle.std.specs.List.{AllByRecursion, flat_map};
 ghost use Rattle.sdl_instances.specs.Run.{origin_by, sent_by};
 
@@ -29,32 +30,33 @@ pub struct Actor<'a, S> {
     pub place: usize,
 }
 
-/// Carries out an action of the actor.
+/// Carries out an action of the actor, adds what it did, and answers with the mark of the next output.
+#[inline(always)]
 fn act<S: Agents>(
     living: &mut Living,
     sets: &[ProcessSet],
     actor: &Actor<S>,
     action: &Action,
     mark: Mark,
-) -> Done
+    done: &mut ArrayVec<Done, 8>,
+) -> Mark
     requires indexed { IsIndexed actor.now.parts.now }
     requires ready { CanCarryOut sets.now actor.now.place 1 (creatable_of living.old) (state_of living.old) }
     requires creatable { CanAct sets.now (block_rules actor.now.parts.now) action.now }
-    ensures does { (d : _) → CarriesOut S.may sets.now actor.now.routes.now (block_rules actor.now.parts.now) actor.now.place mark (action.now ∷ []) d (d ++ result ∷ []) (state_of living.old) (state_of living.new) }
+    requires room { length done.old.items + 1 ≤ 8 }
+    requires numbers { mark.origin.number + 1 < 2 ^ 64 }
+    ensures does { (d : Done) × (done.new.items ≡ done.old.items ++ d ∷ []) × (result ≡ mark_after mark d) × CarriesOut S.may sets.now actor.now.routes.now (block_rules actor.now.parts.now) actor.now.place mark (action.now ∷ []) done.old.items (done.old.items ++ d ∷ []) (state_of living.old) (state_of living.new) }
     ensures ready { (n : ℕ) → CanCarryOut sets.now actor.now.place (n + 1) (creatable_of living.old) (state_of living.old) → CanCarryOut sets.now actor.now.place n (creatable_of living.new) (state_of living.new) }
 {
     match action {
-        Action::Output { signal, dest, via } => living.output(
-            actor.routes,
-            actor.place,
-            signal,
-            *dest,
-            *via,
-            mark,
-        ),
+        Action::Output { signal, dest, via } => {
+            living.output(actor.routes, actor.place, signal, *dest, *via, mark, done);
+            mark.next()
+        }
         Action::Create(set) => {
             let vars = actor.parts.variables(*set);
-            Done::Made(living.create(sets, actor.place, *set, vars))
+            done.push(Done::Made(living.create(sets, actor.place, *set, vars)));
+            mark
         }
     }
 }
@@ -77,9 +79,7 @@ pub fn act_all<S: Agents>(
     ensures { CarriesOut S.may sets.now actor.now.routes.now (block_rules actor.now.parts.now) actor.now.place mark actions.now done.old.items done.new.items (state_of living.old) (state_of living.new) }
 {
     if let Some((action, rest)) = actions.split_first() {
-        let one = act(living, sets, actor, action, mark);
-        let next = mark.after(&one);
-        done.push(one);
+        let next = act(living, sets, actor, action, mark, done);
         // (mostly there is one action, and no call is made for none)
         if !rest.is_empty() {
             act_all(living, sets, actor, rest, next, done);

@@ -3,6 +3,7 @@ ghost use Rattle.std.specs.Prelude.{◌≡◌, ◌+◌, ◌<◌, ◌≤◌, ◌^
 ghost use Rattle.sdl_signal.specs.declared.values.Pid.{Pid};
 ghost use Rattle.sdl_signal.specs.declared.values.Pid.TheVariants as pid;
 ghost use Rattle.sdl_signal.specs.declared.values.Item.{Item};
+ghost use Rattle.sdl_log.specs.declared.event.Done.{Done};
 ghost use Rattle.sdl_processes.specs.Record.{Record, consumed};
 ghost use Rattle.sdl_instances.specs.Living.{state_of, creatable_of, StandsAt, HaveSerials, written, with_created, next_of, next_frame, CreatesAt, FinishesAt, OutputsAs};
 
@@ -103,7 +104,7 @@ impl Living {
         show_next(pid, instance, frame);
     }
 
-    /// Carries out an output of the instance at this place.
+    /// Carries out an output of the instance at this place, and adds what it did.
     #[inline(always)]
     pub fn output(
         &self,
@@ -113,13 +114,15 @@ impl Living {
         dest: Dest,
         via: Via,
         mark: Mark,
-    ) -> Done
+        done: &mut ArrayVec<Done, 8>,
+    )
         requires within { place < length (state_of self.now).living }
         requires serials { HaveSerials (state_of self.now) }
-        ensures { (p : Pid) (r : Record) → StandsAt (state_of self.now) place p r → OutputsAs routes.now p r signal.now dest via mark result }
+        requires room { length done.old.items + 1 ≤ 8 }
+        ensures { (d : Done) × (done.new.items ≡ done.old.items ++ d ∷ []) × ((p : Pid) (r : Record) → StandsAt (state_of self.now) place p r → OutputsAs routes.now p r signal.now dest via mark d) }
     {
         let (pid, instance) = self.instances.get(place);
-        output(routes, pid, instance, signal, dest, via, mark)
+        output(routes, pid, instance, signal, dest, via, mark, done);
     }
 
     /// Takes the signal at the front of its port from the instance at this place, whose SENDER it sets.
