@@ -38,7 +38,12 @@ impl<S: Agents, K: Keeps> Driver<S, K> {
         if from == forwarders.len() || self.board.has_no_mark() {
             return forwarders.len();
         }
-        let busy = self.board.next_busy(forwarders[from].hop().channel);
+        let low = forwarders[from].hop().channel;
+        let busy = self.board.next_busy(low);
+        // (mostly the first one has something to do)
+        if busy.0 <= low.0 {
+            return from;
+        }
         from + forwarders[from..].partition_point(|forwarder| forwarder.hop().channel.0 < busy.0)
     }
 
