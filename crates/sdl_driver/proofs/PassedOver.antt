@@ -1,10 +1,9 @@
 -- Forwarders that a round passes over, since they could do nothing.
-use Rattle.std.proofs.Common.{ℕ, zero, suc, ◌+◌, ◌-◌, ◌<◌, ◌≤◌, Bool, true, false, List, [], ◌∷◌, length, map, drop, get_or, slice_get, set, ◌≡◌, ◌≢◌, Some, None, inl, inr, refl, ap, sym, ◌∙◌, subst, ltb, ltb-true, arith}
+use Rattle.std.proofs.Common.{ℕ, zero, suc, ◌+◌, ◌-◌, ◌<◌, ◌≤◌, Bool, true, false, List, [], ◌∷◌, length, map, get_or, slice_get, set, ◌≡◌, ◌≢◌, Some, None, inl, inr, refl, ap, sym, ◌∙◌, subst, arith}
 use Rattle.std.specs.Bool.{MatchBool, ⊤}
-use Rattle.std.specs.List.Sorted.{IsNonDecreasingBy, IsPartitionPoint, IsPartitionedBy}
+use Rattle.std.specs.List.Sorted.{IsNonDecreasingBy}
 use Rattle.std.proofs.lemmas.Bool.{cases_eq, cases_lt, false≢true}
-use Rattle.std.proofs.lemmas.List.{get_or-map, get_or-drop, length-map}
-use Rattle.std.proofs.lemmas.List.Sorted.{IsNonDecreasingBy-drop, IsPartitionedBy-ltb}
+use Rattle.std.proofs.lemmas.List.{get_or-map, length-map}
 use Rattle.std.proofs.lemmas.Option.{same_Some, slice_get_within, get_or_from_slice_get}
 use Rattle.sdl_routes.specs.declared.route.Hop.{Hop}
 use Rattle.sdl_routes.specs.declared.route.Station.TheVariants.{Line}
@@ -151,24 +150,16 @@ module _ (fs : List Forwarding) where
   pub by_channel : (plan : Plan) → map (λ f. f.hop) fs ≡ lines_of plan → AreByChannel fs
   by_channel plan same = by_path (subst (IsNonDecreasingBy (λ (h : Hop). h.channel.0)) (sym same) (rise_by_channel (lines_of plan) (lines_rise 0 plan.structure.channels)))
 
--- Where forwarders stand by channel, those from one on have no lower channel than it, and those before the point at which a
--- search by halves ends have a lower channel than the one that is looked for.
-module _ (fs : List Forwarding) (order : AreByChannel fs) (from : ℕ) where
-  pub no_lower : (k : ℕ) (f d : Forwarding) → from ≤ k → slice_get fs k ≡ Some f → (get_or fs from d).hop.channel.0 ≤ f.hop.channel.0
-  no_lower k f d le at =
+-- Where forwarders stand by channel, those from one on have no lower channel than it, and those before one have no higher channel.
+module _ (fs : List Forwarding) (order : AreByChannel fs) where
+  pub no_lower : (from k : ℕ) (f d : Forwarding) → from ≤ k → slice_get fs k ≡ Some f → (get_or fs from d).hop.channel.0 ≤ f.hop.channel.0
+  no_lower from k f d le at =
       let is = ap (λ (x : Forwarding). x.hop.channel.0) (get_or_from_slice_get fs k f d at) in
       let up = order from k d le (slice_get_within fs k f at) in
       omega arith
 
-  module _ (rest : List Forwarding) (same : rest ≡ drop from fs) (busy : ℕ) where
-    pub parted : IsPartitionedBy (λ f. ltb f.hop.channel.0 busy) rest
-    parted = subst (IsPartitionedBy (λ (f : Forwarding). ltb f.hop.channel.0 busy)) (sym same)
-        (IsPartitionedBy-ltb (λ (f : Forwarding). f.hop.channel.0) (drop from fs) busy (IsNonDecreasingBy-drop (λ (f : Forwarding). f.hop.channel.0) from fs order))
-
-    pub before_busy : (point : ℕ) → IsPartitionPoint (λ f. ltb f.hop.channel.0 busy ≡ true) (λ f. ltb f.hop.channel.0 busy ≡ false) rest point
-        → (k : ℕ) (f : Forwarding) → from ≤ k → k < from + point → slice_get fs k ≡ Some f → f.hop.channel.0 < busy
-    before_busy point found k f le less at =
-        let place = k - from in
-        let here : from + place ≡ k = omega (arith, le) in
-        let is : get_or rest place f ≡ f = ap (λ (xs : List Forwarding). get_or xs place f) same ∙ (get_or-drop from fs place f ∙ (ap (λ (m : ℕ). get_or fs m f) here ∙ get_or_from_slice_get fs k f f at)) in
-        subst (λ (x : Forwarding). x.hop.channel.0 < busy) is (ltb-true _ _ (found.0 place f (omega arith) (omega (arith, le, less))))
+  pub before_last : (place busy k : ℕ) (f d : Forwarding) → k < place → place ≤ length fs → (get_or fs (place - 1) d).hop.channel.0 < busy → slice_get fs k ≡ Some f → f.hop.channel.0 < busy
+  before_last place busy k f d below within less at =
+      let is = ap (λ (x : Forwarding). x.hop.channel.0) (get_or_from_slice_get fs k f d at) in
+      let up = order k (place - 1) d (omega (arith, below)) (omega (arith, below, within)) in
+      omega arith

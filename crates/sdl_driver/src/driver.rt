@@ -6,6 +6,7 @@ ghost use Rattle.sdl_environment.specs.EnvPicks.{ReadsAt};
 ghost use Rattle.sdl_driver.specs.Drivers.{site_of, plan_of, IsDriving, IsSameSystem, ReadsOver, WritesOver, AllFree, StepAnswers, RoundAnswers};
 ghost use Rattle.sdl_driver.specs.Runs.{workers_below, refused_in, BlockStepsAt, WorkerSteps, StepsThrough, Settles, Runs};
 
+use crate::places::Places;
 use sdl_block::BlockWorker;
 use sdl_environment::EnvWorker;
 use sdl_log::Keeps;
@@ -141,7 +142,13 @@ impl<S: Agents, K: Keeps> Driver<S, K> {
     }
 
     /// Lets all workers make a step, by number, until one is refused memory.
-    fn round<R: Read, W: Write>(&mut self, free: bool, input: &mut R, output: &mut W) -> Round
+    fn round<R: Read, W: Write>(
+        &mut self,
+        free: bool,
+        places: &Places,
+        input: &mut R,
+        output: &mut W,
+    ) -> Round
         requires driving { IsDriving S.may self.old }
         requires free { free ≡ true → AllFree (site_of self.old) }
         ensures driving { IsDriving S.may self.new }
@@ -161,7 +168,7 @@ impl<S: Agents, K: Keeps> Driver<S, K> {
                 Stepped::Idle => {}
                 Stepped::Memory => return Round::Refused(number),
             }
-            number = self.next_worker(number + 1, free);
+            number = self.next_worker(number + 1, free, places);
         }
         if did { Round::Did } else { Round::Idle }
     }
@@ -177,8 +184,9 @@ impl<S: Agents, K: Keeps> Driver<S, K> {
         ensures writing { WritesOver (plan_of self.old) self.old.environment (W.contents output.old) self.new.environment (W.contents output.new) }
     {
         let free = self.are_free();
+        let places = Places::of(self.forwarders.as_slice());
         loop {
-            match self.round(free, input, output) {
+            match self.round(free, &places, input, output) {
                 Round::Did => {}
                 Round::Idle => return None,
                 Round::Refused(worker) => return Some(worker),

@@ -6,6 +6,7 @@ pub mod driver;
 pub mod laws;
 pub mod parked;
 mod passing;
+mod places;
 mod stopping;
 
 pub use closing::{Closing, StartFault};

@@ -9,6 +9,7 @@ ghost use Rattle.sdl_driver.specs.Drivers.{site_of, plan_of, IsDriving, AllFree,
 ghost use Rattle.sdl_driver.specs.Runs.{WorkerSteps};
 
 use crate::driver::Driver;
+use crate::places::{Places, next_of};
 use sdl_log::Keeps;
 use sdl_transition::Agents;
 
@@ -26,8 +27,8 @@ impl<S: Agents, K: Keeps> Driver<S, K> {
     }
 
     /// A forwarder up to which, from this one on, nothing waits at any one's path: mostly the first at whose path something
-    /// does. The search halves what is left, since the forwarders stand by channel.
-    fn next_forwarder(&self, from: usize) -> usize
+    /// does.
+    fn next_forwarder(&self, places: &Places, from: usize) -> usize
         requires within { from ≤ length self.now.forwarders.items }
         requires order { AreByChannel self.now.forwarders.items }
         ensures from { from ≤ result }
@@ -44,12 +45,12 @@ impl<S: Agents, K: Keeps> Driver<S, K> {
         if busy.0 <= low.0 {
             return from;
         }
-        from + forwarders[from..].partition_point(|forwarder| forwarder.hop().channel.0 < busy.0)
+        next_of(forwarders, from, places.first_from(busy), busy)
     }
 
     /// The worker that is to make a step, from this one on: where no forwarder holds an item, those at whose paths nothing
     /// waits are passed over, since a step of theirs does nothing.
-    pub(crate) fn next_worker(&self, number: u32, free: bool) -> u32
+    pub(crate) fn next_worker(&self, number: u32, free: bool, places: &Places) -> u32
         requires driving { IsDriving S.may self.now }
         requires within { number ≤ length (workers_of (plan_of self.now)) }
         requires free { free ≡ true → AllFree (site_of self.now) }
@@ -62,6 +63,6 @@ impl<S: Agents, K: Keeps> Driver<S, K> {
         if !free || place < first {
             return number;
         }
-        (first + self.next_forwarder(place - first)) as u32
+        (first + self.next_forwarder(places, place - first)) as u32
     }
 }

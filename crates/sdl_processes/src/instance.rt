@@ -50,7 +50,9 @@ impl Instance {
         ensures ok { OnOk result ((slot.new ≡ None) × IfSome slot.old (λ item. self.new ≡ record self.old { port = self.old.port ++ item ∷ [] }) × IfNone slot.old (self.new ≡ self.old)) }
         ensures err { OnErr result ((self.new ≡ self.old) × (slot.new ≡ slot.old)) }
     {
-        self.port.reserve(1)?;
+        if self.port.len() == self.port.capacity() {
+            self.port.reserve(1)?;
+        }
         if let Some(item) = slot.take() {
             self.port.push_back_reserved(item);
         }

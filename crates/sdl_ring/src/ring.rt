@@ -13,6 +13,9 @@ use std::collections::VecDeque;
 use std::marker::Model;
 use std::mem;
 
+/// For how many items room is taken at a time in a backlog that has none.
+const BACKLOG_ROOM: usize = 128;
+
 /// What stands in a slot of a ring: an item, and those that were behind it in a backlog.
 #[derive(Drop)]
 struct Batch {
@@ -84,10 +87,15 @@ impl RingFeed {
             self.count += 1;
             return;
         }
-        match self.backlog.push_back(item) {
-            Ok(()) => self.count += 1,
-            Err(refused) => *slot = Some(refused.value),
+        // room for many is taken at once, and where there is room, no answer with an item in it is made and moved
+        if self.backlog.len() == self.backlog.capacity()
+            && self.backlog.reserve(BACKLOG_ROOM).is_err()
+        {
+            *slot = Some(item);
+            return;
         }
+        self.backlog.push_back_reserved(item);
+        self.count += 1;
     }
 
     /// Moves the backlog into the ring, as a whole, where a slot is free, and says whether the backlog is empty. Takes no

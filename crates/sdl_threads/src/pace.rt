@@ -90,12 +90,15 @@ struct Idling {
     mark: u32,
     /// It has not said that it is about to sleep since it last did something.
     awake: bool,
-    /// The marks of the stations where it put something, and how many of its steps did something, since it last woke those that
-    /// take there.
+    /// The marks of the stations where it put something since it last woke those that take there.
     untold: Marks,
-    untold_steps: u32,
-    /// After how many such steps it wakes them.
+    /// After how many steps that did something it wakes them, and at which of its steps that is.
     most_untold: u32,
+    tell_at: u64,
+    /// At which of its steps that did something it shows how many they are.
+    show_at: u64,
+    /// The lesser of these two.
+    due: u64,
     /// How far it is ahead of them.
     lead: Lead,
     /// How many of its steps did something since somebody waits for room where it takes.
@@ -142,8 +145,10 @@ impl Idling {
             mark,
             awake: true,
             untold: Marks::none(),
-            untold_steps: 0,
             most_untold: FIRST_UNTOLD,
+            tell_at: FIRST_UNTOLD as u64,
+            show_at: SHOWN_STEPS,
+            due: FIRST_UNTOLD as u64,
             lead: Lead::new(),
             room_steps: 0,
             pause: Backoff::new(),
@@ -206,27 +211,45 @@ impl Idling {
         self.moved = moved;
     }
 
-    /// A step did something, when the worker might ask outside the system, or might not.
+    /// A step did something. Whether the worker asks outside the system, and whether it might, is counted for those that do.
     #[inline(always)]
-    fn stirs(&mut self, told: &Told, might_ask: bool) {
+    fn stirs(&mut self, told: &Told, asks: bool, might_ask: bool) {
+        if asks {
+            self.counts_step(might_ask);
+        }
+        self.steps = self.steps.saturating_add(1);
+        if self.has_paused {
+            self.goes_on(told);
+        }
+        if self.steps >= self.due {
+            self.looks_round(told);
+        } else if told.has_deep_sleepers() {
+            self.tells(told);
+        }
+    }
+
+    /// A step of one that asks outside the system did something, when it might ask, or might not.
+    fn counts_step(&mut self, might_ask: bool) {
         if might_ask {
             self.free_steps = self.free_steps.saturating_add(1);
         } else {
             self.held_steps = self.held_steps.saturating_add(1);
         }
-        self.steps = self.steps.saturating_add(1);
-        self.untold_steps = self.untold_steps.saturating_add(1);
-        if self.has_paused {
-            self.goes_on(told);
-        }
-        if self.untold_steps >= self.most_untold {
+    }
+
+    /// What is due after some steps: it wakes those that take what it put, and shows how many steps it made.
+    #[inline(never)]
+    fn looks_round(&mut self, told: &Told) {
+        if self.steps >= self.tell_at {
             self.tells_in_between(told);
         } else if told.has_deep_sleepers() {
             self.tells(told);
         }
-        if self.steps % SHOWN_STEPS == 0 {
+        if self.steps >= self.show_at {
+            self.show_at = self.steps.saturating_add(SHOWN_STEPS);
             self.shows_on(told);
         }
+        self.due = self.tell_at.min(self.show_at);
     }
 
     /// It did something again, after it paused. How often it usually yields before it does is an average over the last times, where
@@ -332,7 +355,8 @@ impl Idling {
 
     /// Wakes those that take what the worker put.
     fn tells(&mut self, told: &Told) {
-        self.untold_steps = 0;
+        self.tell_at = self.steps.saturating_add(self.most_untold as u64);
+        self.due = self.tell_at.min(self.show_at);
         if !self.untold.is_empty() {
             told.gets_up(self.mark);
             told.wakes_each(self.untold);
@@ -504,7 +528,7 @@ pub(crate) fn drive<W: Work, G: Gate, R: Wait>(
             idling.puts(worker.touched());
             match stepped {
                 Stepped::Did => {
-                    idling.stirs(told, may_ask);
+                    idling.stirs(told, asks, may_ask);
                     idling.lets_catch_up(rt, told);
                 }
                 Stepped::Idle if !flushed => idling.waits(rt, told),
