@@ -9,7 +9,7 @@ use Rattle.sdl_order.specs.sdl_opening.declared.worker.Worker.{Worker}
 use Rattle.sdl_order.specs.sdl_opening.declared.worker.Worker.TheVariants.{Block, Environment, Forwarder}
 
 abbrev pub tagged : ℕ → Item → Tagged
-tagged n i = record { feeder = n; item = i }
+tagged n i = record { feeder = n; item = i; pad = 0; more_pad = 0 }
 
 -- a feed of this number at the outlet, where this item was put
 abbrev pub feed_of : ℕ → Item → WorkerEnds

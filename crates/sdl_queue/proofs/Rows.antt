@@ -6,7 +6,7 @@ use Rattle.sdl_queue.specs.DelayLine.{IsDelayLine, Covers}
 use Rattle.sdl_queue.specs.Ends.{put_list}
 
 abbrev thing : ℕ → Item → Tagged
-thing f x = record { feeder = f; item = x }
+thing f x = record { feeder = f; item = x; pad = 0; more_pad = 0 }
 
 one_feeder : (xs : List Item) → Covers 1 (put_list 0 xs ∷ [])
 one_feeder xs zero lt = inl refl

@@ -16,7 +16,7 @@ left_in (Ring account) = account.left
 
 -- the items of the only feeder of a ring, whose number is 0
 abbrev pub tag : Item → Tagged
-tag i = record { feeder = 0; item = i }
+tag i = record { feeder = 0; item = i; pad = 0; more_pad = 0 }
 
 abbrev pub tags : List Item → List Tagged
 tags items = map tag items

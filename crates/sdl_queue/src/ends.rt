@@ -66,6 +66,8 @@ impl Feed {
         let tagged = Tagged {
             feeder: self.number,
             item,
+            pad: 0,
+            more_pad: 0,
         };
         let queue = &self.line.queue;
         if let Err(back) = queue.push_as::<Feeding, R>(rt, &mut self.pass, tagged) {
