@@ -26,8 +26,11 @@ pub struct Ends {
     /// `None` where the feed was given back.
     pub(crate) feeds: Vec<(Station, Option<AnyFeed>)>,
     pub(crate) index: Index,
-    /// The marks of the stations where it put something lately. No claim rests on it, nor on the next.
-    pub(crate) touched: Marks,
+    /// A bit for the place of each feed where it put something since that was asked last: that of the place modulo 64. No claim rests
+    /// on it, nor on the next two.
+    pub(crate) touched: u64,
+    /// How many items it put.
+    pub(crate) puts: u64,
     /// The last flush left no backlog.
     pub(crate) flushed: bool,
 }
@@ -61,7 +64,8 @@ impl Ends {
             tap,
             feeds,
             index,
-            touched: Marks::none(),
+            touched: 0,
+            puts: 0,
             flushed: true,
         })
     }
@@ -139,7 +143,8 @@ impl Ends {
         let Some(place) = self.index.get(station) else {
             unreachable!()
         };
-        self.touched.add(mark_of(station));
+        self.touched |= 1 << (place % 64);
+        self.puts = self.puts.wrapping_add(1);
         match &mut self.feeds[place].1 {
             Some(feed) => feed.put_from(rt, slot),
             None => unreachable!(),
@@ -147,7 +152,7 @@ impl Ends {
     }
 
     /// Puts the backlogs of its rings into these, each where there is a free slot, and says whether no backlog is left. Takes no
-    /// memory. What was touched is counted from here on, unless something waited for room before.
+    /// memory.
     #[inline(always)]
     pub fn flush(&mut self) -> bool
         ensures put { (s : Station) → put_at self.new s ≡ put_at self.old s }
@@ -155,16 +160,28 @@ impl Ends {
         ensures empty { IsTrue result ↔ HasNoBacklog self.new }
         ensures same { IsSameEnds self.old self.new }
     {
-        self.touched = self.touched.kept_if(!self.flushed);
         let empty = flush_all(&mut self.feeds);
         self.flushed = empty;
         empty
     }
 
-    /// The marks of the stations where something came to lie since the last flush, or by it: while a backlog is left, all those
-    /// since it began. It is a hint: no claim rests on it.
-    pub fn touched(&self) -> Marks {
-        self.touched
+    /// The marks of the stations where something came to lie since this was asked last; where the last flush left a backlog, also those
+    /// that were told then. It is a hint: no claim rests on it.
+    pub fn touched(&mut self) -> Marks
+        ensures put { (s : Station) → put_at self.new s ≡ put_at self.old s }
+        ensures tap { self.new.tap ≡ self.old.tap }
+        ensures same { IsSameEnds self.old self.new }
+    {
+        let marks = marks_of(self.feeds.as_slice(), self.touched);
+        if self.flushed {
+            self.touched = 0;
+        }
+        marks
+    }
+
+    /// How many items it put, as far as it counts. It is a hint: no claim rests on it.
+    pub fn puts(&self) -> u64 {
+        self.puts
     }
 
     /// The mark of the station that the worker takes from.
@@ -176,6 +193,17 @@ impl Ends {
             None => None,
         }
     }
+}
+
+/// The marks of the stations of these feeds whose places have a bit.
+fn marks_of(feeds: &[(Station, Option<AnyFeed>)], bits: u64) -> Marks {
+    let mut marks = Marks::none();
+    for place in 0..feeds.len() {
+        if bits & 1 << (place % 64) != 0 {
+            marks.add(mark_of(feeds[place].0));
+        }
+    }
+    marks
 }
 
 /// Flushes each of these feeds, and says whether no backlog is left.

@@ -38,13 +38,6 @@ impl Marks {
         Marks { words: [0; 3] }
     }
 
-    /// These marks, or none.
-    pub(crate) fn kept_if(self, kept: bool) -> Marks
-        ensures { (m : ℕ) → HasMark result m ↔ (IsTrue kept × HasMark self m) }
-    {
-        if kept { self } else { Marks::none() }
-    }
-
     pub fn is_empty(&self) -> bool
         ensures { IsTrue result ↔ IsEmpty self.now }
     {

@@ -158,8 +158,12 @@ impl Work for Agent {
         self.ends.tap_mark()
     }
 
-    fn touched(&self) -> Marks {
+    fn touched(&mut self) -> Marks {
         self.ends.touched()
+    }
+
+    fn puts(&self) -> u64 {
+        self.ends.puts()
     }
 
     fn is_spent(&self) -> bool {

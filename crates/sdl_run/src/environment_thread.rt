@@ -114,8 +114,12 @@ impl<'e, 'i, 'o, I: Read, O: Write> Work for EnvironmentThread<'e, 'i, 'o, I, O>
         self.ends.tap_mark()
     }
 
-    fn touched(&self) -> Marks {
+    fn touched(&mut self) -> Marks {
         self.ends.touched()
+    }
+
+    fn puts(&self) -> u64 {
+        self.ends.puts()
     }
 
     fn is_spent(&self) -> bool {

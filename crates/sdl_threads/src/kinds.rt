@@ -85,10 +85,17 @@ impl<B: Work, F: Work> Work for Kind<B, F> {
         }
     }
 
-    fn touched(&self) -> Marks {
+    fn touched(&mut self) -> Marks {
         match self {
             Kind::Block(block) => block.touched(),
             Kind::Forwarder(forwarder) => forwarder.touched(),
+        }
+    }
+
+    fn puts(&self) -> u64 {
+        match self {
+            Kind::Block(block) => block.puts(),
+            Kind::Forwarder(forwarder) => forwarder.puts(),
         }
     }
 

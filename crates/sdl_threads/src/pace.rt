@@ -92,6 +92,9 @@ struct Idling {
     awake: bool,
     /// The marks of the stations where it put something since it last woke those that take there.
     untold: Marks,
+    /// The marks that it was given last, or since a flush last left no backlog: what it put there may have come to lie there only
+    /// after those that take there were woken.
+    recent: Marks,
     /// After how many steps that did something it wakes them, and at which of its steps that is.
     most_untold: u32,
     tell_at: u64,
@@ -145,6 +148,7 @@ impl Idling {
             mark,
             awake: true,
             untold: Marks::none(),
+            recent: Marks::none(),
             most_untold: FIRST_UNTOLD,
             tell_at: FIRST_UNTOLD as u64,
             show_at: SHOWN_STEPS,
@@ -211,9 +215,10 @@ impl Idling {
         self.moved = moved;
     }
 
-    /// A step did something. Whether the worker asks outside the system, and whether it might, is counted for those that do.
+    /// A step did something, and so it says whether it is to look round now. Whether the worker asks outside the system, and whether it
+    /// might, is counted for those that do.
     #[inline(always)]
-    fn stirs(&mut self, told: &Told, asks: bool, might_ask: bool) {
+    fn stirs(&mut self, told: &Told, asks: bool, might_ask: bool) -> bool {
         if asks {
             self.counts_step(might_ask);
         }
@@ -221,11 +226,7 @@ impl Idling {
         if self.has_paused {
             self.goes_on(told);
         }
-        if self.steps >= self.due {
-            self.looks_round(told);
-        } else if told.has_deep_sleepers() {
-            self.tells(told);
-        }
+        self.steps >= self.due || told.has_deep_sleepers()
     }
 
     /// A step of one that asks outside the system did something, when it might ask, or might not.
@@ -237,9 +238,9 @@ impl Idling {
         }
     }
 
-    /// What is due after some steps: it wakes those that take what it put, and shows how many steps it made.
+    /// What is due after some steps: it wakes those that take what it put, shows how many steps it made, and lets others catch up.
     #[inline(never)]
-    fn looks_round(&mut self, told: &Told) {
+    fn looks_round<R: Wait>(&mut self, rt: &R, told: &Told) {
         if self.steps >= self.tell_at {
             self.tells_in_between(told);
         } else if told.has_deep_sleepers() {
@@ -250,6 +251,7 @@ impl Idling {
             self.shows_on(told);
         }
         self.due = self.tell_at.min(self.show_at);
+        self.lets_catch_up(rt, told);
     }
 
     /// It did something again, after it paused. How often it usually yields before it does is an average over the last times, where
@@ -296,19 +298,22 @@ impl Idling {
         }
     }
 
-    /// A step put something at the stations with these marks, or put nothing.
-    #[inline(always)]
-    fn puts(&mut self, stations: Marks) {
-        if !stations.is_empty() {
-            self.untold.join(stations);
-            self.lead.grows(stations);
+    /// Its steps put so many items, and lately some at the stations with these marks. Whether the last flush left no backlog tells
+    /// whether what it put before lies there now: until then those that take there are woken once more.
+    fn puts(&mut self, stations: Marks, put: u64, flushed: bool) {
+        self.untold.join(stations);
+        self.untold.join(self.recent);
+        if flushed {
+            self.recent = stations;
+        } else {
+            self.recent.join(stations);
         }
+        self.lead.grows(stations, put);
     }
 
     /// Where it is far ahead, it sleeps until somebody that takes what it put has made steps, or has nothing more to do. So those have
     /// a processor sooner, where there are fewer than workers. Who is about to sleep so wakes those that it waits for: where all wait
     /// for one another, one of them is awake.
-    #[inline(always)]
     fn lets_catch_up<R: Wait>(&mut self, rt: &R, told: &Told) {
         if !self.lead.is_long(told) {
             return;
@@ -361,6 +366,17 @@ impl Idling {
             told.gets_up(self.mark);
             told.wakes_each(self.untold);
             self.untold = Marks::none();
+        }
+    }
+
+    /// A step did nothing.
+    fn pauses<R: Wait>(&mut self, rt: &R, told: &Told, flushed: bool, asks: bool) {
+        if !flushed {
+            self.waits(rt, told);
+        } else if asks {
+            self.listens(rt, told);
+        } else {
+            self.rests(rt, told);
         }
     }
 
@@ -515,6 +531,9 @@ pub(crate) fn drive<W: Work, G: Gate, R: Wait>(
         for _ in 0..STEPS_AT_ONCE {
             let flushed = worker.flush();
             let asks = worker.asks_outside();
+            if asks {
+                idling.puts(worker.touched(), worker.puts(), flushed);
+            }
             let may_ask = !asks || (flushed && idling.may_ask(told));
             let counts = may_ask || !flushed;
             if counts {
@@ -525,15 +544,15 @@ pub(crate) fn drive<W: Work, G: Gate, R: Wait>(
             if counts {
                 step = step.saturating_add(1);
             }
-            idling.puts(worker.touched());
             match stepped {
-                Stepped::Did => {
-                    idling.stirs(told, asks, may_ask);
-                    idling.lets_catch_up(rt, told);
+                Stepped::Did => if idling.stirs(told, asks, may_ask) {
+                    idling.puts(worker.touched(), worker.puts(), flushed);
+                    idling.looks_round(rt, told);
                 }
-                Stepped::Idle if !flushed => idling.waits(rt, told),
-                Stepped::Idle if asks => idling.listens(rt, told),
-                Stepped::Idle => idling.rests(rt, told),
+                Stepped::Idle => {
+                    idling.puts(worker.touched(), worker.puts(), flushed);
+                    idling.pauses(rt, told, flushed, asks);
+                }
                 Stepped::Memory => {
                     told.stop();
                     return Returned::Refused(worker);

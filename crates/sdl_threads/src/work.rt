@@ -42,9 +42,14 @@ pub trait Work {
     /// The mark of the station where it takes. It is a hint, by which it is woken.
     fn mark(&self) -> Option<u32>;
 
-    /// The marks of the stations where something came to lie by its last flush or its last step. It is a hint, by which those
-    /// that take there are woken.
-    fn touched(&self) -> Marks;
+    /// The marks of the stations where something came to lie since this was asked last. It is a hint, by which those that take there
+    /// are woken.
+    fn touched(&mut self) -> Marks
+        ensures keeps { (structure : Structure) (routes : List TableRow) → keeps structure routes self.old → keeps structure routes self.new }
+        ensures same { same self.old self.new };
+
+    /// How many items it put. It is a hint, by which it is told how far the worker is ahead of those that take there.
+    fn puts(&self) -> u64;
 
     /// Whether it has made as many turns as it may. It is a hint, after which all workers are told to stop: no claim rests on
     /// it.

@@ -63,8 +63,12 @@ impl Work for ForwarderThread {
         self.ends.tap_mark()
     }
 
-    fn touched(&self) -> Marks {
+    fn touched(&mut self) -> Marks {
         self.ends.touched()
+    }
+
+    fn puts(&self) -> u64 {
+        self.ends.puts()
     }
 
     fn is_spent(&self) -> bool {
@@ -118,8 +122,12 @@ impl<S: Agents, K: Keeps> Work for BlockThread<S, K> {
         self.ends.tap_mark()
     }
 
-    fn touched(&self) -> Marks {
+    fn touched(&mut self) -> Marks {
         self.ends.touched()
+    }
+
+    fn puts(&self) -> u64 {
+        self.ends.puts()
     }
 
     fn is_spent(&self) -> bool {

@@ -9,9 +9,9 @@ use sdl_threads::{Kind, Marks, OpenGate, Returned, Stepped, Team, Work, run_all}
 use std::sync::Wait;
 use std::test::Fail;
 
-/// At the last of these steps the worker looks how far it is ahead, and finds that it is far: more than 1,024 steps, of which it
-/// looks at each 64th.
-const STEPS: u64 = 1_088;
+/// At the last of these steps the worker looks how far it is ahead, and finds that it is far: more than 512 items, where it looks
+/// after each 64.
+const STEPS: u64 = 576;
 
 /// The mark of a station where no worker takes.
 const NOWHERE: u32 = 40;
@@ -21,6 +21,7 @@ const NOWHERE: u32 = 40;
 struct Runner {
     mark: u32,
     left: u64,
+    put: u64,
     touched: Marks,
 }
 
@@ -29,6 +30,7 @@ impl Runner {
         Runner {
             mark,
             left,
+            put: 0,
             touched: Marks::none(),
         }
     }
@@ -47,7 +49,6 @@ impl Work for Runner {
     ghost and_then = { λ u v w p q. q ∙ p };
 
     fn flush(&mut self) -> bool {
-        self.touched = Marks::none();
         true
     }
 
@@ -63,6 +64,7 @@ impl Work for Runner {
             return Stepped::Idle;
         }
         self.left -= 1;
+        self.put = self.put.saturating_add(1);
         self.touched.add(NOWHERE);
         Stepped::Did
     }
@@ -75,8 +77,14 @@ impl Work for Runner {
         Some(self.mark)
     }
 
-    fn touched(&self) -> Marks {
-        self.touched
+    fn touched(&mut self) -> Marks {
+        let touched = self.touched;
+        self.touched = Marks::none();
+        touched
+    }
+
+    fn puts(&self) -> u64 {
+        self.put
     }
 
     fn is_spent(&self) -> bool {

@@ -45,7 +45,7 @@ struct Passer {
     ring: Arc<Ring, Global>,
     place: usize,
     passed: u64,
-    /// Where it put the token since it was last flushed.
+    /// Where it put the token since that was asked last.
     touched: Marks,
 }
 
@@ -69,7 +69,6 @@ impl Work for Passer {
     ghost and_then = { λ u v w p q. q ∙ p };
 
     fn flush(&mut self) -> bool {
-        self.touched = Marks::none();
         true
     }
 
@@ -100,8 +99,14 @@ impl Work for Passer {
         Some((self.place % 64) as u32)
     }
 
-    fn touched(&self) -> Marks {
-        self.touched
+    fn touched(&mut self) -> Marks {
+        let touched = self.touched;
+        self.touched = Marks::none();
+        touched
+    }
+
+    fn puts(&self) -> u64 {
+        self.passed
     }
 
     fn is_spent(&self) -> bool {
