@@ -1,5 +1,5 @@
 -- What a put from a slot leaves, tried on small lists.
-use Rattle.std.proofs.Common.{◌≡◌, ◌≢◌, List, [], ◌∷◌, Some, None, length, refl, ap, inl, inr, arith}
+use Rattle.std.proofs.Common.{◌≡◌, ◌≢◌, [], ◌∷◌, Some, None, length, refl, ap, inl, inr, arith}
 use Rattle.sdl_signal.specs.declared.values.Item.{Item}
 use Rattle.sdl_ring.specs.RingEnds.{IsPutFrom, IsBacklogFrom}
 

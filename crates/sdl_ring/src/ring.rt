@@ -99,7 +99,7 @@ impl RingFeed {
     }
 
     /// Moves the backlog into the ring, as a whole, where a slot is free, and says whether the backlog is empty. Takes no
-    /// memory.
+    /// memory. The room of a backlog of one item stays, so that a feeder which is a little ahead takes none again and again.
     #[inline(always)]
     pub fn flush(&mut self) -> bool
         ensures same { self.new.opening ≡ self.old.opening }
@@ -112,6 +112,14 @@ impl RingFeed {
         }
         if self.producer.is_full() {
             return false;
+        }
+        if self.backlog.len() == 1 {
+            let Some(one) = self.backlog.pop_front() else {
+                unreachable!()
+            };
+            let rest = VecDeque::new(self.alloc);
+            self.producer.push_reserved(Batch { first: one, rest });
+            return true;
         }
         let mut rest = mem::replace(&mut self.backlog, VecDeque::new(self.alloc));
         let Some(first) = rest.pop_front() else {
