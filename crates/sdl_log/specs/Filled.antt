@@ -1,5 +1,5 @@
 -- A turn's event whose parts are written where they are to stand. (This project's own.)
-use Rattle.std.specs.Prelude.{◌≡◌, [], None, Some}
+use Rattle.std.specs.Prelude.{◌≡◌, ℕ, List, [], None, Some}
 use Rattle.sdl_log.specs.declared.event.Event.{Event}
 use Rattle.sdl_log.specs.declared.event.Event.TheVariants as event
 
@@ -9,3 +9,8 @@ IsUnfilled (event.Turn p t f (Some s) did n) = (f.vars.items ≡ []) × (s.actio
 IsUnfilled (event.Turn p t f None did n) = ⊥
 IsUnfilled (event.Entered i p) = ⊥
 IsUnfilled (event.Discarded i c) = ⊥
+
+-- What a contract sees of a log whose places are filled ahead: its events, and how many places there are for them.
+pub record Places : Type 0 where
+  pub events : List Event
+  pub places : ℕ

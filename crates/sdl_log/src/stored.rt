@@ -8,8 +8,8 @@ use crate::event::{Cause, Done, Event, Trigger};
 use crate::keeps::Keeps;
 use arrayvec::ArrayVec;
 use sdl_behaviour::{Frame, Next, Step};
-use sdl_copies::copies::{add_values, copied_item, copied_signal};
-use sdl_signal::{Item, Pid, StateId};
+use sdl_copies::copies::{add_values, copied_item};
+use sdl_signal::{Item, Pid, Signal, StateId};
 use std::alloc::{AllocError, Global};
 
 /// Moves all items of one list into an empty one.
@@ -37,14 +37,29 @@ fn write_frame(to: &mut Frame, frame: &Frame)
     to.sender = frame.sender;
     to.state = frame.state;
     add_values(&mut to.vars, frame.vars.as_slice());
-    to.signal = match &frame.signal {
-        Some(signal) => Some(copied_signal(signal)),
-        None => None,
-    };
+    match &frame.signal {
+        Some(signal) => write_signal(&mut to.signal, signal),
+        None => to.signal = None,
+    }
+}
+
+/// Writes the signal, whose values are written where they are to stand.
+#[inline(always)]
+fn write_signal(to: &mut Option<Signal>, signal: &Signal)
+    ensures { to.new ≡ Some signal.now }
+{
+    *to = Some(Signal {
+        id: signal.id,
+        params: ArrayVec::new(),
+    });
+    match to {
+        Some(kept) => add_values(&mut kept.params, signal.params.as_slice()),
+        None => unreachable!(),
+    }
 }
 
 /// The event of a turn whose parts are yet to be written.
-fn unfilled() -> Event
+pub(crate) fn unfilled() -> Event
     ensures { IsUnfilled result }
 {
     Event::Turn {
@@ -71,7 +86,7 @@ fn unfilled() -> Event
 
 /// Writes the parts of a turn where they are yet to be written. What the transition answered and what its actions did is moved.
 #[inline(always)]
-fn fill(
+pub(crate) fn fill(
     blank: &mut Event,
     pid: Pid,
     trigger: Trigger,

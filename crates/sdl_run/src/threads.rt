@@ -10,10 +10,11 @@ ghost use Rattle.sdl_run.specs.Room.{IsThreadRoom};
 use crate::joining::{Starting, run_apart};
 use crate::room::{ThreadRoom, make_thread_room};
 use sdl_settling::sdl_instances::bounds::parts_are_bound;
-use sdl_settling::sdl_log::Keeps;
+use sdl_settling::sdl_log::{FilledAhead, Keeps};
 use sdl_settling::sdl_parts::Checked;
 use sdl_settling::sdl_routes::Routes;
 use sdl_settling::sdl_serial_run::blocks::{gather, start_blocks};
+use sdl_settling::sdl_serial_run::lists::{in_lists, room_for_lists};
 use sdl_settling::sdl_serial_run::sdl_driver::closing::{Closing, StartFault};
 use sdl_settling::sdl_threads::Gate;
 use sdl_settling::sdl_transition::{Agents, BlockParts, Bound};
@@ -161,5 +162,13 @@ pub fn run_threads<S: Agents + Send, G: Gate, T: Threads + Wait + Sync, R: Read,
     ensures back { IfErr result (λ f. IsBackIn S.may bound f) }
     ensures untouched { IfErr result (λ f. (input.new ≡ input.old) × (output.new ≡ output.old)) }
 {
-    run_threads_keeping(rt, alloc, bound, budget, gate, input, output)
+    let Ok(lists) = room_for_lists(alloc, &bound) else {
+        return Err(StartFault::Memory(bound));
+    };
+    match run_threads_keeping::<S, FilledAhead, G, T, R, W>(
+        rt, alloc, bound, budget, gate, input, output,
+    ) {
+        Ok(closing) => Ok(in_lists(closing, lists)),
+        Err(fault) => Err(fault),
+    }
 }

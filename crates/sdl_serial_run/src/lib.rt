@@ -2,6 +2,7 @@
 #![tactic(auto)]
 
 pub mod blocks;
+pub mod lists;
 pub mod serial;
 pub mod start;
 

@@ -10,11 +10,12 @@ ghost use Rattle.sdl_driver.specs.sdl_outcome.Lists.{items_in};
 ghost use Rattle.sdl_serial_run.specs.Serial.{IsStartRoom, IsBoundOf, IsBackIn, plan_of_parts};
 
 use crate::blocks::{gather, start_blocks};
+use crate::lists::{in_lists, room_for_lists};
 use crate::start::{StartRoom, make_start_room};
 use sdl_driver::Driver;
 use sdl_driver::closing::{Closing, Room, StartFault};
 use sdl_driver::sdl_instances::bounds::parts_are_bound;
-use sdl_driver::sdl_log::Keeps;
+use sdl_driver::sdl_log::{FilledAhead, Keeps};
 use sdl_driver::sdl_parts::Checked;
 use sdl_driver::sdl_routes::Routes;
 use sdl_driver::sdl_transition::{Agents, BlockParts, Bound};
@@ -181,5 +182,11 @@ pub fn run_serial<S: Agents, R: Read, W: Write>(
     ensures back { IfErr result (λ f. IsBackIn S.may bound f) }
     ensures untouched { IfErr result (λ f. (input.new ≡ input.old) × (output.new ≡ output.old)) }
 {
-    run_keeping(alloc, bound, budget, schedule, input, output)
+    let Ok(lists) = room_for_lists(alloc, &bound) else {
+        return Err(StartFault::Memory(bound));
+    };
+    match run_keeping::<S, FilledAhead, R, W>(alloc, bound, budget, schedule, input, output) {
+        Ok(closing) => Ok(in_lists(closing, lists)),
+        Err(fault) => Err(fault),
+    }
 }
