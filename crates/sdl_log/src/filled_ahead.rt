@@ -9,8 +9,8 @@ use crate::keeps::Keeps;
 use crate::stored::{fill, unfilled};
 use arrayvec::ArrayVec;
 use sdl_behaviour::{Frame, Step};
-use sdl_copies::copies::add_values;
-use sdl_signal::{Item, Pid, Signal};
+use sdl_copies::copies::{add_values, copied_item};
+use sdl_signal::{Item, Pid};
 use std::alloc::{AllocError, Global};
 use std::marker::Model;
 
@@ -39,31 +39,25 @@ impl Model for FilledAhead {
     ghost invariant = { λ f. f.count ≤ length f.places.items };
 }
 
-/// Writes an arrival over what stands there: its own fields alone, and its values where they are to stand.
+/// Writes the fields of an arrival where one stands, its values where they are to stand, and says whether one does.
 #[inline(always)]
-fn write_arrival(place: &mut Event, item: &Item, pid: Pid)
-    ensures { place.new ≡ event.Entered item.now pid }
+fn renews_arrival(place: &mut Event, item: &Item, pid: Pid) -> bool
+    ensures { result ≡ true → place.new ≡ event.Entered item.now pid }
 {
-    let signal = Signal {
-        id: item.signal.id,
-        params: ArrayVec::new(),
-    };
-    *place = Event::Entered(
-        Item {
-            origin: item.origin,
-            stamp: item.stamp,
-            signal,
-            sender: item.sender,
-            to: item.to,
-            route: item.route,
-        },
-        pid,
-    );
     match place {
-        Event::Entered(noted, _) => {
+        Event::Entered(noted, entered) => {
+            noted.origin = item.origin;
+            noted.stamp = item.stamp;
+            noted.signal.id = item.signal.id;
+            noted.signal.params.clear();
             add_values(&mut noted.signal.params, item.signal.params.as_slice());
+            noted.sender = item.sender;
+            noted.to = item.to;
+            noted.route = item.route;
+            *entered = pid;
+            true
         }
-        Event::Discarded(_, _) => unreachable!(),
+        Event::Discarded(_, _) => false,
         Event::Turn {
             pid: _,
             trigger: _,
@@ -71,8 +65,26 @@ fn write_arrival(place: &mut Event, item: &Item, pid: Pid)
             step: _,
             done: _,
             stopped: _,
-        } => unreachable!(),
+        } => false,
     }
+}
+
+/// Writes an arrival over what stands there. In a place that was filled ahead for one, one stands already.
+#[inline(always)]
+fn write_arrival(place: &mut Event, item: &Item, pid: Pid)
+    ensures { place.new ≡ event.Entered item.now pid }
+{
+    if !renews_arrival(place, item, pid) {
+        replace(place, item, pid);
+    }
+}
+
+/// Writes an arrival over another event.
+#[inline(never)]
+fn replace(place: &mut Event, item: &Item, pid: Pid)
+    ensures { place.new ≡ event.Entered item.now pid }
+{
+    *place = Event::Entered(copied_item(item), pid);
 }
 
 /// Empties the lists of a turn that has a step, and says whether one stands there.
@@ -113,15 +125,24 @@ fn blank(place: &mut Event)
     }
 }
 
-/// Fills so many places behind those that there are.
+/// An arrival whose fields are yet to be written. What it leaves of its place is filled as that of an unfilled turn is.
+fn unwritten() -> Event {
+    let mut event = unfilled();
+    event = Event::Entered(Item::default(), Pid::Null);
+    event
+}
+
+/// Fills so many places behind those that there are, by turns for a turn and for an arrival, as these mostly come.
 #[inline(never)]
-fn add_places(places: &mut Vec<Event>, more: usize)
+fn add_places(places: &mut Vec<Event>, more: usize, turn_first: bool)
     requires room { length places.old.items + more ≤ vec_capacity places.old }
     ensures kept { take (length places.old.items) places.new.items ≡ places.old.items }
     ensures more { length places.new.items ≡ length places.old.items + more }
 {
+    let mut turn = turn_first;
     for _ in 0..more {
-        places.push_reserved(unfilled());
+        places.push_reserved(if turn { unfilled() } else { unwritten() });
+        turn = !turn;
     }
 }
 
@@ -134,8 +155,17 @@ impl FilledAhead {
     {
         let more = self.count.max(1).min(AHEAD);
         self.places.reserve(more)?;
-        add_places(&mut self.places, more);
+        let turn_first = self.ends_in_arrival();
+        add_places(&mut self.places, more, turn_first);
         Ok(())
+    }
+
+    /// Whether the last event is an arrival, behind which a turn mostly stands.
+    fn ends_in_arrival(&self) -> bool {
+        match self.stored().last() {
+            Some(Event::Entered(_, _)) => true,
+            _ => false,
+        }
     }
 
     /// The events as a list. No memory is taken.
