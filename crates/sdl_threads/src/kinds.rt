@@ -1,8 +1,5 @@
 //! Workers of two kinds in one list.
-ghost use Rattle.std.specs.Prelude.{◌≡◌};
-ghost use Rattle.sdl_threads.specs.KindsBack.{back_of_block, back_of_forwarder};
-
-use crate::work::{Returned, Stepped, Work};
+use crate::work::{Stepped, Work};
 use sdl_block::sdl_ends::Marks;
 use sdl_parts::Structure;
 use sdl_routes::Routes;
@@ -15,28 +12,6 @@ pub enum Kind<B, F> {
     Block(B),
     /// A forwarder.
     Forwarder(F),
-}
-
-/// A block that came back, in its list.
-pub(crate) fn block_back<B, F>(back: Returned<B>) -> Returned<Kind<B, F>>
-    ensures { result ≡ back_of_block back }
-{
-    match back {
-        Returned::Ran(block) => Returned::Ran(Kind::Block(block)),
-        Returned::Refused(block) => Returned::Refused(Kind::Block(block)),
-        Returned::NotStarted(block) => Returned::NotStarted(Kind::Block(block)),
-    }
-}
-
-/// A forwarder that came back, in its list.
-pub(crate) fn forwarder_back<B, F>(back: Returned<F>) -> Returned<Kind<B, F>>
-    ensures { result ≡ back_of_forwarder back }
-{
-    match back {
-        Returned::Ran(forwarder) => Returned::Ran(Kind::Forwarder(forwarder)),
-        Returned::Refused(forwarder) => Returned::Refused(Kind::Forwarder(forwarder)),
-        Returned::NotStarted(forwarder) => Returned::NotStarted(Kind::Forwarder(forwarder)),
-    }
 }
 
 impl<B: Work, F: Work> Work for Kind<B, F> {

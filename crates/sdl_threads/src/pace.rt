@@ -1,9 +1,7 @@
 //! One worker's loop, and how it comes to rest.
-ghost use Rattle.sdl_threads.specs.Back.{ComesFrom};
-
 use crate::lead::Lead;
 use crate::told::{ASLEEP, LISTENING, Told};
-use crate::work::{Returned, Stepped, Work};
+use crate::work::{Stepped, Work};
 use crossbeam_utils::Backoff;
 use sdl_block::sdl_ends::{FREE_MARK, Marks};
 use sdl_parts::Structure;
@@ -510,19 +508,20 @@ fn mark_of_worker(station: Option<u32>, number: u32) -> u32 {
     }
 }
 
-/// Lets the worker of this number make steps until all are told to stop, and at least one. All are told to stop where it is
-/// refused memory, and where it has made as many turns as it may.
+/// Lets the worker of this number make steps until all are told to stop, and at least one, and says whether memory was refused to
+/// the last. All are told to stop where it is, and where the worker has made as many turns as it may.
 pub(crate) fn drive<W: Work, G: Gate, R: Wait>(
     rt: &R,
-    mut worker: W,
+    worker: &mut W,
     number: u32,
     structure: &Structure,
     routes: &Routes,
     gate: &G,
     told: &Told,
-) -> Returned<W>
-    requires { W.keeps structure.now routes.now worker }
-    ensures { ComesFrom (W.keeps structure.now routes.now) W.same worker result }
+) -> bool
+    requires { W.keeps structure.now routes.now worker.old }
+    ensures keeps { W.keeps structure.now routes.now worker.new }
+    ensures same { W.same worker.old worker.new }
 {
     let mark = mark_of_worker(worker.mark(), number);
     let mut idling = Idling::new(mark);
@@ -555,16 +554,16 @@ pub(crate) fn drive<W: Work, G: Gate, R: Wait>(
                 }
                 Stepped::Memory => {
                     told.stop();
-                    return Returned::Refused(worker);
+                    return true;
                 }
             }
             if worker.is_spent() {
                 told.stop();
             }
             if told.is_stopped() {
-                return Returned::Ran(worker);
+                return false;
             }
         }
     }
-    Returned::Ran(worker)
+    false
 }

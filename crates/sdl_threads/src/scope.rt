@@ -1,10 +1,10 @@
 //! All workers at once, each in a thread of a scope, and the environment's on the caller's.
 ghost use Rattle.std.specs.Prelude.{◌≡◌, ◌≤◌, ◌<◌, ◌^◌, [], vec_len, vec_capacity, IfOk, IfErr};
 ghost use Rattle.std.specs.List.{All, AllZip};
-ghost use Rattle.sdl_threads.specs.Back.{ComesFrom};
+ghost use Rattle.sdl_threads.specs.Back.{ComesFrom, came_back};
 ghost use Rattle.sdl_threads.specs.Kinds.{KeepsOneOf, SameOneOf};
 
-use crate::kinds::{Kind, block_back, forwarder_back};
+use crate::kinds::Kind;
 use crate::pace::{Gate, drive};
 use crate::told::Told;
 use crate::work::{Returned, Work};
@@ -38,10 +38,41 @@ impl<B: Work, F: Work> Promise<Returned<Kind<B, F>>> for ComesBack<B, F> {
     ghost kept_by = { λ p r. ComesFrom (KeepsOneOf (B.keeps p.structure.value p.routes.value) (F.keeps p.structure.value p.routes.value)) (SameOneOf B.same F.same) p.worker.value r };
 }
 
-/// Runs the worker in this thread, unless it was turned away. Which kind it is, is told here, and not at each of its steps.
+/// Lets the worker make its steps, where it stands, as `drive` does. Which kind it is, is told here, and not at each of its steps.
+fn drive_kind<B: Work, F: Work, G: Gate, R: Wait>(
+    rt: &R,
+    worker: &mut Kind<B, F>,
+    number: u32,
+    structure: &Structure,
+    routes: &Routes,
+    gate: &G,
+    told: &Told,
+) -> bool
+    requires { KeepsOneOf (B.keeps structure.now routes.now) (F.keeps structure.now routes.now) worker.old }
+    ensures keeps { KeepsOneOf (B.keeps structure.now routes.now) (F.keeps structure.now routes.now) worker.new }
+    ensures same { SameOneOf B.same F.same worker.old worker.new }
+{
+    match worker {
+        Kind::Block(block) => drive(rt, block, number, structure, routes, gate, told),
+        Kind::Forwarder(forwarder) => drive(rt, forwarder, number, structure, routes, gate, told),
+    }
+}
+
+/// Hands back a worker that made steps, and says whether memory was refused to the last.
+fn come_back<W>(worker: W, refused: bool) -> Returned<W>
+    ensures { result ≡ came_back worker refused }
+{
+    if refused {
+        Returned::Refused(worker)
+    } else {
+        Returned::Ran(worker)
+    }
+}
+
+/// Runs the worker in this thread, unless it was turned away.
 fn run_one<B: Work, F: Work, G: Gate, R: Wait>(
     rt: &R,
-    worker: Kind<B, F>,
+    mut worker: Kind<B, F>,
     number: u32,
     structure: &Structure,
     routes: &Routes,
@@ -54,12 +85,8 @@ fn run_one<B: Work, F: Work, G: Gate, R: Wait>(
     if told.is_turned_away(number) {
         return Returned::NotStarted(worker);
     }
-    match worker {
-        Kind::Block(block) => block_back(drive(rt, block, number, structure, routes, gate, told)),
-        Kind::Forwarder(forwarder) => forwarder_back(drive(
-            rt, forwarder, number, structure, routes, gate, told,
-        )),
-    }
+    let refused = drive_kind(rt, &mut worker, number, structure, routes, gate, told);
+    come_back(worker, refused)
 }
 
 /// Starts the worker of this number in a thread of its own. Where that can't start, all are told to stop, and the worker comes back
@@ -139,21 +166,21 @@ fn run_rest<
 {
     let Team {
         mut workers,
-        environment,
+        mut environment,
         number_of_environment,
         done,
     } = team;
     let Some(worker) = workers.pop() else {
-        let last = drive(
+        let refused = drive(
             rt,
-            environment,
+            &mut environment,
             number_of_environment,
             structure,
             routes,
             gate,
             told,
         );
-        return (done, last);
+        return (done, come_back(environment, refused));
     };
     let place = workers.len() as u32;
     let number = if place < number_of_environment {
