@@ -7,11 +7,11 @@ ghost use Rattle.sdl_settling.specs.Coming.{block_if, forwarder_if, blocks_back,
 use sdl_ends::Ends;
 use sdl_serial_run::blocks::put_last;
 use sdl_serial_run::sdl_block::BlockWorker;
-use sdl_serial_run::sdl_driver::closing::take_first;
 use sdl_serial_run::sdl_driver::sdl_forward::Forwarder;
 use sdl_serial_run::sdl_log::Keeps;
 use sdl_serial_run::sdl_transition::Agents;
 use sdl_threads::{AtWork, BlockThread, ForwarderThread, Kind, Returned};
+use std::collections::VecDeque;
 
 /// The worker, and how it came back.
 pub fn put_apart<W>(returned: Returned<W>) -> (W, Returned<()>)
@@ -109,6 +109,14 @@ fn put_behind(list: &mut Vec<Ends>, ends: Ends)
     put_last(list, ends)
 }
 
+/// Takes the first element of a list, whose others stay where they are.
+pub fn take_front<T>(list: &mut VecDeque<T>) -> T
+    requires { 0 < length list.old.items }
+    ensures { list.old.items ≡ result ∷ list.new.items }
+{
+    list.pop_front().unwrap()
+}
+
 /// Parts the blocks from the forwarders, in order.
 pub(crate) fn part<S: Agents, K: Keeps>(
     blocks: &mut Vec<BlockThread<S, K>>,
@@ -120,9 +128,9 @@ pub(crate) fn part<S: Agents, K: Keeps>(
     ensures blocks { blocks.new.items ≡ blocks.old.items ++ blocks_back done.items }
     ensures forwarders { forwarders.new.items ≡ forwarders.old.items ++ forwarders_back done.items }
 {
-    let mut rest = done;
+    let mut rest = VecDeque::from(done);
     while rest.len() > 0 {
-        let returned = take_first(&mut rest);
+        let returned = take_front(&mut rest);
         let (worker, _) = put_apart(returned);
         place(blocks, forwarders, worker);
     }
@@ -140,9 +148,9 @@ pub(crate) fn take_blocks<S: Agents, K: Keeps>(
     ensures ends { ends.new.items ≡ ends.old.items ++ map (λ t. t.ends) threads.items }
     ensures room { (more : ℕ) → vec_len ends.old + (length threads.items + more) ≤ vec_capacity ends.old → vec_len ends.new + more ≤ vec_capacity ends.new }
 {
-    let mut rest = threads;
+    let mut rest = VecDeque::from(threads);
     while rest.len() > 0 {
-        let thread = take_first(&mut rest);
+        let thread = take_front(&mut rest);
         put_last(blocks, thread.block);
         put_behind(ends, thread.ends);
     }
@@ -159,9 +167,9 @@ pub(crate) fn take_forwarders(
     ensures forwarders { forwarders.new.items ≡ forwarders.old.items ++ map (λ t. t.forwarder) threads.items }
     ensures ends { ends.new.items ≡ ends.old.items ++ map (λ t. t.ends) threads.items }
 {
-    let mut rest = threads;
+    let mut rest = VecDeque::from(threads);
     while rest.len() > 0 {
-        let thread = take_first(&mut rest);
+        let thread = take_front(&mut rest);
         put_last(forwarders, thread.forwarder);
         put_behind(ends, thread.ends);
     }
