@@ -31,8 +31,8 @@ pub record GivesSoFar {X W : Type 0} (f : X → WorkerEnds → W) (xs rest : Lis
   pub count : length own ≡ length done
   pub added : new ≡ old ++ paired f done own
 
-pub gives_none : {X W : Type 0} (f : X → WorkerEnds → W) (xs : List X) (before : List WorkerEnds) (old : List W) → GivesSoFar f xs xs before before old old
-gives_none f xs before old = record { done = []; own = []; all = refl; cut = refl; count = refl; added = sym (append-nil old) }
+pub gives_none : {X W : Type 0} (f : X → WorkerEnds → W) (xs rest : List X) (before : List WorkerEnds) (old : List W) → rest ≡ xs → GivesSoFar f xs rest before before old old
+gives_none f xs rest before old e = record { done = []; own = []; all = e; cut = refl; count = refl; added = sym (append-nil old) }
 
 pub gives_one : {X W : Type 0} (f : X → WorkerEnds → W) (xs rest fewer : List X) (before now later : List WorkerEnds) (old new newer : List W) (x : X) (e : WorkerEnds)
     → rest ≡ x ∷ fewer → now ≡ e ∷ later → newer ≡ new ++ f x e ∷ [] → GivesSoFar f xs rest before now old new → GivesSoFar f xs fewer before later old newer

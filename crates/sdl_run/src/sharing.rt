@@ -3,31 +3,32 @@ ghost use Rattle.std.specs.Prelude.{◌≡◌, ℕ, ◌+◌, ◌≤◌, [], leng
 ghost use Rattle.sdl_settling.specs.sdl_threads.declared.kinds.Kind.TheVariants as kind;
 ghost use Rattle.sdl_run.specs.Sharing.{block_thread, forwarder_thread, Gives, GivesOut};
 
+use sdl_settling::back::take_front;
 use sdl_settling::sdl_ends::Ends;
 use sdl_settling::sdl_forward::Forwarder;
 use sdl_settling::sdl_log::Keeps;
 use sdl_settling::sdl_serial_run::blocks::put_last;
 use sdl_settling::sdl_serial_run::sdl_block::BlockWorker;
-use sdl_settling::sdl_serial_run::sdl_driver::closing::take_first;
 use sdl_settling::sdl_threads::{AtWork, BlockThread, ForwarderThread, Kind};
 use sdl_settling::sdl_transition::Agents;
+use std::collections::VecDeque;
 
 /// Adds each block with the next of the ends behind the workers.
 fn give_blocks<S: Agents, K: Keeps>(
     workers: &mut Vec<AtWork<S, K>>,
     budget: u32,
     blocks: Vec<BlockWorker<S, K>>,
-    ends: &mut Vec<Ends>,
+    ends: &mut VecDeque<Ends>,
 )
     requires enough { length blocks.items ≤ length ends.old.items }
     requires room { vec_len workers.old + length blocks.items ≤ vec_capacity workers.old }
     ensures given { Gives (λ b e. kind.Block (block_thread budget b e)) blocks.items ends.old.items ends.new.items workers.old.items workers.new.items }
     ensures room { (more : ℕ) → vec_len workers.old + (length blocks.items + more) ≤ vec_capacity workers.old → vec_len workers.new + more ≤ vec_capacity workers.new }
 {
-    let mut rest = blocks;
+    let mut rest = VecDeque::from(blocks);
     while rest.len() > 0 {
-        let block = take_first(&mut rest);
-        let own = take_first(ends);
+        let block = take_front(&mut rest);
+        let own = take_front(ends);
         let thread = BlockThread {
             block,
             ends: own,
@@ -41,16 +42,16 @@ fn give_blocks<S: Agents, K: Keeps>(
 fn give_forwarders<S: Agents, K: Keeps>(
     workers: &mut Vec<AtWork<S, K>>,
     forwarders: Vec<Forwarder>,
-    ends: &mut Vec<Ends>,
+    ends: &mut VecDeque<Ends>,
 )
     requires enough { length forwarders.items ≤ length ends.old.items }
     requires room { vec_len workers.old + length forwarders.items ≤ vec_capacity workers.old }
     ensures given { Gives (λ f e. kind.Forwarder (forwarder_thread f e)) forwarders.items ends.old.items ends.new.items workers.old.items workers.new.items }
 {
-    let mut rest = forwarders;
+    let mut rest = VecDeque::from(forwarders);
     while rest.len() > 0 {
-        let forwarder = take_first(&mut rest);
-        let own = take_first(ends);
+        let forwarder = take_front(&mut rest);
+        let own = take_front(ends);
         put_last(
             workers,
             Kind::Forwarder(ForwarderThread {
@@ -75,9 +76,9 @@ pub fn give_out<S: Agents, K: Keeps>(
     ensures { GivesOut budget blocks.items forwarders.items ends.items result.0.items result.1 }
 {
     let mut workers = workers;
-    let mut ends = ends;
+    let mut ends = VecDeque::from(ends);
     give_blocks(&mut workers, budget, blocks, &mut ends);
-    let own = take_first(&mut ends);
+    let own = take_front(&mut ends);
     give_forwarders(&mut workers, forwarders, &mut ends);
     (workers, own)
 }

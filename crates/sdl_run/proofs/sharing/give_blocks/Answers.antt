@@ -1,33 +1,33 @@
-use Rattle.std.proofs.Common.{◌+◌, length, arith}
+use Rattle.std.proofs.Common.{◌+◌, length, ap, arith}
 use Rattle.sdl_settling.proofs.serial_run.driving.Rooms.{fewer_by_one}
 use Rattle.sdl_settling.proofs.serial_run.Begins.{room_for}
 use Rattle.sdl_run.proofs.Pairs.{gives_none, gives_one, gives_all}
 use Rattle.sdl_run.proofs.sharing.give_blocks.Goals as goal
 
-pub take_first-own-requires : goal.take_first-own-requires
-take_first-own-requires g c =
-    let one = fewer_by_one c.take_first-block.result c.loop-rest.rest.items c.take_first-block.new.list.items c.take_first-block.ensures in
+pub take_front-own-requires : goal.take_front-own-requires
+take_front-own-requires g c =
+    let one = fewer_by_one c.take_front-block.result c.loop-rest.rest.items c.take_front-block.new.list.items c.take_front-block.ensures in
     let some = c.loop-rest.invariant.enough in
     omega (arith, one, some)
 
 pub put_last-requires : goal.put_last-requires
 put_last-requires g c =
-    let one = fewer_by_one c.take_first-block.result c.loop-rest.rest.items c.take_first-block.new.list.items c.take_first-block.ensures in
+    let one = fewer_by_one c.take_front-block.result c.loop-rest.rest.items c.take_front-block.new.list.items c.take_front-block.ensures in
     room_for c.loop-rest.workers 1 (length c.loop-rest.rest.items) (omega (arith, one)) c.loop-rest.invariant.room
 
 pub loop-rest-preserved : goal.loop-rest-preserved
 loop-rest-preserved g c =
     let inv = c.loop-rest.invariant in
     let rest = c.loop-rest.rest.items in
-    let fewer = c.take_first-block.new.list.items in
-    let one = fewer_by_one c.take_first-block.result rest fewer c.take_first-block.ensures in
-    let own = fewer_by_one c.take_first-own.result c.loop-rest.ends.items c.take_first-own.new.list.items c.take_first-own.ensures in
+    let fewer = c.take_front-block.new.list.items in
+    let one = fewer_by_one c.take_front-block.result rest fewer c.take_front-block.ensures in
+    let own = fewer_by_one c.take_front-own.result c.loop-rest.ends.items c.take_front-own.new.list.items c.take_front-own.ensures in
     let some = inv.enough in
     record {
       enough = omega (arith, one, own, some);
       room = c.put_last.ensures.room (length fewer) (room_for c.loop-rest.workers (length fewer + 1) (length rest) (omega (arith, one)) inv.room);
-      given = gives_one _ _ rest fewer _ c.loop-rest.ends.items c.take_first-own.new.list.items _ c.loop-rest.workers.items c.put_last.new.list.items c.take_first-block.result c.take_first-own.result
-          c.take_first-block.ensures c.take_first-own.ensures c.put_last.ensures.items inv.given;
+      given = gives_one _ _ rest fewer _ c.loop-rest.ends.items c.take_front-own.new.list.items _ c.loop-rest.workers.items c.put_last.new.list.items c.take_front-block.result c.take_front-own.result
+          c.take_front-block.ensures c.take_front-own.ensures c.put_last.ensures.items inv.given;
       more = λ m h. c.put_last.ensures.room (length fewer + m) (room_for c.loop-rest.workers (length fewer + m + 1) (length rest + m) (omega (arith, one)) (inv.more m h));
     }
 
@@ -39,9 +39,11 @@ returns-clause-room g c = λ m h. room_for c.loop-rest.workers m (length c.loop-
 
 pub loop-rest-init : goal.loop-rest-init
 loop-rest-init g c =
+    let same = c.from-rest.ensures.0 in
+    let count = ap length same in
     record {
-      enough = c.requires.enough;
-      room = c.requires.room;
-      given = gives_none _ _ _ _;
-      more = λ m h. h;
+      enough = omega (arith, count, c.requires.enough);
+      room = omega (arith, count, c.requires.room);
+      given = gives_none _ _ _ _ _ same;
+      more = λ m h. omega (arith, count, h);
     }
