@@ -59,7 +59,7 @@ RelayMay (suc zero) frame step = LeadsToIdle (forwarded 1 frame.signal) step
 RelayMay (suc (suc zero)) frame step = LeadsToIdle (forwarded 2 frame.signal) step
 RelayMay _ frame step = ⊥
 
--- Spawn's Boss: on `make` a create of a Kid and an output of `hello` to it, on `kill(p)` an output of `die` to p, and on
+-- Spawn's Boss: on `make` a create of a Kid and an output of `hello` to it; on `kill(p)` an output of `die` to p; on
 -- `query(n)` an output of `reply(n)` to the sender
 abbrev pub made : List Action
 made = Create (record { 0 = 1 }) ∷ output 3 [] dest.Offspring ∷ []
@@ -93,7 +93,7 @@ SpawnMay (suc (suc (suc (suc (suc (suc zero)))))) frame step = LeadsToIdle (answ
 SpawnMay (suc (suc (suc (suc (suc (suc (suc zero))))))) frame step = Stops step
 SpawnMay _ frame step = ⊥
 
--- Ring: X's start with an output of `tok(0)`, Y's start, and on `tok(n)` an output of `tok(n + 1)`, or of `tok(0)` where n
+-- Ring: X's start with an output of `tok(0)`, and Y's start; on `tok(n)` an output of `tok(n + 1)`, or of `tok(0)` where n
 -- is the greatest Integer
 abbrev pub next_token : ℤ → ℤ
 next_token n = if int_lt n (pos 9223372036854775807) then n +ℤ pos 1 else pos 0

@@ -12,16 +12,16 @@ use Rattle.sdl_log.specs.declared.event.Done.{Done}
 use Rattle.sdl_log.specs.declared.event.Done.TheVariants as done
 use Rattle.sdl_log.specs.declared.event.Event.{Event}
 use Rattle.sdl_log.specs.declared.event.Event.TheVariants as event
-use Rattle.sdl_ledger.specs.sdl_instances.Machine.{State}
-use Rattle.sdl_ledger.specs.sdl_instances.Run.{done_in, sent_by, sent, arrived, arrived_in, all_done, origins, origin_by, turns}
-use Rattle.sdl_ledger.specs.sdl_outcome.declared.environment_output.EnvOut.{EnvOut}
-use Rattle.sdl_ledger.specs.sdl_outcome.declared.environment_output.EnvOut.TheVariants as env_out
+use Rattle.sdl_instances.specs.Machine.{State}
+use Rattle.sdl_instances.specs.Run.{done_in, sent_by, sent, arrived, arrived_in, all_done, origins, origin_by, turns}
+use Rattle.sdl_outcome.specs.declared.environment_output.EnvOut.{EnvOut}
+use Rattle.sdl_outcome.specs.declared.environment_output.EnvOut.TheVariants as env_out
 use Rattle.sdl_ledger.specs.declared.ledger.Ledger.{Ledger}
-use Rattle.sdl_ledger.specs.sdl_outcome.EnvironmentWork.{env_sent}
-use Rattle.sdl_ledger.specs.sdl_outcome.Plan.{Plan, system_at}
-use Rattle.sdl_ledger.specs.sdl_outcome.Outcome.{WorkerHand, Outcome, AreRunsFrom}
+use Rattle.sdl_outcome.specs.EnvironmentWork.{env_sent}
+use Rattle.sdl_outcome.specs.Plan.{Plan, system_at}
+use Rattle.sdl_outcome.specs.Outcome.{WorkerHand, Outcome, AreRunsFrom}
 use Rattle.sdl_ledger.specs.Counts.{IsTraced, IsLimited, IsLedgerOf, Balances, CountsFit, output_by, no_route_by, no_route_at, entered_in, no_instance_in, gone_in, fired_in, implicit_in, stopped_in, items_held, over_events, all_output, all_no_route, all_entered, all_left, waiting_in, most_outputs}
-use Rattle.sdl_ledger.proofs.outcome.Sums.{sum_both}
+use Rattle.sdl_outcome.proofs.Sums.{sum_both}
 use Rattle.sdl_ledger.proofs.Adding.{sum_map}
 use Rattle.sdl_balance.proofs.Ports.{ports_balance}
 use Rattle.sdl_balance.proofs.Traces.{nothing_lost}

@@ -1,7 +1,7 @@
 -- Worked rows: the ledger of a run of Ring.
 use Rattle.std.proofs.Common.{◌≡◌, ℕ, [], ◌∷◌, Some, sym, ◌∙◌, arith}
 use Rattle.sdl_ledger.specs.declared.ledger.Ledger.{Ledger}
-use Rattle.sdl_ledger.specs.sdl_outcome.Ring.{leaves, tok, no_one}
+use Rattle.sdl_outcome.specs.Ring.{leaves, tok, no_one}
 use Rattle.sdl_ledger.specs.Counts.{IsLedgerOf, Balances, waiting_in}
 
 -- three outputs, of which two entered and fired, and one is left

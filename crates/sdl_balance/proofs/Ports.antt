@@ -15,7 +15,7 @@ use Rattle.sdl_behaviour.specs.declared.step.Action.TheVariants as action
 use Rattle.sdl_behaviour.specs.declared.step.Next.{Next}
 use Rattle.sdl_behaviour.specs.declared.step.Next.TheVariants as next_is
 use Rattle.sdl_transition.specs.Rules.{Rule, Rules, rules_for}
-use Rattle.sdl_ledger.specs.sdl_instances.declared.process_set.ProcessSet.{ProcessSet}
+use Rattle.sdl_instances.specs.declared.process_set.ProcessSet.{ProcessSet}
 use Rattle.sdl_log.specs.declared.event.Cause.TheVariants as cause
 use Rattle.sdl_log.specs.declared.event.Done.{Done}
 use Rattle.sdl_log.specs.declared.event.Done.TheVariants as done
@@ -23,9 +23,9 @@ use Rattle.sdl_log.specs.declared.event.Event.{Event}
 use Rattle.sdl_log.specs.declared.event.Event.TheVariants as event
 use Rattle.sdl_log.specs.declared.event.Trigger.{Trigger}
 use Rattle.sdl_log.specs.declared.event.Trigger.TheVariants as trigger
-use Rattle.sdl_ledger.specs.sdl_instances.Record.{Record}
-use Rattle.sdl_ledger.specs.sdl_instances.Machine.{State, System, FitsAt, Becomes, Leaves, Does, DoesAll, Finishes, Transits, Turns, IsCreated, created_record, consumed, next_any}
-use Rattle.sdl_ledger.specs.sdl_instances.Run.{IsRun, Leads, first_instances, initial_of, initial_in, initial_instances, initial, waiting}
+use Rattle.sdl_processes.specs.Record.{Record}
+use Rattle.sdl_instances.specs.Machine.{State, System, FitsAt, Becomes, Leaves, Does, DoesAll, Finishes, Transits, Turns, IsCreated, created_record, consumed, next_any}
+use Rattle.sdl_instances.specs.Run.{IsRun, Leads, first_instances, initial_of, initial_in, initial_instances, initial, waiting}
 use Rattle.sdl_ledger.specs.Counts.{entered_in, fired_in, implicit_in, stopped_in, fired_by, implicit_by}
 
 becomes_waits : (p : Pid) (r t : Record) (old new : State) → Becomes p r t old new → waiting new.living + length r.port ≡ waiting old.living + length t.port

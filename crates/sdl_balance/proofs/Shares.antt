@@ -8,16 +8,16 @@ use Rattle.sdl_routes.specs.declared.route.Hop.{Hop}
 use Rattle.sdl_routes.specs.declared.route.Station.{Station}
 use Rattle.sdl_routes.specs.declared.route.Station.TheVariants.{Line, Inlet, Outlet}
 use Rattle.sdl_routes.specs.Routes.{EachOnce}
-use Rattle.sdl_ledger.specs.sdl_forward.Boards.{same_station, stations_of, waiting, IsStationBefore, AreStationsInOrder}
-use Rattle.sdl_ledger.specs.sdl_opening.declared.worker.Worker.{Worker}
-use Rattle.sdl_ledger.specs.sdl_opening.declared.worker.Worker.TheVariants.{Block, Environment, Forwarder}
-use Rattle.sdl_ledger.specs.sdl_outcome.Stations.{Among, Once, place, taker, same_worker}
-use Rattle.sdl_ledger.specs.sdl_outcome.Plan.{blocks_from}
-use Rattle.sdl_ledger.specs.sdl_outcome.Outcome.{of_worker}
-use Rattle.sdl_ledger.proofs.outcome.Lists.{all_weaker, all_map}
-use Rattle.sdl_ledger.proofs.outcome.Comparisons.{same_station_is, same_station_itself, same_worker_is, same_worker_itself}
-use Rattle.sdl_ledger.proofs.outcome.Workers.{place_apart, taker_place}
-use Rattle.sdl_ledger.proofs.outcome.Sums.{sum_same, sum_none}
+use Rattle.sdl_forward.specs.Boards.{same_station, stations_of, waiting, IsStationBefore, AreStationsInOrder}
+use Rattle.sdl_opening.specs.declared.worker.Worker.{Worker}
+use Rattle.sdl_opening.specs.declared.worker.Worker.TheVariants.{Block, Environment, Forwarder}
+use Rattle.sdl_outcome.specs.Stations.{Among, Once, place, taker, same_worker}
+use Rattle.sdl_outcome.specs.Plan.{blocks_from}
+use Rattle.sdl_outcome.specs.Outcome.{of_worker}
+use Rattle.sdl_outcome.proofs.Lists.{all_weaker, all_map}
+use Rattle.sdl_outcome.proofs.Comparisons.{same_station_is, same_station_itself, same_worker_is, same_worker_itself}
+use Rattle.sdl_outcome.proofs.Workers.{place_apart, taker_place}
+use Rattle.sdl_outcome.proofs.Sums.{sum_same, sum_none}
 use Rattle.sdl_balance.proofs.Spread.{all_apart}
 
 other_worker : (v w : Worker) → v ≢ w → same_worker v w ≡ false

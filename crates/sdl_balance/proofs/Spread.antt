@@ -6,10 +6,10 @@ use Rattle.std.proofs.lemmas.List.{reverse-append}
 use Rattle.std.proofs.lemmas.List.Sums.{sum_by-cons, sum_by-append}
 use Rattle.sdl_signal.specs.declared.values.Item.{Item}
 use Rattle.sdl_routes.specs.Routes.{EachOnce}
-use Rattle.sdl_ledger.specs.sdl_outcome.Stations.{Among}
-use Rattle.sdl_ledger.specs.sdl_outcome.Books.{of_route}
-use Rattle.sdl_ledger.proofs.outcome.Lists.{filter_none, all_weaker}
-use Rattle.sdl_ledger.proofs.outcome.Sums.{sum_same, sum_both, sum_none}
+use Rattle.sdl_outcome.specs.Stations.{Among}
+use Rattle.sdl_outcome.specs.Books.{of_route}
+use Rattle.sdl_outcome.proofs.Lists.{filter_none, all_weaker}
+use Rattle.sdl_outcome.proofs.Sums.{sum_same, sum_both, sum_none}
 use Rattle.sdl_ledger.proofs.Adding.{no_sum}
 
 pub sum_swap : {X Y : Type 0} (g : X → Y → ℕ) (xs : List X) (ys : List Y) → sum_by (λ x. sum_by (λ y. g x y) ys) xs ≡ sum_by (λ y. sum_by (λ x. g x y) xs) ys

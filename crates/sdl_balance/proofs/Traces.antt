@@ -18,29 +18,29 @@ use Rattle.sdl_routes.specs.declared.route.Station.{Station}
 use Rattle.sdl_routes.specs.Routes.{EachOnce}
 use Rattle.sdl_behaviour.specs.declared.step.Frame.{Frame}
 use Rattle.sdl_behaviour.specs.declared.step.Step.{Step}
-use Rattle.sdl_ledger.specs.sdl_instances.declared.process_set.ProcessSet.{ProcessSet}
+use Rattle.sdl_instances.specs.declared.process_set.ProcessSet.{ProcessSet}
 use Rattle.sdl_log.specs.declared.event.Event.{Event}
-use Rattle.sdl_ledger.specs.sdl_instances.Machine.{State}
-use Rattle.sdl_ledger.specs.sdl_instances.Run.{Leads as LeadsTo, IsRun, done_in, sent_by, sent, arrived, all_done, initial}
-use Rattle.sdl_ledger.specs.sdl_instances.Core.{numbers_of, sets_of}
-use Rattle.sdl_ledger.proofs.instances.Home.{IsHome, IsFromBlock, next_home, run_home}
-use Rattle.sdl_ledger.specs.sdl_forward.Boards.{same_station, stations_of}
-use Rattle.sdl_ledger.specs.sdl_opening.declared.worker.Worker.{Worker}
-use Rattle.sdl_ledger.specs.sdl_opening.declared.worker.Worker.TheVariants.{Block, Environment, Forwarder}
-use Rattle.sdl_ledger.specs.sdl_outcome.EnvironmentWork.{ComesIn, env_sent}
-use Rattle.sdl_ledger.specs.sdl_outcome.Stations.{Ways, IsAgent, Leads, Among, Once, place, taker, same_worker}
-use Rattle.sdl_ledger.specs.sdl_outcome.Books.{Books, of_route, standing, left}
-use Rattle.sdl_ledger.specs.sdl_outcome.Plan.{Plan, blocks_in, blocks_from, lines_of, workers_of, ways_of, system_at, starter, worker_of_set}
-use Rattle.sdl_ledger.specs.sdl_outcome.Outcome.{WorkerHand, Outcome, AreRunsFrom, of_worker, books_of}
+use Rattle.sdl_instances.specs.Machine.{State}
+use Rattle.sdl_instances.specs.Run.{Leads as LeadsTo, IsRun, done_in, sent_by, sent, arrived, all_done, initial}
+use Rattle.sdl_instances.specs.Core.{numbers_of, sets_of}
+use Rattle.sdl_instances.proofs.Home.{IsHome, IsFromBlock, next_home, run_home}
+use Rattle.sdl_forward.specs.Boards.{same_station, stations_of}
+use Rattle.sdl_opening.specs.declared.worker.Worker.{Worker}
+use Rattle.sdl_opening.specs.declared.worker.Worker.TheVariants.{Block, Environment, Forwarder}
+use Rattle.sdl_outcome.specs.EnvironmentWork.{ComesIn, env_sent}
+use Rattle.sdl_outcome.specs.Stations.{Ways, IsAgent, Leads, Among, Once, place, taker, same_worker}
+use Rattle.sdl_outcome.specs.Books.{Books, of_route, standing, left}
+use Rattle.sdl_outcome.specs.Plan.{Plan, blocks_in, blocks_from, lines_of, workers_of, ways_of, system_at, starter, worker_of_set}
+use Rattle.sdl_outcome.specs.Outcome.{WorkerHand, Outcome, AreRunsFrom, of_worker, books_of}
 use Rattle.sdl_ledger.specs.Counts.{IsTraced}
-use Rattle.sdl_ledger.proofs.outcome.Lists.{all_front, all_end, all_append, all_weaker, all_every, all_both}
-use Rattle.sdl_ledger.proofs.outcome.Comparisons.{same_station_is, same_station_itself, same_worker_is, same_worker_itself}
-use Rattle.sdl_ledger.proofs.outcome.AlongStations.{place_taker}
-use Rattle.sdl_ledger.proofs.outcome.Along.{no_other}
-use Rattle.sdl_ledger.proofs.outcome.Ways.{ways_are, leads_within, row_of}
-use Rattle.sdl_ledger.proofs.outcome.Workers.{count_blocks}
-use Rattle.sdl_ledger.proofs.outcome.Workers.{workers_once}
-use Rattle.sdl_ledger.proofs.outcome.Sums.{sum_same, sum_both}
+use Rattle.sdl_outcome.proofs.Lists.{all_front, all_end, all_append, all_weaker, all_every, all_both}
+use Rattle.sdl_outcome.proofs.Comparisons.{same_station_is, same_station_itself, same_worker_is, same_worker_itself}
+use Rattle.sdl_outcome.proofs.AlongStations.{place_taker}
+use Rattle.sdl_outcome.proofs.Along.{no_other}
+use Rattle.sdl_outcome.proofs.Ways.{ways_are, leads_within, row_of}
+use Rattle.sdl_outcome.proofs.Workers.{count_blocks}
+use Rattle.sdl_outcome.proofs.Workers.{workers_once}
+use Rattle.sdl_outcome.proofs.Sums.{sum_same, sum_both}
 use Rattle.sdl_ledger.proofs.Adding.{sum_map}
 use Rattle.sdl_balance.proofs.Spread.{below, below_less, number, number_all, number_none, sum_over, sum_swap, sum_reverse}
 use Rattle.sdl_balance.proofs.Shares.{AreAt, at_none, at_next, all_workers, no_worker, over_workers, no_station, over_stations, order_once, once_each, places_once, among_places}

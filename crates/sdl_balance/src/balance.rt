@@ -2,12 +2,12 @@
 ghost use Rattle.std.specs.Prelude.{◌≡◌, ℕ, ◌+◌, ◌≤◌, List, [], ◌∷◌, Some, length, sum_by};
 ghost use Rattle.sdl_signal.specs.declared.ids.BlockId.{BlockId};
 ghost use Rattle.sdl_log.specs.declared.event.Event.{Event};
-ghost use Rattle.sdl_ledger.specs.sdl_instances.Machine.{State, System};
-ghost use Rattle.sdl_ledger.specs.sdl_instances.Run.{IsRun, waiting};
+ghost use Rattle.sdl_instances.specs.Machine.{State, System};
+ghost use Rattle.sdl_instances.specs.Run.{IsRun, waiting};
 ghost use Rattle.sdl_ledger.specs.declared.ledger.Ledger.{Ledger};
-ghost use Rattle.sdl_ledger.specs.sdl_outcome.Plan.{Plan};
-ghost use Rattle.sdl_ledger.specs.sdl_outcome.Outcome.{Outcome};
-ghost use Rattle.sdl_ledger.specs.sdl_outcome.Ring.{leaves, tok, no_one};
+ghost use Rattle.sdl_outcome.specs.Plan.{Plan};
+ghost use Rattle.sdl_outcome.specs.Outcome.{Outcome};
+ghost use Rattle.sdl_outcome.specs.Ring.{leaves, tok, no_one};
 ghost use Rattle.sdl_ledger.specs.Counts.{IsTraced, IsLimited, IsLedgerOf, Balances, CountsFit, waiting_in, most_outputs, entered_in, fired_in, implicit_in, stopped_in};
 
 use sdl_transition::Agents;

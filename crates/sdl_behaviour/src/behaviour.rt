@@ -34,8 +34,8 @@ pub struct Row<S> {
     pub transition: Transition<S>,
 }
 
-/// What the instances of a set do: the names that are meant, the initial variables, the names of the states, the start
-/// transition, and a row for each state and signal that it does not leave to the implicit transition.
+/// What the instances of a set do: the names that are meant, the initial variables, the names of the states, and the
+/// start transition; and a row for each state and signal that it does not leave to the implicit transition.
 #[derive(Drop)]
 pub struct Behaviour<S> {
     pub set: SetId,

@@ -7,10 +7,10 @@ use Rattle.sdl_routes.specs.declared.route.Station.{Station}
 use Rattle.sdl_behaviour.specs.declared.step.Frame.{Frame}
 use Rattle.sdl_behaviour.specs.declared.step.Step.{Step}
 use Rattle.sdl_transition.specs.Rules.{Rules}
-use Rattle.sdl_hand.specs.sdl_instances.Machine.{System}
-use Rattle.sdl_hand.specs.sdl_instances.Run.{sent}
-use Rattle.sdl_hand.specs.sdl_instances.Core.{IsSound, IsLegalIn, system_of}
-use Rattle.sdl_hand.specs.sdl_forward.Boards.{IsBoardOf, AreAllStations}
+use Rattle.sdl_instances.specs.Machine.{System}
+use Rattle.sdl_instances.specs.Run.{sent}
+use Rattle.sdl_instances.specs.Core.{IsSound, IsLegalIn, system_of}
+use Rattle.sdl_forward.specs.Boards.{IsBoardOf, AreAllStations}
 use Rattle.sdl_hand.specs.declared.hand.Stepped.{Stepped}
 use Rattle.sdl_hand.specs.declared.hand.Stepped.TheVariants.{Did, Idle, Memory}
 use Rattle.sdl_hand.specs.Work.{Working, Works, StepsAs}

@@ -6,10 +6,10 @@ use Rattle.sdl_routes.specs.declared.route.TableRow.{TableRow}
 use Rattle.sdl_routes.specs.declared.route.Station.{Station}
 use Rattle.sdl_behaviour.specs.declared.step.Frame.{Frame}
 use Rattle.sdl_behaviour.specs.declared.step.Step.{Step}
-use Rattle.sdl_hand.specs.sdl_instances.Machine.{System}
-use Rattle.sdl_hand.specs.sdl_instances.Core.{IsSound}
-use Rattle.sdl_hand.specs.sdl_instances.Calls.{KeepsRest}
-use Rattle.sdl_hand.specs.sdl_ends.Ends.{WorkerEnds, IsSameEnds, put_at, taken_by}
+use Rattle.sdl_instances.specs.Machine.{System}
+use Rattle.sdl_instances.specs.Core.{IsSound}
+use Rattle.sdl_instances.specs.Calls.{KeepsRest}
+use Rattle.sdl_ends.specs.Ends.{WorkerEnds, IsSameEnds, put_at, taken_by}
 use Rattle.sdl_hand.specs.declared.hand.Stepped.{Stepped}
 use Rattle.sdl_hand.specs.declared.hand.Refused.{Refused}
 use Rattle.sdl_hand.specs.Work.{Working, beginning_at}

@@ -9,10 +9,10 @@ use Rattle.sdl_log.specs.declared.event.Event.{Event}
 use Rattle.sdl_log.specs.declared.event.Event.TheVariants as event
 use Rattle.sdl_log.specs.declared.event.Arrival.{Arrival}
 use Rattle.sdl_log.specs.declared.event.Arrival.TheVariants as arrival
-use Rattle.sdl_hand.specs.sdl_instances.Machine.{System}
-use Rattle.sdl_hand.specs.sdl_instances.Run.{arrived, sent, turns, turn_in}
-use Rattle.sdl_hand.specs.sdl_instances.Core.{IsSound, IsLegalIn, arrival_event}
-use Rattle.sdl_hand.specs.sdl_instances.Calls.{KeepsRest}
+use Rattle.sdl_instances.specs.Machine.{System}
+use Rattle.sdl_instances.specs.Run.{arrived, sent, turns, turn_in}
+use Rattle.sdl_instances.specs.Core.{IsSound, IsLegalIn, arrival_event}
+use Rattle.sdl_instances.specs.Calls.{KeepsRest}
 use Rattle.sdl_hand.specs.declared.hand.Refused.{Refused}
 use Rattle.sdl_hand.specs.Work.{Working}
 use Rattle.sdl_block.specs.Phases.{IsSpent, LetsArrive, MakesTurn}

@@ -11,11 +11,11 @@ use Rattle.sdl_behaviour.specs.declared.step.Frame.{Frame}
 use Rattle.sdl_behaviour.specs.declared.step.Step.{Step}
 use Rattle.sdl_transition.specs.Rules.{Rules}
 use Rattle.sdl_log.specs.declared.event.Event.{Event}
-use Rattle.sdl_hand.specs.sdl_instances.Machine.{State, System}
-use Rattle.sdl_hand.specs.sdl_instances.Run.{Leads, arrived, sent, sent_by, done_in, all_done, initial}
-use Rattle.sdl_hand.specs.sdl_instances.Core.{Core, IsSound, IsBoundIn, IsLegalIn, system_of}
-use Rattle.sdl_hand.proofs.instances.Home.{IsHome, IsFromBlock, next_home, run_home}
-use Rattle.sdl_hand.specs.sdl_ends.Ends.{WorkerEnds, IsSameEnds, put_at, taken_by}
+use Rattle.sdl_instances.specs.Machine.{State, System}
+use Rattle.sdl_instances.specs.Run.{Leads, arrived, sent, sent_by, done_in, all_done, initial}
+use Rattle.sdl_instances.specs.Core.{Core, IsSound, IsBoundIn, IsLegalIn, system_of}
+use Rattle.sdl_instances.proofs.Home.{IsHome, IsFromBlock, next_home, run_home}
+use Rattle.sdl_ends.specs.Ends.{WorkerEnds, IsSameEnds, put_at, taken_by}
 use Rattle.sdl_hand.specs.declared.hand.Stepped.{Stepped}
 use Rattle.sdl_hand.specs.declared.hand.Stepped.TheVariants.{Did, Idle, Memory}
 use Rattle.sdl_hand.specs.Work.{Working, beginning_at, with_core}

@@ -1,7 +1,3 @@
-pub use Rattle.sdl_hand.proofs as hand
-pub use Rattle.sdl_hand.proofs.ends
-pub use Rattle.sdl_hand.proofs.forward
-pub use Rattle.sdl_hand.proofs.instances
 pub mod Parts
 pub mod Systems
 pub mod Going

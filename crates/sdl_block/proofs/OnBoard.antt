@@ -7,10 +7,10 @@ use Rattle.sdl_routes.specs.declared.route.Station.{Station}
 use Rattle.sdl_routes.specs.declared.route.Station.TheVariants as station
 use Rattle.sdl_behaviour.specs.declared.step.Frame.{Frame}
 use Rattle.sdl_behaviour.specs.declared.step.Step.{Step}
-use Rattle.sdl_hand.specs.sdl_instances.Machine.{System}
-use Rattle.sdl_hand.specs.sdl_instances.Core.{IsSound, IsLegalIn}
-use Rattle.sdl_hand.specs.sdl_instances.Calls.{KeepsRest}
-use Rattle.sdl_hand.specs.sdl_forward.Boards.{stations_of, waiting, IsBoardOf, AreAllStations}
+use Rattle.sdl_instances.specs.Machine.{System}
+use Rattle.sdl_instances.specs.Core.{IsSound, IsLegalIn}
+use Rattle.sdl_instances.specs.Calls.{KeepsRest}
+use Rattle.sdl_forward.specs.Boards.{stations_of, waiting, IsBoardOf, AreAllStations}
 use Rattle.sdl_hand.specs.declared.hand.Stepped.{Stepped}
 use Rattle.sdl_hand.specs.declared.hand.Refused.{Refused}
 use Rattle.sdl_hand.specs.Work.{Working, Works, beginning_at}

@@ -9,10 +9,10 @@ use Rattle.sdl_signal.specs.declared.values.Item.{Item}
 use Rattle.sdl_behaviour.specs.declared.step.Frame.{Frame}
 use Rattle.sdl_behaviour.specs.declared.step.Step.{Step}
 use Rattle.sdl_log.specs.declared.event.Event.{Event}
-use Rattle.sdl_hand.specs.sdl_instances.Machine.{System}
-use Rattle.sdl_hand.specs.sdl_instances.Run.{arrived, arrived_in, done_in, sent, sent_by, all_done, turns, turn_in}
-use Rattle.sdl_hand.specs.sdl_instances.Core.{Core, IsSound, IsLegalIn}
-use Rattle.sdl_hand.specs.sdl_instances.Calls.{KeepsRest}
+use Rattle.sdl_instances.specs.Machine.{System}
+use Rattle.sdl_instances.specs.Run.{arrived, arrived_in, done_in, sent, sent_by, all_done, turns, turn_in}
+use Rattle.sdl_instances.specs.Core.{Core, IsSound, IsLegalIn}
+use Rattle.sdl_instances.specs.Calls.{KeepsRest}
 use Rattle.sdl_hand.specs.Work.{Working}
 
 pub sent-append : (xs ys : List Event) → sent (xs ++ ys) ≡ sent xs ++ sent ys

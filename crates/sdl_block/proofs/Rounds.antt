@@ -7,9 +7,9 @@ use Rattle.sdl_signal.specs.declared.values.Item.{Item}
 use Rattle.sdl_behaviour.specs.declared.step.Frame.{Frame}
 use Rattle.sdl_behaviour.specs.declared.step.Step.{Step}
 use Rattle.sdl_log.specs.declared.event.Event.{Event}
-use Rattle.sdl_hand.specs.sdl_instances.Machine.{System}
-use Rattle.sdl_hand.specs.sdl_instances.Run.{arrived, turns, turn_in}
-use Rattle.sdl_hand.specs.sdl_instances.Core.{Core, IsReady, arrival_event}
+use Rattle.sdl_instances.specs.Machine.{System}
+use Rattle.sdl_instances.specs.Run.{arrived, turns, turn_in}
+use Rattle.sdl_instances.specs.Core.{Core, IsReady, arrival_event}
 use Rattle.sdl_log.specs.declared.event.Arrival.{Arrival}
 use Rattle.sdl_log.specs.declared.event.Arrival.TheVariants as arrival
 use Rattle.sdl_hand.specs.declared.hand.Stepped.{Stepped}

@@ -7,10 +7,10 @@ use Rattle.sdl_signal.specs.declared.values.Pid.{Pid}
 use Rattle.sdl_signal.specs.declared.values.Item.{Item}
 use Rattle.sdl_behaviour.specs.declared.step.Frame.{Frame}
 use Rattle.sdl_behaviour.specs.declared.step.Step.{Step}
-use Rattle.sdl_hand.specs.sdl_instances.Machine.{System}
-use Rattle.sdl_hand.specs.sdl_instances.Run.{arrived, sent}
-use Rattle.sdl_hand.specs.sdl_instances.Core.{Core, IsReady, IsSound, IsLegalIn, arrival_event}
-use Rattle.sdl_hand.specs.sdl_instances.Calls.{KeepsRest}
+use Rattle.sdl_instances.specs.Machine.{System}
+use Rattle.sdl_instances.specs.Run.{arrived, sent}
+use Rattle.sdl_instances.specs.Core.{Core, IsReady, IsSound, IsLegalIn, arrival_event}
+use Rattle.sdl_instances.specs.Calls.{KeepsRest}
 use Rattle.sdl_hand.specs.declared.hand.Refused.{Refused}
 use Rattle.sdl_hand.specs.Work.{Working}
 use Rattle.sdl_hand.specs.Puts.{answer_of}

@@ -2,8 +2,8 @@
 use Rattle.std.proofs.Common.{◌≡◌, List, ap, ◌∙◌}
 use Rattle.sdl_routes.specs.declared.route.TableRow.{TableRow}
 use Rattle.sdl_transition.specs.Rules.{Rules}
-use Rattle.sdl_hand.specs.sdl_instances.Core.{Core, system_of}
-use Rattle.sdl_hand.specs.sdl_instances.Calls.{KeepsRest}
+use Rattle.sdl_instances.specs.Core.{Core, system_of}
+use Rattle.sdl_instances.specs.Calls.{KeepsRest}
 
 pub same_system : (old new : Core) (rows : List TableRow) (rules others : List Rules) → KeepsRest old new → others ≡ rules → system_of new rows others ≡ system_of old rows rules
 same_system old new rows rules others kept same =

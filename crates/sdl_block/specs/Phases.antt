@@ -8,11 +8,11 @@ use Rattle.sdl_behaviour.specs.declared.step.Frame.{Frame}
 use Rattle.sdl_behaviour.specs.declared.step.Step.{Step}
 use Rattle.sdl_log.specs.declared.event.Event.{Event}
 use Rattle.sdl_log.specs.declared.event.Arrival.{Arrival}
-use Rattle.sdl_hand.specs.sdl_instances.Machine.{System}
-use Rattle.sdl_hand.specs.sdl_instances.Run.{sent, turns, turn_in}
-use Rattle.sdl_hand.specs.sdl_instances.Core.{Core, IsReady, IsSound, IsLegalIn, arrival_event}
-use Rattle.sdl_hand.specs.sdl_instances.Calls.{KeepsRest}
-use Rattle.sdl_hand.specs.sdl_forward.Boards.{waiting, ChangesOnly}
+use Rattle.sdl_instances.specs.Machine.{System}
+use Rattle.sdl_instances.specs.Run.{sent, turns, turn_in}
+use Rattle.sdl_instances.specs.Core.{Core, IsReady, IsSound, IsLegalIn, arrival_event}
+use Rattle.sdl_instances.specs.Calls.{KeepsRest}
+use Rattle.sdl_forward.specs.Boards.{waiting, ChangesOnly}
 use Rattle.sdl_hand.specs.declared.hand.Stepped.{Stepped}
 use Rattle.sdl_hand.specs.declared.hand.Stepped.TheVariants as stepped
 use Rattle.sdl_hand.specs.declared.hand.Refused.{Refused}

@@ -4,9 +4,9 @@ use Rattle.sdl_signal.specs.declared.values.Pid.{Pid}
 use Rattle.sdl_signal.specs.declared.values.Item.{Item}
 use Rattle.sdl_behaviour.specs.declared.step.Frame.{Frame}
 use Rattle.sdl_behaviour.specs.declared.step.Step.{Step}
-use Rattle.sdl_hand.specs.sdl_instances.Machine.{System}
-use Rattle.sdl_hand.specs.sdl_instances.Core.{IsReady}
-use Rattle.sdl_hand.specs.sdl_ends.Ends.{WorkerEnds, IsSameEnds, taken_by}
+use Rattle.sdl_instances.specs.Machine.{System}
+use Rattle.sdl_instances.specs.Core.{IsReady}
+use Rattle.sdl_ends.specs.Ends.{WorkerEnds, IsSameEnds, taken_by}
 use Rattle.sdl_hand.specs.declared.hand.Stepped.{Stepped}
 use Rattle.sdl_hand.specs.declared.hand.Stepped.TheVariants as stepped
 use Rattle.sdl_hand.specs.declared.hand.Refused.{Refused}

@@ -9,11 +9,11 @@ use Rattle.sdl_behaviour.specs.declared.step.Step.{Step}
 use Rattle.sdl_log.specs.declared.event.Event.{Event}
 use Rattle.sdl_log.specs.declared.event.Arrival.{Arrival}
 use Rattle.sdl_log.specs.declared.event.Arrival.TheVariants as arrival
-use Rattle.sdl_hand.specs.sdl_instances.Machine.{System, Arrives, number_living, next_at}
-use Rattle.sdl_hand.specs.sdl_instances.Legal.{GoesTo}
-use Rattle.sdl_hand.specs.sdl_instances.Ready.{number_ready}
-use Rattle.sdl_hand.specs.sdl_instances.Core.{Core, IsLivingAt, arrival_event}
-use Rattle.sdl_hand.specs.sdl_instances.Calls.{IsReadyAt, IsTurnOf}
+use Rattle.sdl_instances.specs.Machine.{System, Arrives, number_living, next_at}
+use Rattle.sdl_instances.specs.Legal.{GoesTo}
+use Rattle.sdl_instances.specs.Ready.{number_ready}
+use Rattle.sdl_instances.specs.Core.{Core, IsLivingAt, arrival_event}
+use Rattle.sdl_instances.specs.Calls.{IsReadyAt, IsTurnOf}
 
 -- An item arrives. Where its output named no instance, and n of its set live, it enters the one at `pick mod n` in order of creation.
 pub record ArrivesAt (routes : List TableRow) (pick : ℕ) (old new : Core) : Type 0 where
@@ -23,7 +23,8 @@ pub record ArrivesAt (routes : List TableRow) (pick : ℕ) (old new : Core) : Ty
   pub arrives : Arrives routes old.state item fate new.state
   pub picked : (set : SetId) (p : Pid) → GoesTo routes item set → item.to ≡ None → fate ≡ arrival.Entered p → IsLivingAt set old.state (pick % number_living set old.state) p
 
--- Of n instances that are ready, the one at `pick mod n` in order of creation makes a turn, whose outputs take their routes at the pick.
+-- Of n instances that are ready, the one at `pick mod n` in order of creation makes a turn. Its outputs take their routes at the
+-- pick.
 pub record TurnsAt (may : ℕ → Frame → Step → Type 0) (sys : System) (pick : ℕ) (old new : Core) : Type 0 where
   pub instance : Pid
   pub event : Event

@@ -2,14 +2,14 @@
 use Rattle.std.specs.Prelude.{ℕ, List, All}
 use Rattle.sdl_routes.specs.declared.route.TableRow.{TableRow}
 use Rattle.sdl_transition.specs.declared.block_parts.BlockParts.{BlockParts}
-use Rattle.sdl_hand.specs.sdl_instances.Machine.{System}
+use Rattle.sdl_instances.specs.Machine.{System}
 use Rattle.sdl_routes.specs.declared.route.Station.{Station}
 use Rattle.sdl_signal.specs.declared.values.Item.{Item}
 use Rattle.sdl_behaviour.specs.declared.step.Frame.{Frame}
 use Rattle.sdl_behaviour.specs.declared.step.Step.{Step}
-use Rattle.sdl_hand.specs.sdl_instances.Core.{IsSound, IsLegalIn}
-use Rattle.sdl_hand.specs.sdl_instances.CoreOf.{core_of, parts_of, system_in, CanFire}
-use Rattle.sdl_hand.specs.sdl_forward.Boards.{IsBoardOf}
+use Rattle.sdl_instances.specs.Core.{IsSound, IsLegalIn}
+use Rattle.sdl_instances.specs.CoreOf.{core_of, parts_of, system_in, CanFire}
+use Rattle.sdl_forward.specs.Boards.{IsBoardOf}
 use Rattle.sdl_block.specs.declared.worker.BlockWorker.{BlockWorker}
 use Rattle.sdl_hand.specs.Work.{Working}
 

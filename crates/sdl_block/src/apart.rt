@@ -1,9 +1,9 @@
 //! A block's step where each queue has ends of its own.
 ghost use Rattle.std.specs.Prelude.{◌≡◌};
-ghost use Rattle.sdl_hand.specs.sdl_ends.Ends.{IsSameEnds};
-ghost use Rattle.sdl_hand.specs.sdl_instances.Core.{IsSound};
-ghost use Rattle.sdl_hand.specs.sdl_instances.CoreOf.{CanFire};
-ghost use Rattle.sdl_hand.specs.sdl_instances.Run.{turns};
+ghost use Rattle.sdl_ends.specs.Ends.{IsSameEnds};
+ghost use Rattle.sdl_instances.specs.Core.{IsSound};
+ghost use Rattle.sdl_instances.specs.CoreOf.{CanFire};
+ghost use Rattle.sdl_instances.specs.Run.{turns};
 ghost use Rattle.sdl_hand.specs.Apart.{StepsApart, IsPuttingOut};
 ghost use Rattle.sdl_hand.specs.Puts as puts;
 ghost use Rattle.sdl_block.specs.Phases.{PutsFirst, IsEmptyAfter};
@@ -12,9 +12,9 @@ ghost use Rattle.sdl_block.specs.Picks.{LetsInAt, StepsAt};
 ghost use Rattle.sdl_block.specs.Workers.{worker_of, behaviours_of, system_around};
 
 use crate::worker::BlockWorker;
-use sdl_hand::sdl_ends::Ends;
-use sdl_hand::sdl_instances::Keeps;
+use sdl_ends::Ends;
 use sdl_hand::{Refused, Stepped, answer_of};
+use sdl_instances::Keeps;
 use sdl_routes::Routes;
 use sdl_transition::Agents;
 use std::sync::Wait;

@@ -1,8 +1,8 @@
 //! What the steps of a block through its own ends keep, from the first on. These functions do nothing: they carry the proofs.
 ghost use Rattle.std.specs.Prelude.{◌≡◌, []};
-ghost use Rattle.sdl_hand.specs.sdl_ends.Ends.{WorkerEnds};
-ghost use Rattle.sdl_hand.specs.sdl_instances.Machine.{System};
-ghost use Rattle.sdl_hand.specs.sdl_instances.Core.{Core, IsSound};
+ghost use Rattle.sdl_ends.specs.Ends.{WorkerEnds};
+ghost use Rattle.sdl_instances.specs.Machine.{System};
+ghost use Rattle.sdl_instances.specs.Core.{Core, IsSound};
 ghost use Rattle.sdl_hand.specs.Work.{Working, with_core};
 ghost use Rattle.sdl_hand.specs.Apart.{AreFresh, HasOwnWays, IsPuttingOut, HasPutOut};
 

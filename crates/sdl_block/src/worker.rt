@@ -2,10 +2,10 @@
 ghost use Rattle.std.specs.Prelude.{◌≡◌, [], All, IsTrue, ◌↔◌, MatchResult, false, ⊤};
 ghost use Rattle.sdl_signal.specs.declared.values.Pid.{Pid};
 ghost use Rattle.sdl_log.specs.Counts.{AreCountsOf};
-ghost use Rattle.sdl_hand.specs.sdl_forward.Boards.{IsBoardOf};
-ghost use Rattle.sdl_hand.specs.sdl_instances.Core.{IsSound, IsLegalIn, IsReady};
-ghost use Rattle.sdl_hand.specs.sdl_instances.CoreOf.{core_of, parts_of, CanFire};
-ghost use Rattle.sdl_hand.specs.sdl_instances.Run.{turns, waiting};
+ghost use Rattle.sdl_forward.specs.Boards.{IsBoardOf};
+ghost use Rattle.sdl_instances.specs.Core.{IsSound, IsLegalIn, IsReady};
+ghost use Rattle.sdl_instances.specs.CoreOf.{core_of, parts_of, CanFire};
+ghost use Rattle.sdl_instances.specs.Run.{turns, waiting};
 ghost use Rattle.sdl_hand.specs.Work.{with_core, StepsAs};
 ghost use Rattle.sdl_block.specs.Phases.{TakesFrom, ArrivesOrStays, LetsIn, TriesTurn, StepsTo, PutsFirst, IsEmptyAfter};
 ghost use Rattle.sdl_block.specs.Picks.{LetsInAt, TriesTurnAt, StepsAt};
@@ -14,9 +14,9 @@ ghost use Rattle.sdl_hand.specs.Puts as puts;
 ghost use Rattle.sdl_block.specs.Workers.{worker_of, behaviours_of, system_around};
 
 use arrayvec::ArrayVec;
-use sdl_hand::sdl_forward::Board;
-use sdl_hand::sdl_instances::{BlockCore, Event, Keeps, Turn};
+use sdl_forward::Board;
 use sdl_hand::{Hand, Refused, Stepped, answer_of};
+use sdl_instances::{BlockCore, Event, Keeps, Turn};
 use sdl_log::Counts;
 use sdl_routes::{Routes, Station};
 use sdl_transition::Agents;

@@ -2,7 +2,7 @@
 ghost use Rattle.std.specs.List.{AllByRecursion};
 ghost use Rattle.std.specs.Prelude.{◌≡◌, ℕ, Some, slice_get, IfSome, IfOk};
 ghost use Rattle.sdl_routes.specs.Routes.{AreRoutesOf};
-ghost use Rattle.sdl_transition.specs.Transitions.{IsAllowedBehaviour};
+ghost use Rattle.sdl_behaviour.specs.Transitions.{IsAllowedBehaviour};
 ghost use Rattle.sdl_instances.specs.Core.{sets_of};
 ghost use Rattle.sdl_instances.specs.Machine.{System};
 ghost use Rattle.sdl_ends.specs.Ends.{AreFresh};

@@ -1,6 +1,6 @@
 //! What a test does with the block P of Ring, and the block that it does it with.
 ghost use Rattle.std.specs.List.{AllByRecursion};
-ghost use Rattle.sdl_transition.specs.Transitions.{IsAllowedBehaviour};
+ghost use Rattle.sdl_behaviour.specs.Transitions.{IsAllowedBehaviour};
 ghost use Rattle.sdl_block.specs.Workers.{CanStep};
 
 use super::acts::{Act, act_all};

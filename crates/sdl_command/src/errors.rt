@@ -10,9 +10,9 @@ const LONGEST_ERROR: usize = 256;
 /// The most bytes of a line before two dots and a newline.
 const LONGEST_TEXT: usize = 253;
 
-/// Writes the text as one line, which is composed first and then handed to the writer whole, so that the lines of two
-/// programs on one standard error do not mix. Where a part of the text, as a name, has no room in it, two dots stand in place of
-/// that part and of all behind it. A line that the writer does not take is dropped.
+/// Writes the text as one line. It is composed first and then handed to the writer whole, so that the lines of two programs on
+/// one standard error do not mix. Where a part of the text, as a name, has no room in it, two dots stand in its place and in
+/// that of all that follows. A line that the writer does not take is dropped.
 pub fn write_error<E: io::Write, D: Display + Drop>(errors: &mut E, text: D) {
     let mut front = ArrayString::<LONGEST_TEXT>::new();
     let rest = match write!(front, "{text}") {

@@ -39,7 +39,7 @@ pub fn pipe_command<R: Read, W: Write, E: Write>(
     }
 }
 
-/// Reads the lines of the input, up to its end, its first fault or the limit, and then writes each of them again,
+/// Reads the lines of the input, up to its end, its first fault or the limit. Then it writes each of them again,
 /// without its TO part. The one gate is `line`, and the one signal is `ping` with a parameter of the sort Integer.
 /// Where memory is refused, nothing was written. (This project's own.)
 pub fn pipe<R: Read, W: Write>(

@@ -92,7 +92,7 @@ fn is_next_of(offer: &Offer, next: Next) -> bool
     }
 }
 
-/// Whether the step conforms to the offer. It costs a look at each variable and each action, and for an action one
+/// Whether the step conforms to the offer. It costs a look at each variable and each action. An action costs one
 /// comparison with each output of the offer up to the one that it is. No memory is taken.
 pub fn conforms(offer: &Offer, step: &Step) -> bool
     ensures { IsTrue result ↔ Conforms offer.now step.now }

@@ -6,22 +6,22 @@ use Rattle.sdl_behaviour.specs.declared.step.Frame.{Frame}
 use Rattle.sdl_behaviour.specs.declared.step.Step.{Step}
 use Rattle.sdl_log.specs.declared.event.Event.{Event}
 use Rattle.sdl_queue.specs.declared.rest.Rest.{Rest}
-use Rattle.sdl_order.specs.sdl_forward.Boards.{lists_of}
-use Rattle.sdl_order.specs.sdl_hand.declared.hand.Hand.{Hand}
-use Rattle.sdl_order.specs.sdl_hand.Work.{Working}
+use Rattle.sdl_forward.specs.Boards.{lists_of}
+use Rattle.sdl_hand.specs.declared.hand.Hand.{Hand}
+use Rattle.sdl_hand.specs.Work.{Working}
 use Rattle.sdl_block.specs.Workers.{worker_of}
 use Rattle.sdl_block.specs.declared.worker.BlockWorker.{BlockWorker}
-use Rattle.sdl_order.specs.sdl_forward.Forwards.{Forwarding}
-use Rattle.sdl_order.specs.sdl_outcome.declared.end.RunEnd.{RunEnd}
-use Rattle.sdl_order.specs.sdl_outcome.declared.environment_output.EnvOut.{EnvOut}
+use Rattle.sdl_forward.specs.Forwards.{Forwarding}
+use Rattle.sdl_outcome.specs.declared.end.RunEnd.{RunEnd}
+use Rattle.sdl_outcome.specs.declared.environment_output.EnvOut.{EnvOut}
 use Rattle.sdl_signal.specs.declared.ends.InputEnd.{InputEnd}
 use Rattle.sdl_signal.specs.declared.ends.InputEnd.TheVariants as input
-use Rattle.sdl_order.specs.sdl_outcome.EnvironmentWork.{EnvWorking, OwnEnd, input_end}
-use Rattle.sdl_order.specs.sdl_outcome.Plan.{Plan, IsPlan, workers_of}
-use Rattle.sdl_order.specs.sdl_outcome.Outcome.{WorkerHand, Outcome}
+use Rattle.sdl_outcome.specs.EnvironmentWork.{EnvWorking, OwnEnd, input_end}
+use Rattle.sdl_outcome.specs.Plan.{Plan, IsPlan, workers_of}
+use Rattle.sdl_outcome.specs.Outcome.{WorkerHand, Outcome}
 use Rattle.sdl_ledger.specs.declared.ledger.Ledger.{Ledger}
 use Rattle.sdl_ledger.specs.Counts.{CountsFit, IsLedgerOf, waiting_in}
-use Rattle.sdl_order.specs.sdl_outcome.Ends.{EndsAs}
+use Rattle.sdl_outcome.specs.Ends.{EndsAs}
 use Rattle.sdl_driver.specs.Ended.{HasEnded}
 use Rattle.sdl_order.specs.Driver.{Site, IsAtWork, IsIdle, outcome_of, finals_of, block_hand, env_hand, forwarder_hand}
 use Rattle.sdl_driver.specs.Drivers.{NoneSpent, FirstSpent, AllDone, SomeUndone, AllLeft, SomeLeft}
@@ -31,7 +31,7 @@ use Rattle.sdl_transition.specs.declared.block_parts.BlockParts.{BlockParts}
 use Rattle.sdl_transition.specs.Bound.{AreOneSystem}
 use Rattle.sdl_driver.specs.declared.closing.Room.{Room}
 use Rattle.sdl_driver.specs.Closings.{HasRoom, StopsByMemory, NamesRefused, end_by}
-use Rattle.sdl_order.specs.sdl_outcome.Lists.{held_in}
+use Rattle.sdl_outcome.specs.Lists.{held_in}
 use Rattle.sdl_driver.proofs.Drives.{map_map}
 use Rattle.sdl_balance.proofs.Balanced.{counts_fit}
 use Rattle.sdl_driver.proofs.Finish.{ended, traced, limited}

@@ -11,27 +11,27 @@ use Rattle.sdl_routes.specs.declared.route.TableRow.{TableRow}
 use Rattle.sdl_behaviour.specs.declared.step.Frame.{Frame}
 use Rattle.sdl_behaviour.specs.declared.step.Step.{Step}
 use Rattle.sdl_transition.specs.Rules.{Rules, block_rules}
-use Rattle.sdl_order.specs.sdl_instances.CoreOf.{CanFire}
-use Rattle.sdl_order.specs.sdl_forward.Forwards.{Forwarding}
-use Rattle.sdl_order.specs.sdl_forward.Boards.{waiting, IsBoardOf}
+use Rattle.sdl_instances.specs.CoreOf.{CanFire}
+use Rattle.sdl_forward.specs.Forwards.{Forwarding}
+use Rattle.sdl_forward.specs.Boards.{waiting, IsBoardOf}
 use Rattle.sdl_routes.specs.declared.route.Station.TheVariants.{Line}
-use Rattle.sdl_order.specs.sdl_forward.declared.forwarder.Forwarded.{Forwarded}
-use Rattle.sdl_order.specs.sdl_forward.declared.forwarder.Forwarded.TheVariants as forwarded
+use Rattle.sdl_forward.specs.declared.forwarder.Forwarded.{Forwarded}
+use Rattle.sdl_forward.specs.declared.forwarder.Forwarded.TheVariants as forwarded
 use Rattle.sdl_block.specs.declared.worker.BlockWorker.{BlockWorker}
-use Rattle.sdl_order.specs.sdl_hand.declared.hand.Stepped.{Stepped}
-use Rattle.sdl_order.specs.sdl_hand.declared.hand.Stepped.TheVariants as stepped
-use Rattle.sdl_order.specs.sdl_hand.Work.{Working, StepsAs, IsAtRest}
+use Rattle.sdl_hand.specs.declared.hand.Stepped.{Stepped}
+use Rattle.sdl_hand.specs.declared.hand.Stepped.TheVariants as stepped
+use Rattle.sdl_hand.specs.Work.{Working, StepsAs, IsAtRest}
 use Rattle.sdl_block.specs.Workers.{behaviours_of}
-use Rattle.sdl_order.specs.sdl_opening.declared.worker.Worker.TheVariants.{Environment, Forwarder}
+use Rattle.sdl_opening.specs.declared.worker.Worker.TheVariants.{Environment, Forwarder}
 use Rattle.sdl_driver.specs.declared.driver.Driver.{Driver}
-use Rattle.sdl_order.specs.sdl_outcome.Plan.{Plan, IsPlan, blocks_in, blocks_from, path_line, lines_from, lines_of, workers_of, system_at}
+use Rattle.sdl_outcome.specs.Plan.{Plan, IsPlan, blocks_in, blocks_from, path_line, lines_from, lines_of, workers_of, system_at}
 use Rattle.sdl_order.specs.Driver.{Site, IsAtWork, BlockSteps, EnvironmentSteps, ForwarderSteps}
-use Rattle.sdl_order.specs.sdl_outcome.EnvironmentWork.{EnvWorking, EnvStepsAs, HasReadSoFar, HasWrittenSoFar}
+use Rattle.sdl_outcome.specs.EnvironmentWork.{EnvWorking, EnvStepsAs, HasReadSoFar, HasWrittenSoFar}
 use Rattle.sdl_driver.specs.Drivers.{site_of, plan_of, IsDriving, IsSameSystem, ReadsOver, WritesOver, StepAnswers, stepped_by}
 use Rattle.sdl_order.specs.Measure.{work_left}
-use Rattle.sdl_order.proofs.outcome.Lists.{set_same}
+use Rattle.sdl_outcome.proofs.Lists.{set_same}
 use Rattle.sdl_order.proofs.Between.{site_is, block_steps, environment_steps, forwarder_steps}
-use Rattle.sdl_order.proofs.outcome.Workers.{count_blocks}
+use Rattle.sdl_outcome.proofs.Workers.{count_blocks}
 use Rattle.sdl_order.proofs.Measure.{moves_lower}
 use Rattle.sdl_order.proofs.Lowers.{works_lower}
 use Rattle.sdl_order.proofs.LowersEnvironment.{env_lowers}

@@ -11,22 +11,22 @@ use Rattle.sdl_routes.specs.declared.route.Station.{Station}
 use Rattle.sdl_behaviour.specs.declared.step.Frame.{Frame}
 use Rattle.sdl_behaviour.specs.declared.step.Step.{Step}
 use Rattle.sdl_transition.specs.Rules.{Rules, block_rules}
-use Rattle.sdl_order.specs.sdl_instances.declared.process_set.ProcessSet.{ProcessSet}
-use Rattle.sdl_order.specs.sdl_instances.Machine.{System}
-use Rattle.sdl_order.specs.sdl_instances.Core.{IsSound, IsLegalIn}
-use Rattle.sdl_order.specs.sdl_instances.CoreOf.{CanFire}
+use Rattle.sdl_instances.specs.declared.process_set.ProcessSet.{ProcessSet}
+use Rattle.sdl_instances.specs.Machine.{System}
+use Rattle.sdl_instances.specs.Core.{IsSound, IsLegalIn}
+use Rattle.sdl_instances.specs.CoreOf.{CanFire}
 use Rattle.sdl_block.specs.declared.worker.BlockWorker.{BlockWorker}
-use Rattle.sdl_order.specs.sdl_hand.declared.hand.Stepped.{Stepped}
-use Rattle.sdl_order.specs.sdl_hand.Work.{Working, StepsAs}
+use Rattle.sdl_hand.specs.declared.hand.Stepped.{Stepped}
+use Rattle.sdl_hand.specs.Work.{Working, StepsAs}
 use Rattle.sdl_block.specs.Workers.{worker_of, behaviours_of, system_around}
 use Rattle.sdl_block.specs.Picks.{StepsAt}
-use Rattle.sdl_order.specs.sdl_opening.declared.worker.Worker.TheVariants.{Block}
+use Rattle.sdl_opening.specs.declared.worker.Worker.TheVariants.{Block}
 use Rattle.sdl_driver.specs.declared.driver.Driver.{Driver}
-use Rattle.sdl_order.specs.sdl_outcome.Plan.{MayTravel, system_at}
+use Rattle.sdl_outcome.specs.Plan.{MayTravel, system_at}
 use Rattle.sdl_order.specs.Driver.{BlockSteps}
 use Rattle.sdl_driver.specs.Drivers.{site_of, plan_of, IsDriving}
 use Rattle.sdl_driver.specs.Runs.{BlockStepsAt}
-use Rattle.sdl_order.proofs.outcome.Lists.{map_set}
+use Rattle.sdl_outcome.proofs.Lists.{map_set}
 use Rattle.sdl_order.proofs.Starts.{block}
 use Rattle.sdl_order.proofs.BlockStep.{of_block_was}
 

@@ -4,15 +4,15 @@ use Rattle.std.proofs.lemmas.Option.{slice_get_within}
 use Rattle.std.specs.List.{AllByRecursion}
 use Rattle.sdl_behaviour.specs.declared.step.Frame.{Frame}
 use Rattle.sdl_behaviour.specs.declared.step.Step.{Step}
-use Rattle.sdl_order.specs.sdl_outcome.declared.end.RunEnd.{RunEnd}
+use Rattle.sdl_outcome.specs.declared.end.RunEnd.{RunEnd}
 use Rattle.sdl_ledger.specs.declared.ledger.Ledger.{Ledger}
-use Rattle.sdl_order.specs.sdl_opening.declared.worker.Worker.TheVariants.{Environment}
-use Rattle.sdl_order.specs.sdl_outcome.Plan.{Plan, IsPlan, MayTravel}
+use Rattle.sdl_opening.specs.declared.worker.Worker.TheVariants.{Environment}
+use Rattle.sdl_outcome.specs.Plan.{Plan, IsPlan, MayTravel}
 use Rattle.sdl_ledger.specs.Counts.{IsTraced, IsLimited, IsLedgerOf, IsOnRoute, waiting_in}
-use Rattle.sdl_order.specs.sdl_outcome.Ends.{EndsAs}
+use Rattle.sdl_outcome.specs.Ends.{EndsAs}
 use Rattle.sdl_driver.specs.Ended.{HasEnded}
 use Rattle.sdl_order.specs.Driver.{Site, IsAtWork, outcome_of, finals_of}
-use Rattle.sdl_order.proofs.outcome.Lists.{all_weaker}
+use Rattle.sdl_outcome.proofs.Lists.{all_weaker}
 use Rattle.sdl_order.proofs.Whole.{headline}
 use Rattle.sdl_order.proofs.Ending.{complete, cores, lawful, lefts, within_from, outgoing_same, outcome_in_order, forwarders_put}
 use Rattle.sdl_balance.proofs.Balanced.{balanced}

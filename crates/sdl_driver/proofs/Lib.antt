@@ -1,7 +1,3 @@
-pub use Rattle.sdl_order.proofs.hand
-pub use Rattle.sdl_order.proofs.opening
-pub use Rattle.sdl_order.proofs as order
-pub use Rattle.sdl_order.proofs.outcome
 pub mod Driving
 pub mod Drives
 pub mod Rounds

@@ -6,10 +6,10 @@ use Rattle.sdl_signal.specs.declared.ids.BlockId.{BlockId}
 use Rattle.sdl_behaviour.specs.declared.step.Frame.{Frame}
 use Rattle.sdl_behaviour.specs.declared.step.Step.{Step}
 use Rattle.sdl_log.specs.declared.event.Event.{Event}
-use Rattle.sdl_order.specs.sdl_instances.Core.{IsBoundIn, signals_of, sets_of}
-use Rattle.sdl_order.specs.sdl_instances.Run.{origins, turns}
-use Rattle.sdl_order.specs.sdl_hand.Work.{Working}
-use Rattle.sdl_order.specs.sdl_outcome.Plan.{Plan, blocks_in, rules_at}
+use Rattle.sdl_instances.specs.Core.{IsBoundIn, signals_of, sets_of}
+use Rattle.sdl_instances.specs.Run.{origins, turns}
+use Rattle.sdl_hand.specs.Work.{Working}
+use Rattle.sdl_outcome.specs.Plan.{Plan, blocks_in, rules_at}
 use Rattle.sdl_order.specs.Driver.{IsCoreAt}
 
 module _ (may : ℕ → Frame → Step → Type 0) (plan : Plan) where

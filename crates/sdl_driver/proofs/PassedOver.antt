@@ -7,17 +7,17 @@ use Rattle.std.proofs.lemmas.List.{get_or-map, length-map}
 use Rattle.std.proofs.lemmas.Option.{same_Some, slice_get_within, get_or_from_slice_get}
 use Rattle.sdl_routes.specs.declared.route.Hop.{Hop}
 use Rattle.sdl_routes.specs.declared.route.Station.TheVariants.{Line}
-use Rattle.sdl_order.specs.sdl_forward.Boards.{waiting, IsBoardOf}
-use Rattle.sdl_order.specs.sdl_forward.Forwards.{Forwarding}
-use Rattle.sdl_order.specs.sdl_forward.declared.forwarder.Forwarded.{Forwarded}
-use Rattle.sdl_order.specs.sdl_forward.declared.forwarder.Forwarded.TheVariants as forwarded
+use Rattle.sdl_forward.specs.Boards.{waiting, IsBoardOf}
+use Rattle.sdl_forward.specs.Forwards.{Forwarding}
+use Rattle.sdl_forward.specs.declared.forwarder.Forwarded.{Forwarded}
+use Rattle.sdl_forward.specs.declared.forwarder.Forwarded.TheVariants as forwarded
 use Rattle.sdl_behaviour.specs.declared.step.Frame.{Frame}
 use Rattle.sdl_behaviour.specs.declared.step.Step.{Step}
-use Rattle.sdl_order.specs.sdl_hand.declared.hand.Stepped.{Stepped}
-use Rattle.sdl_order.specs.sdl_hand.declared.hand.Stepped.TheVariants.{Idle, Memory}
-use Rattle.sdl_order.specs.sdl_outcome.Plan.{Plan, blocks_in, lines_of}
-use Rattle.sdl_order.proofs.outcome.Lists.{get_set, get_set_other, set_same}
-use Rattle.sdl_order.proofs.outcome.Lines.{lines_rise, rise_by_channel}
+use Rattle.sdl_hand.specs.declared.hand.Stepped.{Stepped}
+use Rattle.sdl_hand.specs.declared.hand.Stepped.TheVariants.{Idle, Memory}
+use Rattle.sdl_outcome.specs.Plan.{Plan, blocks_in, lines_of}
+use Rattle.sdl_outcome.proofs.Lists.{get_set, get_set_other, set_same}
+use Rattle.sdl_outcome.proofs.Lines.{lines_rise, rise_by_channel}
 use Rattle.sdl_order.specs.Driver.{Site, IsAtWork, ForwarderSteps}
 use Rattle.sdl_driver.specs.declared.driver.Driver.{Driver}
 use Rattle.sdl_driver.specs.Drivers.{site_of, plan_of, IsSameSystem, AllFree, AreByChannel, IsIdleAt, HasGone, stepped_by}

@@ -9,8 +9,8 @@ use Rattle.sdl_signal.specs.declared.values.Item.{Item}
 use Rattle.sdl_signal.specs.Environment.{HasCarried, HasRead}
 use Rattle.sdl_parts.specs.Structure.{Structure, lexicon_of}
 use Rattle.sdl_routes.specs.declared.route.TableRow.{TableRow}
-use Rattle.sdl_order.specs.sdl_outcome.declared.environment_output.EnvOut.{EnvOut}
-use Rattle.sdl_order.specs.sdl_outcome.EnvironmentWork.{EnvWorking, OwnEnd, IsEnvFresh, IsEnvSound, AreOutputsOf, HasReadSoFar, HasReadAll, HasWrittenSoFar, HasWritten, received_text, input_end}
+use Rattle.sdl_outcome.specs.declared.environment_output.EnvOut.{EnvOut}
+use Rattle.sdl_outcome.specs.EnvironmentWork.{EnvWorking, OwnEnd, IsEnvFresh, IsEnvSound, AreOutputsOf, HasReadSoFar, HasReadAll, HasWrittenSoFar, HasWritten, received_text, input_end}
 use Rattle.sdl_environment.proofs.EnvReading.{read_so_far_is_all}
 
 nothing_more : (start : Option (List ℕ)) → Appends start start []

@@ -2,10 +2,10 @@
 use Rattle.std.proofs.Common.{ℕ, ◌+◌, List, [], ◌∷◌, ◌++◌, length, map, Option, ◌≡◌, refl, ap, ◌∙◌, subst, arith, append_assoc}
 use Rattle.std.specs.List.{AllZip}
 use Rattle.sdl_signal.specs.declared.values.Item.{Item}
-use Rattle.sdl_order.specs.sdl_forward.Forwards.{Forwarding}
+use Rattle.sdl_forward.specs.Forwards.{Forwarding}
 use Rattle.sdl_driver.specs.declared.closing.Room.{Room}
 use Rattle.sdl_driver.specs.Closings.{HasRoom}
-use Rattle.sdl_order.specs.sdl_outcome.Outcome.{WorkerHand}
+use Rattle.sdl_outcome.specs.Outcome.{WorkerHand}
 use Rattle.sdl_order.specs.Driver.{forwarder_hand}
 
 -- one more has come over

@@ -2,12 +2,12 @@
 use Rattle.std.proofs.Common.{ℕ, ◌+◌, ◌<◌, Bool, true, false, length, ◌≡◌, ◌⊎◌, inl, inr, refl, ap, sym, ◌∙◌, subst, arith}
 use Rattle.std.proofs.lemmas.Bool.{cases_lt, false≢true}
 use Rattle.std.proofs.lemmas.Option.{slice_get_within}
-use Rattle.sdl_order.specs.sdl_hand.declared.hand.Stepped.{Stepped}
+use Rattle.sdl_hand.specs.declared.hand.Stepped.{Stepped}
 use Rattle.sdl_driver.specs.declared.driver.Driver.{Driver}
 use Rattle.sdl_behaviour.specs.declared.step.Frame.{Frame}
 use Rattle.sdl_behaviour.specs.declared.step.Step.{Step}
-use Rattle.sdl_order.specs.sdl_hand.declared.hand.Stepped.TheVariants as stepped
-use Rattle.sdl_order.specs.sdl_outcome.Plan.{Plan, workers_of}
+use Rattle.sdl_hand.specs.declared.hand.Stepped.TheVariants as stepped
+use Rattle.sdl_outcome.specs.Plan.{Plan, workers_of}
 use Rattle.sdl_order.specs.Driver.{Site, IsAtWork, IsIdle}
 use Rattle.sdl_driver.specs.Drivers.{site_of, plan_of, IsDriving, IsSameSystem, IsIdleAt, StepAnswers, HasGone}
 use Rattle.sdl_order.specs.Measure.{work_left}

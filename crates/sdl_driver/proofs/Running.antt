@@ -2,9 +2,9 @@
 use Rattle.std.proofs.Common.{◌≡◌, ◌≢◌, ℕ, zero, suc, ◌+◌, ◌%◌, ◌/◌, ◌<◌, ◌≤◌, inl, inr, List, [], ◌∷◌, ◌++◌, map, length, take, get_or, Option, Some, None, MatchOption, refl, ap, sym, ◌∙◌, subst, arith, append_assoc}
 use Rattle.sdl_behaviour.specs.declared.step.Frame.{Frame}
 use Rattle.sdl_behaviour.specs.declared.step.Step.{Step}
-use Rattle.sdl_order.specs.sdl_hand.declared.hand.Stepped.{Stepped}
-use Rattle.sdl_order.specs.sdl_hand.declared.hand.Stepped.TheVariants.{Memory}
-use Rattle.sdl_order.specs.sdl_outcome.Plan.{Plan, workers_of}
+use Rattle.sdl_hand.specs.declared.hand.Stepped.{Stepped}
+use Rattle.sdl_hand.specs.declared.hand.Stepped.TheVariants.{Memory}
+use Rattle.sdl_outcome.specs.Plan.{Plan, workers_of}
 use Rattle.sdl_order.specs.Driver.{Site, IsIdle}
 use Rattle.sdl_driver.specs.declared.driver.Driver.{Driver}
 use Rattle.sdl_driver.specs.declared.driver.Round.{Round}

@@ -10,13 +10,13 @@ use Rattle.sdl_behaviour.specs.declared.step.Frame.{Frame}
 use Rattle.sdl_behaviour.specs.declared.step.Step.{Step}
 use Rattle.sdl_queue.specs.declared.rest.Rest.{Rest}
 use Rattle.sdl_queue.specs.Rest.{left_in}
-use Rattle.sdl_order.specs.sdl_forward.Boards.{same_station, waiting, stations_of, lists_of, IsStationBefore, AreStationsInOrder}
-use Rattle.sdl_order.specs.sdl_outcome.Plan.{Plan, IsPlan, workers_of}
+use Rattle.sdl_forward.specs.Boards.{same_station, waiting, stations_of, lists_of, IsStationBefore, AreStationsInOrder}
+use Rattle.sdl_outcome.specs.Plan.{Plan, IsPlan, workers_of}
 use Rattle.sdl_order.specs.Driver.{Site, IsAtWork, IsIdle, outcome_of, finals_of}
 use Rattle.sdl_driver.specs.Drivers.{NoneSpent, FirstSpent, AllDone, SomeUndone, AllLeft, SomeLeft}
 use Rattle.sdl_driver.specs.Closings.{end_by}
-use Rattle.sdl_order.specs.sdl_outcome.Ends.{EndsAs, IsQuiet}
-use Rattle.sdl_order.proofs.outcome.Comparisons.{same_station_is, same_station_itself}
+use Rattle.sdl_outcome.specs.Ends.{EndsAs, IsQuiet}
+use Rattle.sdl_outcome.proofs.Comparisons.{same_station_is, same_station_itself}
 use Rattle.sdl_order.proofs.Quiet.{number, get_map, quiet_end, none_spent_end, spent_end}
 
 -- no station stands before itself

@@ -4,13 +4,13 @@ use Rattle.std.proofs.lemmas.List.{drop_all}
 use Rattle.std.proofs.lemmas.List.Sums.{sum_by-cons}
 use Rattle.sdl_behaviour.specs.declared.step.Frame.{Frame}
 use Rattle.sdl_behaviour.specs.declared.step.Step.{Step}
-use Rattle.sdl_order.specs.sdl_instances.Machine.{State}
-use Rattle.sdl_order.specs.sdl_instances.Run.{waiting}
+use Rattle.sdl_instances.specs.Machine.{State}
+use Rattle.sdl_instances.specs.Run.{waiting}
 use Rattle.sdl_block.specs.declared.worker.BlockWorker.{BlockWorker}
-use Rattle.sdl_order.specs.sdl_hand.Work.{Working}
+use Rattle.sdl_hand.specs.Work.{Working}
 use Rattle.sdl_block.specs.Workers.{worker_of}
 use Rattle.sdl_ledger.specs.Counts.{waiting_in}
-use Rattle.sdl_order.specs.sdl_outcome.Plan.{Plan, IsPlan}
+use Rattle.sdl_outcome.specs.Plan.{Plan, IsPlan}
 use Rattle.sdl_order.specs.Driver.{Site, IsAtWork, outcome_of, finals_of}
 use Rattle.sdl_driver.proofs.Drives.{map_map}
 use Rattle.sdl_ledger.proofs.Adding.{sum_map}

@@ -4,9 +4,9 @@ use Rattle.std.specs.List.{AllZip}
 use Rattle.sdl_transition.specs.declared.binding.Bound.{Bound}
 use Rattle.sdl_transition.specs.Bound.{structure_of, routes_of, blocks_of}
 use Rattle.sdl_transition.specs.Rules.{block_rules}
-use Rattle.sdl_order.specs.sdl_forward.Boards.{lists_of}
-use Rattle.sdl_order.specs.sdl_outcome.declared.end.RunEnd.{RunEnd}
-use Rattle.sdl_order.specs.sdl_outcome.declared.end.RunEnd.TheVariants as run_end
+use Rattle.sdl_forward.specs.Boards.{lists_of}
+use Rattle.sdl_outcome.specs.declared.end.RunEnd.{RunEnd}
+use Rattle.sdl_outcome.specs.declared.end.RunEnd.TheVariants as run_end
 use Rattle.sdl_driver.specs.declared.closing.Closing.{Closing}
 use Rattle.sdl_driver.specs.declared.closing.Left.{Left}
 use Rattle.sdl_driver.specs.declared.closing.Room.{Room}
@@ -15,13 +15,13 @@ use Rattle.sdl_block.specs.Workers.{behaviours_of}
 use Rattle.sdl_signal.specs.declared.ends.InputEnd.{InputEnd}
 use Rattle.sdl_signal.specs.declared.ends.InputEnd.TheVariants as input
 use Rattle.sdl_parts.specs.Structure.{lexicon_of}
-use Rattle.sdl_order.specs.sdl_outcome.EnvironmentWork.{HasReadAll, HasWritten, received_text}
-use Rattle.sdl_order.specs.sdl_outcome.Plan.{Plan, blocks_in}
-use Rattle.sdl_order.specs.sdl_outcome.Outcome.{Outcome}
+use Rattle.sdl_outcome.specs.EnvironmentWork.{HasReadAll, HasWritten, received_text}
+use Rattle.sdl_outcome.specs.Plan.{Plan, blocks_in}
+use Rattle.sdl_outcome.specs.Outcome.{Outcome}
 use Rattle.sdl_log.specs.declared.event.Event.{Event}
 use Rattle.sdl_log.specs.declared.counts.Counts.{Counts}
 use Rattle.sdl_log.specs.Counts.{AreCountsOf}
-use Rattle.sdl_order.specs.sdl_outcome.Lists.{held_in}
+use Rattle.sdl_outcome.specs.Lists.{held_in}
 use Rattle.sdl_behaviour.specs.declared.step.Frame.{Frame}
 use Rattle.sdl_behaviour.specs.declared.step.Step.{Step}
 use Rattle.sdl_order.specs.Driver.{Site, IsFresh, outcome_of}

@@ -8,24 +8,24 @@ use Rattle.sdl_queue.specs.Rest.{left_in}
 use Rattle.sdl_behaviour.specs.declared.step.Frame.{Frame}
 use Rattle.sdl_behaviour.specs.declared.step.Step.{Step}
 use Rattle.sdl_transition.specs.Rules.{block_rules}
-use Rattle.sdl_order.specs.sdl_instances.CoreOf.{CanFire}
+use Rattle.sdl_instances.specs.CoreOf.{CanFire}
 use Rattle.sdl_signal.specs.declared.values.Pid.{Pid}
-use Rattle.sdl_order.specs.sdl_instances.Run.{turns}
-use Rattle.sdl_order.specs.sdl_instances.Core.{IsReady}
-use Rattle.sdl_order.specs.sdl_forward.Boards.{waiting}
-use Rattle.sdl_order.specs.sdl_forward.Forwards.{Forwarding}
-use Rattle.sdl_order.specs.sdl_forward.declared.forwarder.Forwarded.{Forwarded}
-use Rattle.sdl_order.specs.sdl_forward.declared.forwarder.Forwarded.TheVariants as forwarded
-use Rattle.sdl_order.specs.sdl_hand.declared.hand.Stepped.{Stepped}
-use Rattle.sdl_order.specs.sdl_hand.declared.hand.Stepped.TheVariants.{Did, Idle, Memory}
-use Rattle.sdl_order.specs.sdl_hand.Work.{Working, IsAtRest}
+use Rattle.sdl_instances.specs.Run.{turns}
+use Rattle.sdl_instances.specs.Core.{IsReady}
+use Rattle.sdl_forward.specs.Boards.{waiting}
+use Rattle.sdl_forward.specs.Forwards.{Forwarding}
+use Rattle.sdl_forward.specs.declared.forwarder.Forwarded.{Forwarded}
+use Rattle.sdl_forward.specs.declared.forwarder.Forwarded.TheVariants as forwarded
+use Rattle.sdl_hand.specs.declared.hand.Stepped.{Stepped}
+use Rattle.sdl_hand.specs.declared.hand.Stepped.TheVariants.{Did, Idle, Memory}
+use Rattle.sdl_hand.specs.Work.{Working, IsAtRest}
 use Rattle.sdl_block.specs.declared.worker.BlockWorker.{BlockWorker}
 use Rattle.sdl_block.specs.Workers.{worker_of, behaviours_of}
 use Rattle.sdl_driver.specs.declared.driver.Driver.{Driver}
 use Rattle.sdl_driver.specs.declared.driver.Round.{Round}
 use Rattle.sdl_driver.specs.declared.driver.Round.TheVariants as round
-use Rattle.sdl_order.specs.sdl_outcome.Plan.{Plan, IsPlan, blocks_in, workers_of}
-use Rattle.sdl_order.specs.sdl_outcome.EnvironmentWork.{EnvWorking, HasReadSoFar, HasWrittenSoFar}
+use Rattle.sdl_outcome.specs.Plan.{Plan, IsPlan, blocks_in, workers_of}
+use Rattle.sdl_outcome.specs.EnvironmentWork.{EnvWorking, HasReadSoFar, HasWrittenSoFar}
 use Rattle.sdl_order.specs.Driver.{Site, IsAtWork, IsIdle}
 use Rattle.sdl_order.specs.Measure.{work_left}
 

@@ -4,12 +4,12 @@ use Rattle.std.specs.List.{AllByRecursion}
 use Rattle.sdl_behaviour.specs.declared.step.Frame.{Frame}
 use Rattle.sdl_behaviour.specs.declared.step.Step.{Step}
 use Rattle.sdl_log.specs.declared.event.Event.{Event}
-use Rattle.sdl_order.specs.sdl_instances.Machine.{State}
-use Rattle.sdl_order.specs.sdl_instances.Run.{turns}
-use Rattle.sdl_order.specs.sdl_outcome.declared.end.RunEnd.{RunEnd}
-use Rattle.sdl_order.specs.sdl_outcome.Plan.{Plan}
-use Rattle.sdl_order.specs.sdl_outcome.Outcome.{Outcome, IsComplete, Headline, LeftsAreLegal}
-use Rattle.sdl_order.specs.sdl_outcome.Ends.{EndsAs}
+use Rattle.sdl_instances.specs.Machine.{State}
+use Rattle.sdl_instances.specs.Run.{turns}
+use Rattle.sdl_outcome.specs.declared.end.RunEnd.{RunEnd}
+use Rattle.sdl_outcome.specs.Plan.{Plan}
+use Rattle.sdl_outcome.specs.Outcome.{Outcome, IsComplete, Headline, LeftsAreLegal}
+use Rattle.sdl_outcome.specs.Ends.{EndsAs}
 use Rattle.sdl_ledger.specs.declared.ledger.Ledger.{Ledger}
 use Rattle.sdl_ledger.specs.Counts.{IsLedgerOf, Balances, waiting_in}
 

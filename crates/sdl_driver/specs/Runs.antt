@@ -2,12 +2,12 @@
 use Rattle.std.specs.Prelude.{◌≡◌, ◌≢◌, ℕ, zero, suc, ◌+◌, ◌%◌, ◌/◌, ◌⊎◌, List, [], ◌∷◌, ◌++◌, map, length, Option, Some, None}
 use Rattle.sdl_behaviour.specs.declared.step.Frame.{Frame}
 use Rattle.sdl_behaviour.specs.declared.step.Step.{Step}
-use Rattle.sdl_order.specs.sdl_forward.declared.forwarder.Forwarded.{Forwarded}
-use Rattle.sdl_order.specs.sdl_hand.declared.hand.Stepped.{Stepped}
-use Rattle.sdl_order.specs.sdl_hand.declared.hand.Stepped.TheVariants.{Memory}
+use Rattle.sdl_forward.specs.declared.forwarder.Forwarded.{Forwarded}
+use Rattle.sdl_hand.specs.declared.hand.Stepped.{Stepped}
+use Rattle.sdl_hand.specs.declared.hand.Stepped.TheVariants.{Memory}
 use Rattle.sdl_driver.specs.declared.driver.Round.{Round}
 use Rattle.sdl_driver.specs.declared.driver.Round.TheVariants as round
-use Rattle.sdl_order.specs.sdl_outcome.Plan.{Plan, blocks_in, workers_of, system_at}
+use Rattle.sdl_outcome.specs.Plan.{Plan, blocks_in, workers_of, system_at}
 use Rattle.sdl_order.specs.Driver.{Site, IsIdle, BlockSteps, EnvironmentSteps, ForwarderSteps}
 use Rattle.sdl_block.specs.Picks.{StepsAt}
 use Rattle.sdl_environment.specs.EnvPicks.{ReadsAt}
@@ -56,8 +56,8 @@ module _ (may : ℕ → Frame → Step → Type 0) (plan : Plan) where
   abbrev pub Settles : Option ℕ → Site → Site → Type 0
   Settles refused old new = (rounds : ℕ) × StepsThrough (rounds_of (length (workers_of plan)) rounds) refused old new
 
-  -- A run: the workers make the steps of the schedule, each at its pick, and then of so many rounds, until no worker could do anything or one is
-  -- refused memory.
+  -- A run: the workers make the steps of the schedule, each at its pick. So many rounds follow, until no worker could do anything
+  -- or one is refused memory.
   pub record Runs (schedule : List ℕ) (refused : Option ℕ) (old new : Site) : Type 0 where
     pub rounds : ℕ
     pub steps : StepsThrough (scheduled plan schedule ++ rounds_of (length (workers_of plan)) rounds) refused old new

@@ -5,9 +5,9 @@ use Rattle.sdl_behaviour.specs.declared.step.Step.{Step}
 use Rattle.sdl_transition.specs.declared.binding.Bound.{Bound}
 use Rattle.sdl_transition.specs.Bound.{structure_of, routes_of, blocks_of}
 use Rattle.sdl_transition.specs.Rules.{block_rules}
-use Rattle.sdl_order.specs.sdl_forward.Boards.{lists_of}
+use Rattle.sdl_forward.specs.Boards.{lists_of}
 use Rattle.sdl_block.specs.Workers.{worker_of, behaviours_of}
-use Rattle.sdl_order.specs.sdl_outcome.Plan.{Plan}
+use Rattle.sdl_outcome.specs.Plan.{Plan}
 use Rattle.sdl_order.specs.Driver.{Site}
 use Rattle.sdl_driver.specs.declared.parked.Parked.{Parked}
 use Rattle.sdl_driver.specs.Drivers.{IsBetweenSteps}

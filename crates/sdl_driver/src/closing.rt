@@ -2,16 +2,16 @@
 ghost use Rattle.std.specs.Prelude.{◌≡◌, ℕ, ◌+◌, ◌<◌, ◌++◌, ◌∷◌, [], map, length};
 ghost use Rattle.sdl_block.specs.Workers.{worker_of, behaviours_of};
 ghost use Rattle.sdl_driver.specs.Closings.{HasRoom, AreLogsCounted, end_by};
-ghost use Rattle.sdl_order.specs.sdl_outcome.Lists.{held_in};
+ghost use Rattle.sdl_outcome.specs.Lists.{held_in};
 ghost use Rattle.sdl_order.specs.Driver.{block_hand, forwarder_hand};
 
 use arrayvec::ArrayVec;
 use sdl_block::BlockWorker;
+use sdl_forward::Forwarder;
+use sdl_hand::Hand;
 use sdl_ledger::Ledger;
 use sdl_log::{Counts, Event, Keeps};
-use sdl_order::sdl_forward::Forwarder;
-use sdl_order::sdl_hand::Hand;
-use sdl_order::sdl_outcome::{EnvOut, RunEnd};
+use sdl_outcome::{EnvOut, RunEnd};
 use sdl_queue::Rest;
 use sdl_routes::Station;
 use sdl_signal::{BlockId, InputEnd, Item, OutputEnd};

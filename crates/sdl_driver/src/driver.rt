@@ -1,6 +1,6 @@
 //! The driver of a run on one thread.
 ghost use Rattle.std.specs.Prelude.{◌≡◌, ◌<◌, ◌≤◌, None, true, length, MatchOption};
-ghost use Rattle.sdl_order.specs.sdl_outcome.Plan.{workers_of};
+ghost use Rattle.sdl_outcome.specs.Plan.{workers_of};
 ghost use Rattle.sdl_order.specs.Driver.{BlockSteps, EnvironmentSteps, ForwarderSteps, IsIdle};
 ghost use Rattle.sdl_environment.specs.EnvPicks.{ReadsAt};
 ghost use Rattle.sdl_driver.specs.Drivers.{site_of, plan_of, IsDriving, IsSameSystem, ReadsOver, WritesOver, AllFree, StepAnswers, RoundAnswers};
@@ -9,9 +9,9 @@ ghost use Rattle.sdl_driver.specs.Runs.{workers_below, refused_in, BlockStepsAt,
 use crate::places::Places;
 use sdl_block::BlockWorker;
 use sdl_environment::EnvWorker;
+use sdl_forward::{Board, Forwarded, Forwarder};
+use sdl_hand::Stepped;
 use sdl_log::Keeps;
-use sdl_order::sdl_forward::{Board, Forwarded, Forwarder};
-use sdl_order::sdl_hand::Stepped;
 use sdl_parts::Checked;
 use sdl_routes::Routes;
 use sdl_transition::Agents;

@@ -1,7 +1,7 @@
 //! What holds wherever the driver stops. The function does nothing: it carries the proof.
-ghost use Rattle.sdl_order.specs.sdl_outcome.declared.end.RunEnd.{RunEnd};
-ghost use Rattle.sdl_order.specs.sdl_outcome.Plan.{Plan, IsPlan};
-ghost use Rattle.sdl_order.specs.sdl_outcome.Ends.{EndsAs};
+ghost use Rattle.sdl_outcome.specs.declared.end.RunEnd.{RunEnd};
+ghost use Rattle.sdl_outcome.specs.Plan.{Plan, IsPlan};
+ghost use Rattle.sdl_outcome.specs.Ends.{EndsAs};
 ghost use Rattle.sdl_ledger.specs.declared.ledger.Ledger.{Ledger};
 ghost use Rattle.sdl_ledger.specs.Counts.{IsLedgerOf, waiting_in};
 ghost use Rattle.sdl_order.specs.Driver.{Site, IsAtWork, outcome_of, finals_of};

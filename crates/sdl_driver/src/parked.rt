@@ -3,8 +3,8 @@ ghost use Rattle.std.specs.Prelude.{◌≡◌, ℕ, List, Option, ◌+◌, ◌<�
 ghost use Rattle.sdl_transition.specs.Bound.{AreOneSystem};
 ghost use Rattle.sdl_block.specs.Workers.{behaviours_of};
 ghost use Rattle.sdl_ledger.specs.Counts.{waiting_in};
-ghost use Rattle.sdl_order.specs.sdl_outcome.Plan.{blocks_in, workers_of};
-ghost use Rattle.sdl_order.specs.sdl_outcome.EnvironmentWork.{OwnEnd, HasReadSoFar, HasWrittenSoFar, input_end};
+ghost use Rattle.sdl_outcome.specs.Plan.{blocks_in, workers_of};
+ghost use Rattle.sdl_outcome.specs.EnvironmentWork.{OwnEnd, HasReadSoFar, HasWrittenSoFar, input_end};
 ghost use Rattle.sdl_order.specs.Driver.{IsIdle, outcome_of, finals_of};
 ghost use Rattle.sdl_driver.specs.Closings.{HasRoom, AreLogsCounted, HasReadIn, HasWrittenIn, StopsByMemory, NamesRefused, outcome_in, outcome_left};
 ghost use Rattle.sdl_driver.specs.Ended.{HasEnded};
@@ -14,9 +14,9 @@ ghost use Rattle.sdl_driver.specs.Drivers.{NoneSpent, FirstSpent, AllDone, SomeU
 use crate::closing::{Closing, Left, Room, end_of, take_blocks, take_forwarders};
 use sdl_block::BlockWorker;
 use sdl_environment::EnvWorker;
+use sdl_forward::Forwarder;
 use sdl_ledger::Ledger;
 use sdl_log::Keeps;
-use sdl_order::sdl_forward::Forwarder;
 use sdl_parts::Checked;
 use sdl_queue::Rest;
 use sdl_routes::{Routes, Station};

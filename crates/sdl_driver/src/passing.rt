@@ -1,10 +1,10 @@
 //! The forwarders that a round passes over, since they could do nothing.
 ghost use Rattle.std.specs.Prelude.{◌≡◌, ℕ, ◌<◌, ◌≤◌, [], Some, true, ⊤, length, slice_get, MatchBool};
 ghost use Rattle.sdl_routes.specs.declared.route.Station.TheVariants.{Line};
-ghost use Rattle.sdl_order.specs.sdl_forward.Boards.{waiting};
-ghost use Rattle.sdl_order.specs.sdl_forward.Forwards.{Forwarding};
-ghost use Rattle.sdl_order.specs.sdl_hand.declared.hand.Stepped.TheVariants.{Idle};
-ghost use Rattle.sdl_order.specs.sdl_outcome.Plan.{workers_of};
+ghost use Rattle.sdl_forward.specs.Boards.{waiting};
+ghost use Rattle.sdl_forward.specs.Forwards.{Forwarding};
+ghost use Rattle.sdl_hand.specs.declared.hand.Stepped.TheVariants.{Idle};
+ghost use Rattle.sdl_outcome.specs.Plan.{workers_of};
 ghost use Rattle.sdl_driver.specs.Drivers.{site_of, plan_of, IsDriving, AllFree, AreByChannel, IsIdleAt};
 ghost use Rattle.sdl_driver.specs.Runs.{WorkerSteps};
 

@@ -1,9 +1,9 @@
 //! Where the forwarders of each channel stand, so that a round finds the next one with work at once.
 ghost use Rattle.std.specs.Prelude.{◌≡◌, ℕ, ◌<◌, ◌≤◌, Some, length, slice_get};
-ghost use Rattle.sdl_order.specs.sdl_forward.Forwards.{Forwarding};
+ghost use Rattle.sdl_forward.specs.Forwards.{Forwarding};
 ghost use Rattle.sdl_driver.specs.Drivers.{AreByChannel};
 
-use sdl_order::sdl_forward::Forwarder;
+use sdl_forward::Forwarder;
 use sdl_parts::limits::MOST_CHANNELS;
 use sdl_signal::ChannelId;
 

@@ -2,8 +2,8 @@
 ghost use Rattle.std.specs.Prelude.{◌≡◌, ℕ, List, Option, ◌+◌, ◌<◌, [], length, map, MatchOption};
 ghost use Rattle.sdl_transition.specs.Bound.{AreOneSystem};
 ghost use Rattle.sdl_block.specs.Workers.{behaviours_of};
-ghost use Rattle.sdl_order.specs.sdl_outcome.Plan.{blocks_in, workers_of};
-ghost use Rattle.sdl_order.specs.sdl_outcome.EnvironmentWork.{HasReadSoFar, HasWrittenSoFar};
+ghost use Rattle.sdl_outcome.specs.Plan.{blocks_in, workers_of};
+ghost use Rattle.sdl_outcome.specs.EnvironmentWork.{HasReadSoFar, HasWrittenSoFar};
 ghost use Rattle.sdl_order.specs.Driver.{IsIdle, outcome_of};
 ghost use Rattle.sdl_driver.specs.Closings.{HasRoom, IsSystemOf, HasReadIn, HasWrittenIn, StopsByMemory, NamesRefused, outcome_in};
 ghost use Rattle.sdl_driver.specs.Ended.{HasEnded};

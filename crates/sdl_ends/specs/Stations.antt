@@ -26,7 +26,7 @@ is_station s (Some t) = same_station t s
 abbrev pub stations_of : {X : Type 0} → List (Station × X) → List Station
 stations_of entries = map (λ e. e.0) entries
 
--- the station right behind this one in a route's list; none behind the last, and none where it is not in the list
+-- the station right after this one in a route's list; none after the last, and none where it is not in the list
 abbrev pub station_behind : Station → List Station → Option Station
 station_behind s [] = None
 station_behind s (t ∷ stations) = if same_station t s then slice_get stations 0 else station_behind s stations

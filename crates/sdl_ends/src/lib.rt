@@ -8,5 +8,5 @@ pub mod shelf;
 
 pub use ends::Ends;
 pub use index::Index;
-pub use marks::{FREE_MARK, MARKS, Marks, mark_of};
+pub use marks::{MARKS, Marks, mark_of};
 pub use shelf::{Shelf, ends_rejoin};

@@ -7,9 +7,6 @@ use sdl_routes::Station;
 /// How many marks there are.
 pub const MARKS: usize = 192;
 
-/// The marks from this one on are no station's.
-pub const FREE_MARK: u32 = 145;
-
 /// The mark of a station (this project's own): 0 to 15 for inlets, 16 for the outlet, 17 to 144 for delaying paths. In one
 /// structure no two stations have one mark: it has at most 16 blocks and 64 channels, the `MOST_BLOCKS` and `MOST_CHANNELS` of
 /// `sdl_parts`, on which this crate does not stand.

@@ -11,10 +11,10 @@ use Rattle.sdl_routes.specs.declared.route.TableRow.{TableRow}
 use Rattle.sdl_routes.specs.declared.route.Station.{Station}
 use Rattle.sdl_routes.specs.declared.route.Station.TheVariants.{Outlet}
 use Rattle.sdl_routes.specs.Routes.{AreRoutesOf}
-use Rattle.sdl_outcome.specs.sdl_forward.Boards.{waiting}
-use Rattle.sdl_outcome.specs.sdl_hand.declared.hand.Stepped.{Stepped}
-use Rattle.sdl_outcome.specs.sdl_hand.declared.hand.Stepped.TheVariants.{Did, Idle, Memory}
-use Rattle.sdl_outcome.specs.sdl_hand.Work.{beginning_at}
+use Rattle.sdl_forward.specs.Boards.{waiting}
+use Rattle.sdl_hand.specs.declared.hand.Stepped.{Stepped}
+use Rattle.sdl_hand.specs.declared.hand.Stepped.TheVariants.{Did, Idle, Memory}
+use Rattle.sdl_hand.specs.Work.{beginning_at}
 use Rattle.sdl_outcome.specs.EnvironmentWork.{EnvWorking, IsEnvFresh, IsEnvSound, IsLegalItem, GoesOut, ComesIn, AreOutputsOf, EnvWorks, EnvStepsAs, HasReadSoFar, HasWrittenSoFar, HasWritten, received_text, env_sent}
 use Rattle.sdl_outcome.proofs.Lists.{all_front, all_end}
 use Rattle.sdl_environment.proofs.EnvLegal.{begins_out}

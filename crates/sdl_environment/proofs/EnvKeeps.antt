@@ -9,12 +9,12 @@ use Rattle.sdl_signal.specs.declared.values.Item.{Item}
 use Rattle.sdl_parts.specs.Structure.{Structure}
 use Rattle.sdl_routes.specs.declared.route.TableRow.{TableRow}
 use Rattle.sdl_routes.specs.declared.route.Station.{Station}
-use Rattle.sdl_outcome.specs.sdl_ends.Ends.{WorkerEnds, IsSameEnds, put_at, taken_by}
-use Rattle.sdl_outcome.specs.sdl_hand.declared.hand.Stepped.{Stepped}
-use Rattle.sdl_outcome.specs.sdl_hand.declared.hand.Stepped.TheVariants.{Did, Idle, Memory}
-use Rattle.sdl_outcome.specs.sdl_hand.Work.{beginning_at}
-use Rattle.sdl_outcome.specs.sdl_hand.Apart.{AreFresh}
-use Rattle.sdl_outcome.proofs.hand.Fronts.{beginning-append}
+use Rattle.sdl_ends.specs.Ends.{WorkerEnds, IsSameEnds, put_at, taken_by}
+use Rattle.sdl_hand.specs.declared.hand.Stepped.{Stepped}
+use Rattle.sdl_hand.specs.declared.hand.Stepped.TheVariants.{Did, Idle, Memory}
+use Rattle.sdl_hand.specs.Work.{beginning_at}
+use Rattle.sdl_hand.specs.Apart.{AreFresh}
+use Rattle.sdl_hand.proofs.Fronts.{beginning-append}
 use Rattle.sdl_outcome.specs.declared.environment_output.EnvOut.{EnvOut}
 use Rattle.sdl_outcome.specs.EnvironmentWork.{EnvWorking, IsEnvFresh, IsEnvSound, IsLegalItem, GoesOut, ComesIn, AreCounted, origin_of, env_origins, env_sent}
 use Rattle.sdl_environment.specs.EnvApart.{HasGateWays, EnvWorksApart, EnvStepsApart, IsEnvPuttingOut}

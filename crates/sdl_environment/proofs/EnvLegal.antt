@@ -26,10 +26,10 @@ use Rattle.sdl_routes.specs.declared.route.Station.{Station}
 use Rattle.sdl_routes.specs.declared.route.Station.TheVariants as station
 use Rattle.sdl_routes.specs.declared.route.Hop.{Hop}
 use Rattle.sdl_routes.specs.Routes.{AreRoutesOf, IsRoute, IsLastStation, IsEndPoint, is_delaying}
-use Rattle.sdl_transition.specs.Offers.{IsLegalPid, IsLegalValue}
-use Rattle.sdl_outcome.specs.sdl_instances.Core.{signals_of, sets_of, numbers_of}
-use Rattle.sdl_outcome.proofs.forward.Same.{same_station_is}
-use Rattle.sdl_outcome.specs.sdl_hand.Work.{beginning_at, first_station, is_station}
+use Rattle.sdl_behaviour.specs.Offers.{IsLegalPid, IsLegalValue}
+use Rattle.sdl_instances.specs.Core.{signals_of, sets_of, numbers_of}
+use Rattle.sdl_forward.proofs.Same.{same_station_is}
+use Rattle.sdl_hand.specs.Work.{beginning_at, first_station, is_station}
 use Rattle.sdl_outcome.specs.declared.environment_output.EnvOut.{EnvOut}
 use Rattle.sdl_outcome.specs.declared.environment_output.EnvOut.TheVariants as env_out
 use Rattle.sdl_outcome.specs.EnvironmentWork.{GoesOut, ComesIn, IsLegalItem, IsOutputOf, sent_of}

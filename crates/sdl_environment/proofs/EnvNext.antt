@@ -6,10 +6,10 @@ use Rattle.sdl_signal.specs.Names.{Lexicon}
 use Rattle.sdl_routes.specs.declared.route.TableRow.{TableRow}
 use Rattle.sdl_routes.specs.declared.route.Station.{Station}
 use Rattle.sdl_routes.specs.declared.route.Station.TheVariants.{Outlet}
-use Rattle.sdl_outcome.specs.sdl_forward.Boards.{waiting}
-use Rattle.sdl_outcome.specs.sdl_hand.declared.hand.Refused.{Refused}
-use Rattle.sdl_outcome.specs.sdl_hand.declared.hand.Stepped.TheVariants.{Memory}
-use Rattle.sdl_outcome.specs.sdl_hand.Puts.{PutsOut, answer_of}
+use Rattle.sdl_forward.specs.Boards.{waiting}
+use Rattle.sdl_hand.specs.declared.hand.Refused.{Refused}
+use Rattle.sdl_hand.specs.declared.hand.Stepped.TheVariants.{Memory}
+use Rattle.sdl_hand.specs.Puts.{PutsOut, answer_of}
 use Rattle.sdl_outcome.specs.EnvironmentWork.{EnvWorking}
 use Rattle.sdl_environment.specs.EnvPhases.{Reads, Receives}
 use Rattle.sdl_environment.specs.EnvSteps.{ReadsNext, TakesNext, StepsOn}

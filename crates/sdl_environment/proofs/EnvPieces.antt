@@ -9,11 +9,11 @@ use Rattle.sdl_routes.specs.declared.route.TableRow.{TableRow}
 use Rattle.sdl_routes.specs.declared.route.Station.{Station}
 use Rattle.sdl_routes.specs.declared.route.Station.TheVariants.{Outlet}
 use Rattle.sdl_routes.specs.Routes.{AreRoutesOf}
-use Rattle.sdl_outcome.specs.sdl_forward.Boards.{stations_of, waiting}
-use Rattle.sdl_outcome.specs.sdl_hand.declared.hand.Refused.{Refused}
-use Rattle.sdl_outcome.specs.sdl_hand.Work.{beginning_at}
-use Rattle.sdl_outcome.specs.sdl_hand.Puts.{Puts, PutsOut}
-use Rattle.sdl_outcome.proofs.hand.Fronts.{beginning-append}
+use Rattle.sdl_forward.specs.Boards.{stations_of, waiting}
+use Rattle.sdl_hand.specs.declared.hand.Refused.{Refused}
+use Rattle.sdl_hand.specs.Work.{beginning_at}
+use Rattle.sdl_hand.specs.Puts.{Puts, PutsOut}
+use Rattle.sdl_hand.proofs.Fronts.{beginning-append}
 use Rattle.sdl_outcome.specs.declared.environment_output.EnvOut.{EnvOut}
 use Rattle.sdl_outcome.specs.declared.environment_output.EnvOut.TheVariants as env_out
 use Rattle.sdl_outcome.specs.EnvironmentWork.{EnvWorking, IsEnvSound, IsLegalItem, GoesOut, ComesIn, ReadsOn, AreCounted, IsOutputOf, origin_of, env_origins, env_sent, sent_of}

@@ -8,8 +8,8 @@ use Rattle.sdl_signal.specs.declared.values.Item.{Item}
 use Rattle.sdl_parts.specs.Structure.{Structure, lexicon_of}
 use Rattle.sdl_routes.specs.declared.route.TableRow.{TableRow}
 use Rattle.sdl_routes.specs.declared.route.Station.{Station}
-use Rattle.sdl_outcome.specs.sdl_ends.Ends.{WorkerEnds, put_at, taken_by}
-use Rattle.sdl_outcome.specs.sdl_hand.declared.hand.Refused.{Refused}
+use Rattle.sdl_ends.specs.Ends.{WorkerEnds, put_at, taken_by}
+use Rattle.sdl_hand.specs.declared.hand.Refused.{Refused}
 use Rattle.sdl_outcome.specs.EnvironmentWork.{EnvWorking, IsEnvSound, IsLegalItem, GoesOut, ReadsOn}
 use Rattle.sdl_environment.specs.EnvPhases.{HasReadBy, HasWrittenBy}
 use Rattle.sdl_environment.specs.EnvApart.{EnvWorksApart}

@@ -8,12 +8,12 @@ use Rattle.sdl_signal.specs.Names.{Lexicon}
 use Rattle.sdl_parts.specs.Structure.{Structure, lexicon_of}
 use Rattle.sdl_routes.specs.declared.route.TableRow.{TableRow}
 use Rattle.sdl_routes.specs.declared.route.Station.{Station}
-use Rattle.sdl_outcome.specs.sdl_ends.Ends.{WorkerEnds, IsSameEnds, put_at, taken_by}
-use Rattle.sdl_outcome.specs.sdl_hand.declared.hand.Refused.{Refused}
-use Rattle.sdl_outcome.specs.sdl_hand.Work.{beginning_at}
-use Rattle.sdl_outcome.specs.sdl_hand.PutsApart.{HasWayOut, HaveWaysOut, PutsApart, PutsOutApart}
-use Rattle.sdl_outcome.proofs.hand.Fronts.{beginning-append}
-use Rattle.sdl_outcome.proofs.hand.FrontsApart.{has_feed_still}
+use Rattle.sdl_ends.specs.Ends.{WorkerEnds, IsSameEnds, put_at, taken_by}
+use Rattle.sdl_hand.specs.declared.hand.Refused.{Refused}
+use Rattle.sdl_hand.specs.Work.{beginning_at}
+use Rattle.sdl_hand.specs.PutsApart.{HasWayOut, HaveWaysOut, PutsApart, PutsOutApart}
+use Rattle.sdl_hand.proofs.Fronts.{beginning-append}
+use Rattle.sdl_hand.proofs.FrontsApart.{has_feed_still}
 use Rattle.sdl_outcome.specs.declared.environment_output.EnvOut.{EnvOut}
 use Rattle.sdl_outcome.specs.EnvironmentWork.{EnvWorking, IsEnvSound, ComesIn, env_sent}
 use Rattle.sdl_environment.specs.EnvPhases.{Reads}

@@ -9,9 +9,9 @@ use Rattle.sdl_parts.specs.Structure.{Structure}
 use Rattle.sdl_routes.specs.declared.route.TableRow.{TableRow}
 use Rattle.sdl_routes.specs.declared.route.Station.{Station}
 use Rattle.sdl_routes.specs.declared.route.Station.TheVariants.{Outlet}
-use Rattle.sdl_outcome.specs.sdl_forward.Boards.{waiting}
-use Rattle.sdl_outcome.specs.sdl_hand.declared.hand.Refused.{Refused}
-use Rattle.sdl_outcome.proofs.hand.Fronts.{put_none}
+use Rattle.sdl_forward.specs.Boards.{waiting}
+use Rattle.sdl_hand.specs.declared.hand.Refused.{Refused}
+use Rattle.sdl_hand.proofs.Fronts.{put_none}
 use Rattle.sdl_outcome.specs.declared.environment_output.EnvOut.{EnvOut}
 use Rattle.sdl_outcome.specs.EnvironmentWork.{EnvWorking, IsEnvSound, EnvWorks, AreCounted, env_origins, HasWritten, received_text}
 use Rattle.sdl_environment.specs.EnvPhases.{Reads, Receives, HasReadBy, HasWrittenBy, EnvStepsTo}

@@ -11,7 +11,7 @@ use Rattle.sdl_signal.specs.declared.values.Pid.{Pid}
 use Rattle.sdl_signal.specs.declared.values.Pid.TheVariants as pid
 use Rattle.sdl_signal.specs.Names.{Lexicon, DeclaredSignal}
 use Rattle.sdl_signal.specs.Line.{pid_text, value_text, value_texts, to_texts, line_fields, line_text}
-use Rattle.sdl_transition.specs.Offers.{IsLegalPid, IsLegalValue}
+use Rattle.sdl_behaviour.specs.Offers.{IsLegalPid, IsLegalValue}
 use Rattle.sdl_signal.specs.Sorts.{sort_of}
 
 -- nothing is not something

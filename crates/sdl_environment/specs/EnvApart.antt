@@ -5,11 +5,11 @@ use Rattle.sdl_signal.specs.declared.values.Item.{Item}
 use Rattle.sdl_parts.specs.Structure.{Structure}
 use Rattle.sdl_routes.specs.declared.route.TableRow.{TableRow}
 use Rattle.sdl_routes.specs.declared.route.Station.{Station}
-use Rattle.sdl_outcome.specs.sdl_ends.Ends.{WorkerEnds, put_at, taken_by}
-pub use Rattle.sdl_outcome.specs.sdl_ends.Ways.{HasGateWays}
-use Rattle.sdl_outcome.specs.sdl_hand.declared.hand.Stepped.{Stepped}
-use Rattle.sdl_outcome.specs.sdl_hand.declared.hand.Stepped.TheVariants.{Did, Idle, Memory}
-use Rattle.sdl_outcome.specs.sdl_hand.Work.{beginning_at}
+use Rattle.sdl_ends.specs.Ends.{WorkerEnds, put_at, taken_by}
+pub use Rattle.sdl_ends.specs.Ways.{HasGateWays}
+use Rattle.sdl_hand.specs.declared.hand.Stepped.{Stepped}
+use Rattle.sdl_hand.specs.declared.hand.Stepped.TheVariants.{Did, Idle, Memory}
+use Rattle.sdl_hand.specs.Work.{beginning_at}
 use Rattle.sdl_outcome.specs.declared.environment_output.EnvOut.{EnvOut}
 use Rattle.sdl_outcome.specs.EnvironmentWork.{EnvWorking, IsEnvSound, IsLegalItem, GoesOut, ComesIn, AreCounted, ReadsOn, env_origins, env_sent}
 

@@ -11,9 +11,9 @@ use Rattle.sdl_parts.specs.Structure.{Structure}
 use Rattle.sdl_routes.specs.declared.route.TableRow.{TableRow}
 use Rattle.sdl_routes.specs.declared.route.Station.{Station}
 use Rattle.sdl_routes.specs.declared.route.Station.TheVariants.{Outlet}
-use Rattle.sdl_outcome.specs.sdl_forward.Boards.{waiting, ChangesOnly}
-use Rattle.sdl_outcome.specs.sdl_hand.declared.hand.Refused.{Refused}
-use Rattle.sdl_outcome.specs.sdl_hand.Puts.{answer_of}
+use Rattle.sdl_forward.specs.Boards.{waiting, ChangesOnly}
+use Rattle.sdl_hand.specs.declared.hand.Refused.{Refused}
+use Rattle.sdl_hand.specs.Puts.{answer_of}
 use Rattle.sdl_outcome.specs.declared.environment_output.EnvOut.{EnvOut}
 use Rattle.sdl_outcome.specs.EnvironmentWork.{EnvWorking, GoesOut, received_line, received_text, sent_of, IsOutputOf, AreOutputsOf, HasWritten, EnvStepsAs}
 

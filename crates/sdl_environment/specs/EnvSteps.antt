@@ -3,7 +3,7 @@ use Rattle.std.specs.Prelude.{◌≡◌, ◌≢◌, ◌+◌, ◌⊎◌, List, []
 use Rattle.sdl_signal.specs.declared.values.Item.{Item}
 use Rattle.sdl_routes.specs.declared.route.Station.{Station}
 use Rattle.sdl_routes.specs.declared.route.Station.TheVariants.{Outlet}
-use Rattle.sdl_outcome.specs.sdl_forward.Boards.{waiting}
+use Rattle.sdl_forward.specs.Boards.{waiting}
 use Rattle.sdl_outcome.specs.EnvironmentWork.{EnvWorking}
 
 -- it read on: unless the reading had ended, one line more has its output, or the reading has ended

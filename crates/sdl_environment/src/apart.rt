@@ -7,10 +7,10 @@ ghost use Rattle.sdl_lines.specs.declared.sources.Ended.{Ended};
 ghost use Rattle.sdl_signal.specs.declared.ends.InputEnd.{InputEnd};
 ghost use Rattle.sdl_parts.specs.Structure.{IsStructure};
 ghost use Rattle.sdl_routes.specs.Routes.{AreRoutesOf};
-ghost use Rattle.sdl_outcome.specs.sdl_ends.Ends.{IsSameEnds};
-ghost use Rattle.sdl_outcome.specs.sdl_hand.declared.hand.Stepped.TheVariants.{Memory};
-ghost use Rattle.sdl_outcome.specs.sdl_hand.Puts.{AreRouted};
-ghost use Rattle.sdl_outcome.specs.sdl_hand.PutsApart.{HaveWaysOut, PutsOutApart};
+ghost use Rattle.sdl_ends.specs.Ends.{IsSameEnds};
+ghost use Rattle.sdl_hand.specs.declared.hand.Stepped.TheVariants.{Memory};
+ghost use Rattle.sdl_hand.specs.Puts.{AreRouted};
+ghost use Rattle.sdl_hand.specs.PutsApart.{HaveWaysOut, PutsOutApart};
 ghost use Rattle.sdl_outcome.specs.EnvironmentWork.{IsEnvSound, HasReadSoFar, HasWrittenSoFar};
 ghost use Rattle.sdl_environment.specs.EnvSteps.{ReadsNext};
 ghost use Rattle.sdl_environment.specs.EnvPicks.{ReadsAt};
@@ -21,8 +21,8 @@ use crate::environment::EnvWorker;
 use crate::leaving::may_leave;
 use crate::routed::RoutedStructure;
 use crate::writing::write;
-use sdl_outcome::sdl_ends::Ends;
-use sdl_outcome::sdl_hand::{Refused, Stepped, answer_of};
+use sdl_ends::Ends;
+use sdl_hand::{Refused, Stepped, answer_of};
 use sdl_parts::Structure;
 use sdl_routes::Routes;
 use sdl_signal::Item;
@@ -107,7 +107,7 @@ impl EnvApart {
         self.worker.is_ready()
     }
 
-    /// Whether a part of a line was read ahead behind which the reader has more at once, as far as can be told: it gave as many
+    /// Whether a part of a line was read ahead after which the reader has more at once, as far as can be told: it gave as many
     /// bytes as it was asked for, and they end within a line. It is asked where the worker is not ready, and is a hint.
     pub fn breaks_off(&self) -> bool
         ensures { result ≡ true → (self.now.worker.ended ≡ None) × (self.now.worker.reading.source.ended ≡ None) × (0 < length self.now.worker.reading.source.ahead) }

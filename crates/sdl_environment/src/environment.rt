@@ -9,9 +9,9 @@ ghost use Rattle.sdl_parts.specs.Structure.{IsStructure};
 ghost use Rattle.sdl_routes.specs.declared.route.Station.{Station};
 ghost use Rattle.sdl_routes.specs.Routes.{AreRoutesOf};
 ghost use Rattle.sdl_routes.specs.declared.route.Station.TheVariants.{Outlet};
-ghost use Rattle.sdl_outcome.specs.sdl_forward.Boards.{waiting, IsBoardOf};
-ghost use Rattle.sdl_outcome.specs.sdl_hand.declared.hand.Stepped.TheVariants.{Memory};
-ghost use Rattle.sdl_outcome.specs.sdl_hand.Puts.{AreRouted, PutsOut};
+ghost use Rattle.sdl_forward.specs.Boards.{waiting, IsBoardOf};
+ghost use Rattle.sdl_hand.specs.declared.hand.Stepped.TheVariants.{Memory};
+ghost use Rattle.sdl_hand.specs.Puts.{AreRouted, PutsOut};
 ghost use Rattle.sdl_outcome.specs.EnvironmentWork.{IsEnvFresh, IsEnvSound, IsLegalItem, GoesOut, EnvStepsAs, HasReadSoFar, HasWrittenSoFar};
 ghost use Rattle.sdl_environment.specs.EnvPhases.{IsWritable, HasReadBy, HasWrittenBy, Reads, Receives, EnvStepsTo};
 ghost use Rattle.sdl_environment.specs.EnvPicks.{ReadsAt};
@@ -20,9 +20,9 @@ ghost use Rattle.sdl_environment.specs.EnvSteps.{ReadsNext, TakesNext, StepsOn};
 use crate::outputs::{output_of, send};
 use crate::writing::write;
 use arrayvec::ArrayVec;
+use sdl_forward::Board;
+use sdl_hand::{Hand, Refused, Stepped, answer_of};
 use sdl_outcome::EnvOut;
-use sdl_outcome::sdl_forward::Board;
-use sdl_outcome::sdl_hand::{Hand, Refused, Stepped, answer_of};
 use sdl_parts::Structure;
 use sdl_routes::{Routes, Station};
 use sdl_signal::{EnvRead, EnvReader, InputEnd, Item, LineSink, Names, Origin, OutputEnd};
@@ -86,7 +86,7 @@ impl EnvWorker {
         self.ended.is_some() || self.reader.is_ready()
     }
 
-    /// Whether a part of a line waits behind which the reader has more at once, as far as can be told.
+    /// Whether a part of a line waits after which the reader has more at once, as far as can be told.
     pub(crate) fn breaks_off(&self) -> bool
         ensures { result ≡ true → (self.now.ended ≡ None) × (self.now.reading.source.ended ≡ None) × (0 < length self.now.reading.source.ahead) }
     {

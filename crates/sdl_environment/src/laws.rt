@@ -7,10 +7,10 @@ ghost use Rattle.sdl_routes.specs.declared.route.TableRow.{TableRow};
 ghost use Rattle.sdl_routes.specs.declared.route.Station.{Station};
 ghost use Rattle.sdl_routes.specs.Routes.{AreRoutesOf};
 ghost use Rattle.sdl_routes.specs.declared.route.Station.TheVariants.{Outlet};
-ghost use Rattle.sdl_outcome.specs.sdl_ends.Ends.{WorkerEnds};
-ghost use Rattle.sdl_outcome.specs.sdl_forward.Boards.{waiting};
-ghost use Rattle.sdl_outcome.specs.sdl_hand.declared.hand.Stepped.{Stepped};
-ghost use Rattle.sdl_outcome.specs.sdl_hand.Apart.{AreFresh};
+ghost use Rattle.sdl_ends.specs.Ends.{WorkerEnds};
+ghost use Rattle.sdl_forward.specs.Boards.{waiting};
+ghost use Rattle.sdl_hand.specs.declared.hand.Stepped.{Stepped};
+ghost use Rattle.sdl_hand.specs.Apart.{AreFresh};
 ghost use Rattle.sdl_outcome.specs.EnvironmentWork.{EnvWorking, IsEnvFresh, IsEnvSound, IsLegalItem, GoesOut, EnvStepsAs, HasReadSoFar, HasReadAll, HasWrittenSoFar, input_end};
 ghost use Rattle.sdl_environment.specs.EnvApart.{HasGateWays, IsEnvPuttingOut};
 
@@ -34,8 +34,8 @@ pub fn goes_on()
         → All (λ i. IsLegalItem structure routes worker i × GoesOut routes i) (waiting before Outlet) → All (λ i. IsLegalItem structure routes worker i × GoesOut routes i) (waiting after Outlet) }
 {}
 
-/// Before anything was read, with ends by which nothing was put or taken and which have a feed wherever a route from a gate
-/// begins, the steps through ends of its own can begin, with nothing astray. (This function does nothing: it carries the proof.)
+/// Before anything was read, the steps through ends of its own can begin, with nothing astray. Nothing was put or taken by these
+/// ends, and they have a feed wherever a route from a gate begins. (This function does nothing: it carries the proof.)
 pub fn new_environments_are_putting_out()
     ensures { (structure : Structure) (routes : List TableRow) (worker : ℕ) (w : EnvWorking) (ends : WorkerEnds) → IsEnvFresh worker w → AreFresh ends → HasGateWays routes ends
         → IsEnvPuttingOut structure routes worker w None ends }

@@ -1,9 +1,9 @@
 //! Which items may leave through the outlet.
 ghost use Rattle.std.specs.Prelude.{◌≡◌, ◌↔◌, IsTrue, Some, length, map, slice_get};
 ghost use Rattle.sdl_signal.specs.Sorts.{sort_of};
-ghost use Rattle.sdl_outcome.specs.sdl_instances.Arriving.{IsCarried};
-ghost use Rattle.sdl_outcome.specs.sdl_instances.Core.{signals_of, sets_of};
-ghost use Rattle.sdl_outcome.specs.sdl_instances.Legal.{IsLegal};
+ghost use Rattle.sdl_instances.specs.Arriving.{IsCarried};
+ghost use Rattle.sdl_instances.specs.Core.{signals_of, sets_of};
+ghost use Rattle.sdl_instances.specs.Legal.{IsLegal};
 ghost use Rattle.sdl_outcome.specs.EnvironmentWork.{GoesOut};
 
 use sdl_behaviour::legality::{are_legal, is_legal_pid, names_legal};

@@ -14,6 +14,4 @@ pub use apart::EnvApart;
 pub use environment::EnvWorker;
 pub use laws::{goes_on, new_environments_are_putting_out, stops_reading};
 pub use routed::RoutedStructure;
-pub use sdl_outcome;
-pub use sdl_outcome::{sdl_ends, sdl_forward, sdl_hand, sdl_instances};
 pub use worker_parts::EnvParts;

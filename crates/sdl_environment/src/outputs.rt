@@ -3,9 +3,9 @@ ghost use Rattle.std.specs.Prelude.{◌≡◌, ◌<◌, ◌++◌, length};
 ghost use Rattle.sdl_outcome.specs.EnvironmentWork.{IsOutputOf, sent_of, goal_to};
 ghost use Rattle.sdl_environment.specs.EnvPicks.{IsRoutedAt};
 
+use sdl_hand::Hand;
+use sdl_instances::copies::copied_item;
 use sdl_outcome::EnvOut;
-use sdl_outcome::sdl_hand::Hand;
-use sdl_outcome::sdl_instances::copies::copied_item;
 use sdl_routes::{Goal, Routes, Source, Via, Wish};
 use sdl_signal::{EnvLine, Item, Origin, Pid};
 

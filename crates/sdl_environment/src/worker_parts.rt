@@ -3,8 +3,8 @@ ghost use Rattle.std.specs.Prelude.{◌≡◌, None};
 ghost use Rattle.sdl_outcome.specs.EnvironmentWork.{OwnEnd, input_end};
 
 use crate::environment::EnvWorker;
+use sdl_hand::Hand;
 use sdl_outcome::EnvOut;
-use sdl_outcome::sdl_hand::Hand;
 use sdl_signal::{InputEnd, Item, OutputEnd};
 
 /// What the environment's worker leaves.

@@ -1,6 +1,6 @@
 //! How the environment writes what it receives.
 ghost use Rattle.std.specs.Prelude.{◌≡◌, ℕ, List, Option, [], ◌∷◌, ◌++◌};
-ghost use Rattle.sdl_outcome.specs.sdl_hand.Puts.{IsRouted};
+ghost use Rattle.sdl_hand.specs.Puts.{IsRouted};
 ghost use Rattle.sdl_outcome.specs.EnvironmentWork.{HasWritten, end_gate_of, received_text};
 ghost use Rattle.sdl_environment.specs.EnvPhases.{IsWritable};
 

@@ -1,8 +1,8 @@
 -- The text of the routes up to one more, and what is appended where a write succeeded.
 use Rattle.std.proofs.Common.{◌≡◌, ℕ, zero, suc, ◌+◌, List, [], ◌∷◌, ◌++◌, Option, None, Some, Result, Ok, Err, OnOk, option_map, unwrap_or, slice_get, take, refl, ap, sym, ◌∙◌, append_assoc, append-nil, add-zero, add-one, zero-add, arith}
-use Rattle.sdl_run.specs.sdl_parts.Structure.{Structure}
-use Rattle.sdl_run.specs.sdl_routes.declared.route.Route.{Route}
-use Rattle.sdl_run.specs.sdl_routes.declared.route.TableRow.{TableRow}
+use Rattle.sdl_parts.specs.Structure.{Structure}
+use Rattle.sdl_routes.specs.declared.route.Route.{Route}
+use Rattle.sdl_routes.specs.declared.route.TableRow.{TableRow}
 use Rattle.sdl_file_commands.specs.Texts.{route_line, lines_from, routes_text, line_at}
 
 pub on_ok : {E : Type 0} (r : Result (Unit {0}) E) (P Q : Type 0) → (P → Q) → OnOk r P → OnOk r Q

@@ -1,22 +1,22 @@
 -- From what holds of a run that has ended to what its exit status tells.
 use Rattle.std.proofs.Common.{ℕ, List, Option, ◌≡◌, ◌⊎◌, inl, inr, max, refl, sym, ◌∙◌, subst, arith}
-use Rattle.sdl_run.specs.sdl_signal.declared.ends.InputEnd.{InputEnd}
-use Rattle.sdl_run.specs.sdl_signal.declared.ends.InputEnd.TheVariants as input
-use Rattle.sdl_run.specs.sdl_signal.declared.ends.OutputEnd.{OutputEnd}
-use Rattle.sdl_run.specs.sdl_signal.declared.ends.OutputEnd.TheVariants as output
-use Rattle.sdl_run.specs.sdl_parts.Structure.{Structure, lexicon_of}
-use Rattle.sdl_run.specs.sdl_routes.declared.route.TableRow.{TableRow}
-use Rattle.sdl_run.specs.sdl_behaviour.declared.step.Frame.{Frame}
-use Rattle.sdl_run.specs.sdl_behaviour.declared.step.Step.{Step}
-use Rattle.sdl_run.specs.sdl_transition.Rules.{Rules}
-use Rattle.sdl_run.specs.sdl_outcome.declared.end.RunEnd.{RunEnd}
-use Rattle.sdl_run.specs.sdl_outcome.declared.end.RunEnd.TheVariants as run_end
-use Rattle.sdl_run.specs.sdl_outcome.Outcome.{Outcome}
-use Rattle.sdl_run.specs.sdl_outcome.Plan.{Plan, blocks_in}
-use Rattle.sdl_run.specs.sdl_outcome.EnvironmentWork.{HasReadAll, HasWritten, received_text}
-use Rattle.sdl_run.specs.sdl_ledger.declared.ledger.Ledger.{Ledger}
-use Rattle.sdl_run.specs.sdl_driver.Closings.{StopsByMemory}
-use Rattle.sdl_run.specs.sdl_driver.Ended.{HasEnded}
+use Rattle.sdl_signal.specs.declared.ends.InputEnd.{InputEnd}
+use Rattle.sdl_signal.specs.declared.ends.InputEnd.TheVariants as input
+use Rattle.sdl_signal.specs.declared.ends.OutputEnd.{OutputEnd}
+use Rattle.sdl_signal.specs.declared.ends.OutputEnd.TheVariants as output
+use Rattle.sdl_parts.specs.Structure.{Structure, lexicon_of}
+use Rattle.sdl_routes.specs.declared.route.TableRow.{TableRow}
+use Rattle.sdl_behaviour.specs.declared.step.Frame.{Frame}
+use Rattle.sdl_behaviour.specs.declared.step.Step.{Step}
+use Rattle.sdl_transition.specs.Rules.{Rules}
+use Rattle.sdl_outcome.specs.declared.end.RunEnd.{RunEnd}
+use Rattle.sdl_outcome.specs.declared.end.RunEnd.TheVariants as run_end
+use Rattle.sdl_outcome.specs.Outcome.{Outcome}
+use Rattle.sdl_outcome.specs.Plan.{Plan, blocks_in}
+use Rattle.sdl_outcome.specs.EnvironmentWork.{HasReadAll, HasWritten, received_text}
+use Rattle.sdl_ledger.specs.declared.ledger.Ledger.{Ledger}
+use Rattle.sdl_driver.specs.Closings.{StopsByMemory}
+use Rattle.sdl_driver.specs.Ended.{HasEnded}
 use Rattle.sdl_command.specs.Status.{status_of_input, status_of_output}
 use Rattle.sdl_file_commands.specs.Outcomes.{HasRun, WasRun, IsToldBy, plan_with, status_of_end, status_of_run}
 

@@ -2,8 +2,8 @@
 use Rattle.std.specs.Prelude.{◌≡◌, ℕ, ◌+◌, ◌≤◌, List, length, take, IsSomeAnd, IsUtf8, ⊤}
 use Rattle.toml.specs.Parse.{parse_document}
 use Rattle.sdl_structure.specs.File.{IsFileOf}
-use Rattle.sdl_run.specs.sdl_parts.Structure.{Structure}
-use Rattle.sdl_run.specs.sdl_parts.Rules.{IsWellFormed}
+use Rattle.sdl_parts.specs.Structure.{Structure}
+use Rattle.sdl_parts.specs.Rules.{IsWellFormed}
 use Rattle.sdl_file_commands.specs.declared.files.FileRead.{FileRead}
 use Rattle.sdl_file_commands.specs.declared.files.FileRead.TheVariants as file
 

@@ -1,5 +1,3 @@
-pub use Rattle.sdl_command.specs as sdl_command
-pub use Rattle.sdl_run.specs as sdl_run
 pub mod Running
 pub mod Files
 pub mod Texts

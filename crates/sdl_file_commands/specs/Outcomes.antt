@@ -2,30 +2,30 @@
 use Rattle.std.specs.Prelude.{◌≡◌, ℕ, ◌<◌, ◌≤◌, ◌⊎◌, List, ◌++◌, Option, Some, false, length, slice_get, max}
 use Rattle.std.specs.List.{AllByRecursion}
 use Rattle.std.specs.Io.KnownBytes.{Keeps}
-use Rattle.sdl_run.specs.sdl_signal.declared.values.Item.{Item}
-use Rattle.sdl_run.specs.sdl_signal.declared.values.Origin.{Origin}
-use Rattle.sdl_run.specs.sdl_signal.declared.ends.InputEnd.{InputEnd}
-use Rattle.sdl_run.specs.sdl_signal.declared.ends.OutputEnd.{OutputEnd}
-use Rattle.sdl_run.specs.sdl_parts.Structure.{Structure, lexicon_of}
-use Rattle.sdl_run.specs.sdl_routes.declared.route.TableRow.{TableRow}
-use Rattle.sdl_run.specs.sdl_transition.Rules.{Rules}
-use Rattle.sdl_run.specs.sdl_behaviour.declared.step.Frame.{Frame}
-use Rattle.sdl_run.specs.sdl_behaviour.declared.step.Step.{Step}
-use Rattle.sdl_run.specs.sdl_log.declared.event.Event.{Event}
-use Rattle.sdl_run.specs.sdl_instances.Machine.{State}
-use Rattle.sdl_run.specs.sdl_instances.Run.{turns}
-use Rattle.sdl_run.specs.sdl_outcome.declared.end.RunEnd.{RunEnd}
-use Rattle.sdl_run.specs.sdl_outcome.declared.end.RunEnd.TheVariants as run_end
-use Rattle.sdl_run.specs.sdl_outcome.Books.{NoOther, outs, came, left}
-use Rattle.sdl_run.specs.sdl_outcome.Causes.{IsCause}
-use Rattle.sdl_run.specs.sdl_outcome.Ends.{EndsAs}
-use Rattle.sdl_run.specs.sdl_outcome.Outcome.{Outcome, IsComplete, LeftsAreLegal, all_origins, books_of, log_at}
-use Rattle.sdl_run.specs.sdl_outcome.Plan.{Plan, ways_of, blocks_in}
-use Rattle.sdl_run.specs.sdl_outcome.EnvironmentWork.{HasReadAll, HasWritten, received_text}
-use Rattle.sdl_run.specs.sdl_driver.Ended.{HasEnded}
-use Rattle.sdl_run.specs.sdl_ledger.declared.ledger.Ledger.{Ledger}
-use Rattle.sdl_run.specs.sdl_ledger.Counts.{IsLedgerOf, Balances, waiting_in}
-use Rattle.sdl_run.specs.sdl_driver.Closings.{StopsByMemory}
+use Rattle.sdl_signal.specs.declared.values.Item.{Item}
+use Rattle.sdl_signal.specs.declared.values.Origin.{Origin}
+use Rattle.sdl_signal.specs.declared.ends.InputEnd.{InputEnd}
+use Rattle.sdl_signal.specs.declared.ends.OutputEnd.{OutputEnd}
+use Rattle.sdl_parts.specs.Structure.{Structure, lexicon_of}
+use Rattle.sdl_routes.specs.declared.route.TableRow.{TableRow}
+use Rattle.sdl_transition.specs.Rules.{Rules}
+use Rattle.sdl_behaviour.specs.declared.step.Frame.{Frame}
+use Rattle.sdl_behaviour.specs.declared.step.Step.{Step}
+use Rattle.sdl_log.specs.declared.event.Event.{Event}
+use Rattle.sdl_instances.specs.Machine.{State}
+use Rattle.sdl_instances.specs.Run.{turns}
+use Rattle.sdl_outcome.specs.declared.end.RunEnd.{RunEnd}
+use Rattle.sdl_outcome.specs.declared.end.RunEnd.TheVariants as run_end
+use Rattle.sdl_outcome.specs.Books.{NoOther, outs, came, left}
+use Rattle.sdl_outcome.specs.Causes.{IsCause}
+use Rattle.sdl_outcome.specs.Ends.{EndsAs}
+use Rattle.sdl_outcome.specs.Outcome.{Outcome, IsComplete, LeftsAreLegal, all_origins, books_of, log_at}
+use Rattle.sdl_outcome.specs.Plan.{Plan, ways_of, blocks_in}
+use Rattle.sdl_outcome.specs.EnvironmentWork.{HasReadAll, HasWritten, received_text}
+use Rattle.sdl_driver.specs.Ended.{HasEnded}
+use Rattle.sdl_ledger.specs.declared.ledger.Ledger.{Ledger}
+use Rattle.sdl_ledger.specs.Counts.{IsLedgerOf, Balances, waiting_in}
+use Rattle.sdl_driver.specs.Closings.{StopsByMemory}
 use Rattle.sdl_command.specs.declared.arguments.Options.{Options}
 use Rattle.sdl_command.specs.Status.{HasFlushed, status_of}
 

@@ -1,8 +1,8 @@
 -- What a run starts from.
 use Rattle.std.specs.Prelude.{◌≤◌, List}
-use Rattle.sdl_run.specs.sdl_parts.Structure.{Structure}
-use Rattle.sdl_run.specs.sdl_routes.declared.route.TableRow.{TableRow}
-use Rattle.sdl_run.specs.sdl_routes.Routes.{AreRoutesOf}
+use Rattle.sdl_parts.specs.Structure.{Structure}
+use Rattle.sdl_routes.specs.declared.route.TableRow.{TableRow}
+use Rattle.sdl_routes.specs.Routes.{AreRoutesOf}
 
 -- the budget of a structure file: from 1 to 1,000,000 transitions of each block
 pub record HasBudget (s : Structure) : Type 0 where

@@ -1,16 +1,16 @@
 -- What the commands `check` and `routes` print. (This project's own.)
 use Rattle.std.specs.Prelude.{ℕ, ◌+◌, List, [], ◌∷◌, ◌++◌, if◌then◌else◌, length, option_map, unwrap_or, slice_get, flat_map, codes, decimal}
-use Rattle.sdl_run.specs.sdl_signal.declared.ids.SignalId.{SignalId}
-use Rattle.sdl_run.specs.sdl_signal.declared.ids.SetId.{SetId}
-use Rattle.sdl_run.specs.sdl_signal.declared.ids.BlockId.{BlockId}
-use Rattle.sdl_run.specs.sdl_signal.declared.ids.ChannelId.{ChannelId}
-use Rattle.sdl_run.specs.sdl_signal.declared.ids.GateId.{GateId}
-use Rattle.sdl_run.specs.sdl_parts.declared.parts.Owner.{Owner}
-use Rattle.sdl_run.specs.sdl_parts.declared.parts.Owner.TheVariants as owner
-use Rattle.sdl_run.specs.sdl_parts.Structure.{Structure, gate_at, channel_at, set_at}
-use Rattle.sdl_run.specs.sdl_routes.declared.route.Hop.{Hop}
-use Rattle.sdl_run.specs.sdl_routes.declared.route.Route.{Route}
-use Rattle.sdl_run.specs.sdl_routes.declared.route.TableRow.{TableRow}
+use Rattle.sdl_signal.specs.declared.ids.SignalId.{SignalId}
+use Rattle.sdl_signal.specs.declared.ids.SetId.{SetId}
+use Rattle.sdl_signal.specs.declared.ids.BlockId.{BlockId}
+use Rattle.sdl_signal.specs.declared.ids.ChannelId.{ChannelId}
+use Rattle.sdl_signal.specs.declared.ids.GateId.{GateId}
+use Rattle.sdl_parts.specs.declared.parts.Owner.{Owner}
+use Rattle.sdl_parts.specs.declared.parts.Owner.TheVariants as owner
+use Rattle.sdl_parts.specs.Structure.{Structure, gate_at, channel_at, set_at}
+use Rattle.sdl_routes.specs.declared.route.Hop.{Hop}
+use Rattle.sdl_routes.specs.declared.route.Route.{Route}
+use Rattle.sdl_routes.specs.declared.route.TableRow.{TableRow}
 
 -- the names of the parts, by their numbers
 abbrev pub signal_text : Structure → SignalId → List ℕ

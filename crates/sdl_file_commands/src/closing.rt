@@ -12,9 +12,9 @@ use sdl_command::ends::{flushed, report_input, report_output};
 use sdl_command::errors::write_error;
 use sdl_command::status::{FAULTY, WHOLE};
 use sdl_packed_log::Shows;
-use sdl_run::sdl_parts::Structure;
-use sdl_run::sdl_signal::OutputEnd;
+use sdl_parts::Structure;
 use sdl_run::{Closing, RunEnd};
+use sdl_signal::OutputEnd;
 use std::io::{Result, Write};
 
 /// Writes what was asked for of a run that ended, and how it ended, and answers the exit status.

@@ -1,9 +1,9 @@
 //! The texts of the faults of the checker and of binding.
 use crate::names::{agent_name, channel_name, end_agent_name, gate_name, set_name, signal_name};
 use sdl_command::errors::{without_memory, write_error};
-use sdl_run::sdl_parts::{CheckFault, Direction, Side, Structure};
-use sdl_run::sdl_signal::{ChannelId, GateId, SignalId};
-use sdl_run::sdl_transition::BindFault;
+use sdl_parts::{CheckFault, Direction, Side, Structure};
+use sdl_signal::{ChannelId, GateId, SignalId};
+use sdl_transition::BindFault;
 use std::io::Write;
 
 /// Writes the fault of the structure as one line.

@@ -13,7 +13,3 @@ pub mod running;
 pub mod streams;
 mod trace;
 pub mod words;
-
-pub use sdl_command;
-pub use sdl_run;
-pub use sdl_structure;

@@ -2,8 +2,8 @@
 ghost use Rattle.std.specs.Prelude.{◌≡◌};
 ghost use Rattle.sdl_file_commands.specs.Texts.{signal_text, set_text, block_text, channel_text, gate_text, owner_text, agent_text};
 
-use sdl_run::sdl_parts::{Owner, Scope, Structure};
-use sdl_run::sdl_signal::{BlockId, ChannelId, GateId, SetId, SignalId};
+use sdl_parts::{Owner, Scope, Structure};
+use sdl_signal::{BlockId, ChannelId, GateId, SetId, SignalId};
 
 pub fn signal_name(structure: &Structure, signal: SignalId) -> &str
     ensures { result.now ≡ signal_text structure.now signal }

@@ -3,17 +3,17 @@ ghost use Rattle.std.specs.Prelude.{◌≡◌, ◌⊎◌};
 ghost use Rattle.std.specs.Io.KnownBytes.{Keeps};
 ghost use Rattle.sdl_file_commands.specs.Outcomes.{HasRunOrNot, HasMade};
 ghost use Rattle.sdl_file_commands.specs.Running.{HasBudget};
-ghost use Rattle.sdl_run.specs.sdl_transition.Bound.{IsBound, structure_of, routes_of};
-ghost use Rattle.sdl_run.specs.sdl_driver.Closings.{plan_of_bound};
+ghost use Rattle.sdl_transition.specs.Bound.{IsBound, structure_of, routes_of};
+ghost use Rattle.sdl_driver.specs.Closings.{plan_of_bound};
 
 use crate::closing::report_closing;
 use sdl_command::arguments::Options;
 use sdl_command::errors::without_memory;
 use sdl_command::status::REFUSED;
+use sdl_log::Unstored;
 use sdl_packed_log::{Packed, Shows};
-use sdl_run::sdl_log::Unstored;
-use sdl_run::sdl_transition::{Agents, Bound};
 use sdl_run::{StartFault, run_keeping};
+use sdl_transition::{Agents, Bound};
 use std::alloc::Global;
 use std::io::{Read, Write};
 

@@ -1,9 +1,9 @@
 //! The text of a run's logs.
 use crate::names::{set_name, signal_name};
+use sdl_log::{Cause, Done, Trigger};
 use sdl_packed_log::{Shown, Shows};
-use sdl_run::sdl_log::{Cause, Done, Trigger};
-use sdl_run::sdl_parts::Structure;
-use sdl_run::sdl_signal::{Pid, SignalId};
+use sdl_parts::Structure;
+use sdl_signal::{Pid, SignalId};
 use std::io::{Result, Write};
 
 /// Writes the logs of all blocks as far as they are stored, blocks by number: a line for each event, and after the line of a turn one for each thing

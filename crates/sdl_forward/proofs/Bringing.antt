@@ -7,7 +7,7 @@ use Rattle.sdl_routes.specs.declared.route.Station.{Station}
 use Rattle.sdl_routes.specs.declared.route.Station.TheVariants.{Line}
 use Rattle.sdl_ring.specs.RingEnds.{IsPutFrom}
 use Rattle.sdl_queue.specs.Ends.{FeedEnd, TapEnd, items_of}
-use Rattle.sdl_opening.specs.sdl_ends.Ends.{WorkerEnds, HasFeed, feed_at, put_at, taken_by}
+use Rattle.sdl_ends.specs.Ends.{WorkerEnds, HasFeed, feed_at, put_at, taken_by}
 use Rattle.sdl_forward.specs.Forwards.{Forwarding, next_station}
 use Rattle.sdl_forward.specs.Carries.{Takes, PutsNext}
 

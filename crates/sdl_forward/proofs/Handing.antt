@@ -11,14 +11,14 @@ use Rattle.sdl_routes.specs.declared.route.TableRow.{TableRow}
 use Rattle.sdl_routes.specs.declared.route.Station.{Station}
 use Rattle.sdl_routes.specs.declared.route.Station.TheVariants.{Line}
 use Rattle.sdl_queue.specs.Ends.{Opening, FeedEnd}
-use Rattle.sdl_opening.specs.sdl_ends.Ends.{WorkerEnds, IsSameEnds, feed_at, feed_mark, put_at, taken_by}
-use Rattle.sdl_opening.proofs.ends.Same.{same_station_itself, other_station, cases_station}
+use Rattle.sdl_ends.specs.Ends.{WorkerEnds, IsSameEnds, feed_at, feed_mark, put_at, taken_by}
+use Rattle.sdl_ends.proofs.Same.{same_station_itself, other_station, cases_station}
 use Rattle.sdl_forward.specs.declared.forwarder.Forwarded.{Forwarded}
 use Rattle.sdl_forward.specs.declared.forwarder.Forwarded.TheVariants.{Moved, Idle, Held}
 use Rattle.sdl_forward.specs.Boards.{same_station}
 use Rattle.sdl_forward.specs.Forwards.{Forwarding, next_station}
 use Rattle.sdl_forward.specs.Carries.{Carries, HasWaysOn, Takes, PutsNext, Keeps, Waits}
-use Rattle.sdl_opening.specs.sdl_ends.Stations.{is_station}
+use Rattle.sdl_ends.specs.Stations.{is_station}
 use Rattle.sdl_forward.specs.HandsOn.{AreFresh, going_to, GoesOn, IsHandingOn, HasHandedOn}
 
 abbrev station_in : Station → List (Station × (Opening × ℕ)) → Station

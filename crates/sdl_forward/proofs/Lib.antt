@@ -1,5 +1,3 @@
-pub use Rattle.sdl_opening.proofs as opening
-pub use Rattle.sdl_opening.proofs.ends
 pub mod Same
 pub mod Entries
 pub mod Collected

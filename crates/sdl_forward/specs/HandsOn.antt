@@ -7,9 +7,9 @@ use Rattle.sdl_routes.specs.declared.route.Hop.{Hop}
 use Rattle.sdl_routes.specs.declared.route.TableRow.{TableRow}
 use Rattle.sdl_routes.specs.declared.route.Station.{Station}
 use Rattle.sdl_routes.specs.declared.route.Station.TheVariants.{Line}
-use Rattle.sdl_opening.specs.sdl_ends.Ends.{WorkerEnds, put_at, taken_by}
-pub use Rattle.sdl_opening.specs.sdl_ends.Ends.{AreFresh}
-use Rattle.sdl_opening.specs.sdl_ends.Stations.{is_station}
+use Rattle.sdl_ends.specs.Ends.{WorkerEnds, put_at, taken_by}
+pub use Rattle.sdl_ends.specs.Ends.{AreFresh}
+use Rattle.sdl_ends.specs.Stations.{is_station}
 use Rattle.sdl_forward.specs.Forwards.{Forwarding, next_station}
 use Rattle.sdl_forward.specs.Carries.{HasWaysOn}
 
@@ -30,8 +30,9 @@ pub record IsHandingOn (rows : List TableRow) (forwarder : Forwarding) (ends : W
   pub each : (s : Station) → put_at ends s ≡ going_to rows forwarder.hop s put
   pub on : AllByRecursion (GoesOn rows forwarder.hop) put
 
--- What holds after any number of steps: at each station, what was put there, and then the held item where its next station is
--- that one, are those of the items taken whose next station is that one; and each item taken has a next station, or is held.
+-- What holds after any number of steps: at each station, what was put there stands before the held item, where its next
+-- station is that one. Together they are those of the items taken whose next station is that one; and each item taken has a
+-- next station, or is held.
 pub record HasHandedOn (rows : List TableRow) (forwarder : Forwarding) (ends : WorkerEnds) : Type 0 where
   pub went : (s : Station) → put_at ends s ++ going_to rows forwarder.hop s (option_to_list forwarder.held) ≡ going_to rows forwarder.hop s (taken_by ends)
   pub on : AllByRecursion (λ i. GoesOn rows forwarder.hop i ⊎ (forwarder.held ≡ Some i)) (taken_by ends)

@@ -1,5 +1,3 @@
-pub use Rattle.sdl_opening.specs as sdl_opening
-pub use Rattle.sdl_opening.specs.sdl_ends
 pub mod Boards
 pub mod Busy
 pub mod Forwards

@@ -1,10 +1,10 @@
 //! A forwarder's step where each queue has ends of its own.
 ghost use Rattle.std.specs.Prelude.{◌≡◌, None, MatchOption};
-ghost use Rattle.sdl_opening.specs.sdl_ends.Ends.{taken_by, IsSameEnds};
+ghost use Rattle.sdl_ends.specs.Ends.{taken_by, IsSameEnds};
 ghost use Rattle.sdl_forward.specs.Carries.{Carries, Takes, HasWaysOn};
 
 use crate::{Forwarded, Forwarder};
-use sdl_opening::sdl_ends::Ends;
+use sdl_ends::Ends;
 use sdl_routes::Routes;
 use std::sync::Wait;
 

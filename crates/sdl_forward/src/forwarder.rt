@@ -73,7 +73,7 @@ impl Forwarder {
         board.take(Station::Line(self.hop))
     }
 
-    /// The station behind its path on the item's route.
+    /// The station after its path on the item's route.
     #[inline(always)]
     pub(crate) fn next(&self, routes: &Routes, item: &Item) -> Option<Station>
         ensures next { next_station routes.now (Line self.now.hop) item.now ≡ result }

@@ -1,7 +1,7 @@
 //! What the steps of a forwarder through its own ends keep, from the first on. These functions do nothing: they carry the proofs.
 ghost use Rattle.std.specs.Prelude.{◌≡◌, List, None};
 ghost use Rattle.sdl_routes.specs.declared.route.TableRow.{TableRow};
-ghost use Rattle.sdl_opening.specs.sdl_ends.Ends.{WorkerEnds, IsSameEnds};
+ghost use Rattle.sdl_ends.specs.Ends.{WorkerEnds, IsSameEnds};
 ghost use Rattle.sdl_forward.specs.declared.forwarder.Forwarded.{Forwarded};
 ghost use Rattle.sdl_forward.specs.Forwards.{Forwarding};
 ghost use Rattle.sdl_forward.specs.Carries.{Carries, HasWaysOn};
@@ -18,8 +18,9 @@ pub fn forwarders_stay_handing_on()
     ensures path { (rows : List TableRow) (was is : Forwarding) (old new : WorkerEnds) (answer : Forwarded) → Carries rows was old answer is new → is.hop ≡ was.hop }
 {}
 
-/// And whenever it holds, at each station, what was put there, and then the held item where its next station is that one, are
-/// those of the items taken whose next station is that one. Each item taken has a next station, or is held.
+/// And whenever it holds, the following is so at each station. What was put there, and then the held item where its next
+/// station is that one, are those of the items taken whose next station is that one. Each item taken has a next station, or
+/// is held.
 pub fn forwarders_have_handed_on()
     ensures { (rows : List TableRow) (forwarder : Forwarding) (ends : WorkerEnds) → IsHandingOn rows forwarder ends → HasHandedOn rows forwarder ends }
 {}

@@ -27,8 +27,8 @@ impl<G: Graph> Agents for GraphAgents<G> {
     }
 }
 
-/// Leaves a step that conforms to the offer as it is, and puts the one that does nothing in the place of another, whose number
-/// is then marked.
+/// Leaves a step that conforms to the offer as it is. Another is replaced by the one that does nothing, and its number is
+/// marked.
 pub fn keep_to_offer(number: u32, offer: &Offer, frame: &Frame, step: &mut Step, marks: &Marks)
     ensures kept { IsKept offer.now frame.now step.old step.new }
     ensures conforms { IsFrameOf offer.now frame.now → CanEnd offer.now → Conforms offer.now step.new }

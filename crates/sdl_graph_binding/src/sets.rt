@@ -5,7 +5,7 @@ use sdl_signal::Value;
 /// A number that the graph uses, with the name that it means by it.
 pub type Use<'a> = (Kind, u32, &'a str);
 
-/// A set of process instances: its name in the structure, the names of its states by number, its initial variables, and
+/// A set of process instances: its name in the structure, the names of its states by number, and its initial variables;
 /// how many transitions it has, the start and then its rows.
 #[derive(Clone, Copy)]
 pub struct SetDesign<'a> {

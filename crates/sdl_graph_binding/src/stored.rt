@@ -80,7 +80,7 @@ impl<G: Graph> Answering<G> {
 
 impl<G: Graph> Stored<G> {
     /// What answers the frames of the transition of this number, which is to be kept next. None after a fault, and where this is
-    /// one: the graph has no offer of the number that can end, memory is refused, or the transition before was not kept, as its
+    /// one: the graph has no offer of the number that can end; memory is refused; the transition before was not kept, as its
     /// closure found no memory.
     pub fn answering(&mut self, number: u32) -> Option<Answering<G>>
         ensures offered { IfSome result (λ own. (own.number ≡ number) × CanEnd own.offer) }

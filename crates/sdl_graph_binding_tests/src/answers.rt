@@ -1,9 +1,9 @@
 //! What marked answers are, and what is marked.
 use super::breaking::{Breaking, CONFORMING, NUMBERS, breaking_frame};
-use sdl_graph_binding::sdl_behaviour::{Next, Step};
-use sdl_graph_binding::sdl_graph::Graph;
-use sdl_graph_binding::sdl_signal::StateId;
+use sdl_behaviour::{Next, Step};
+use sdl_graph::Graph;
 use sdl_graph_binding::{Broken, Marks, keep_to_offer};
+use sdl_signal::StateId;
 use std::test::Fail;
 
 /// The graph's answer of this number, kept to its offer.

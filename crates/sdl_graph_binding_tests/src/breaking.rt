@@ -1,8 +1,8 @@
 //! A graph whose steps break their offer, each number in one way.
 use arrayvec::ArrayVec;
-use sdl_graph_binding::sdl_behaviour::{Dest, Frame, Offer, Step, Via};
-use sdl_graph_binding::sdl_graph::{Graph, OfferBuilder, StepBuilder};
-use sdl_graph_binding::sdl_signal::{GateId, Pid, SetId, Signal, SignalId, Sort, StateId, Value};
+use sdl_behaviour::{Dest, Frame, Offer, Step, Via};
+use sdl_graph::{Graph, OfferBuilder, StepBuilder};
+use sdl_signal::{GateId, Pid, SetId, Signal, SignalId, Sort, StateId, Value};
 
 const ASK: SignalId = SignalId(0);
 

@@ -1,10 +1,10 @@
 //! Binding by names, and the first fault of a design.
 use super::pair::{ASKER, DESIGN, PAIR, TELLER};
 use super::storing::{BoundSet, Unfit, bind_pair};
-use sdl_graph_binding::sdl_behaviour::Kind;
-use sdl_graph_binding::sdl_signal::{SetId, Value};
-use sdl_graph_binding::sdl_transition::BindFault;
+use sdl_behaviour::Kind;
 use sdl_graph_binding::{Design, GraphFault, SetDesign};
+use sdl_signal::{SetId, Value};
+use sdl_transition::BindFault;
 use std::alloc::Global;
 use std::test::Fail;
 

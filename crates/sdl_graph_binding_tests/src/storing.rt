@@ -1,6 +1,6 @@
 //! The transitions of the pair, stored and bound.
 use super::pair::Pair;
-use sdl_graph_binding::sdl_behaviour::{Behaviour, Frame, Run};
+use sdl_behaviour::{Behaviour, Frame, Run};
 use sdl_graph_binding::{Design, GraphAgents, GraphFault, Stored, bind_graph};
 use sdl_test_systems::{Stop, routes_of};
 use std::alloc::{AllocError, AllocFailed, Global};

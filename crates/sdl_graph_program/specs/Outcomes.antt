@@ -1,9 +1,9 @@
 -- What a graph's program comes to, and its exit statuses. (This project's own.)
 use Rattle.std.specs.Prelude.{◌≡◌, ℕ, ◌⊎◌, List, Option}
 use Rattle.std.specs.Io.KnownBytes.{Keeps}
-use Rattle.sdl_graph_binding.specs.sdl_parts.Structure.{Structure}
-use Rattle.sdl_graph_binding.specs.sdl_routes.declared.route.TableRow.{TableRow}
-use Rattle.sdl_file_commands.specs.sdl_command.declared.arguments.Options.{Options}
+use Rattle.sdl_parts.specs.Structure.{Structure}
+use Rattle.sdl_routes.specs.declared.route.TableRow.{TableRow}
+use Rattle.sdl_command.specs.declared.arguments.Options.{Options}
 use Rattle.sdl_file_commands.specs.Commands.{HasPrinted, HasListed}
 use Rattle.sdl_file_commands.specs.Files.{Declares}
 use Rattle.sdl_file_commands.specs.Outcomes.{HasRunBy}

@@ -1,7 +1,7 @@
 //! The texts of the faults of a graph.
 use crate::numbering::Numbered;
+use sdl_command::errors::{without_memory, write_error};
 use sdl_file_commands::faults::write_bind_fault;
-use sdl_file_commands::sdl_command::errors::{without_memory, write_error};
 use sdl_graph_binding::{Design, GraphFault};
 use std::io::Write;
 

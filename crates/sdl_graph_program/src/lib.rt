@@ -9,16 +9,12 @@ pub mod runs;
 
 pub use commands::{Prepared, prepare, prepare_file};
 pub use runs::{BROKEN, refused, run_prepared};
-pub use sdl_file_commands;
-pub use sdl_file_commands::sdl_command::status::REFUSED;
+pub use sdl_behaviour::{Dest, Frame, Kind, Offer, Run, Step, Via};
+pub use sdl_command::status::REFUSED;
 pub use sdl_file_commands::streams::{Input, Output, shared_buffer};
-pub use sdl_graph_binding;
-pub use sdl_graph_binding::sdl_behaviour::{Dest, Frame, Kind, Offer, Run, Step, Via};
-pub use sdl_graph_binding::sdl_graph::{
+pub use sdl_graph::{
     Graph, OfferBuilder, StepBuilder, boolean_parameter, boolean_variable, in_place,
     integer_parameter, integer_variable, no_offer, no_step, pid_parameter, pid_variable,
 };
-pub use sdl_graph_binding::sdl_signal::{
-    ChannelId, GateId, Pid, SetId, SignalId, Sort, StateId, Value,
-};
 pub use sdl_graph_binding::{Answering, Design, GraphFault, SetDesign, Stored, Use};
+pub use sdl_signal::{ChannelId, GateId, Pid, SetId, SignalId, Sort, StateId, Value};

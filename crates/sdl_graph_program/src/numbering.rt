@@ -7,8 +7,8 @@ use sdl_graph_binding::{Design, SetDesign};
 use std::fmt;
 use std::fmt::{Display, Formatter};
 
-/// The place of the set that has the transition of this number, where the transitions are counted through, and the number of
-/// the transition in that set, of which 0 is the start.
+/// The place of the set that has the transition of this number, where the transitions are counted through. With it comes the
+/// number of the transition in that set, of which 0 is the start.
 pub fn numbered_in(sets: &[SetDesign], number: usize) -> Option<(usize, usize)>
     ensures found { IfSome result (λ r. IsNumberedIn sets.now number r.0 r.1) }
     ensures within { IfSome result (λ r. r.0 < length sets.now) }

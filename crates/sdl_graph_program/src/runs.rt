@@ -1,20 +1,20 @@
 //! The command `run` of a graph's program, once its transitions are stored.
 ghost use Rattle.std.specs.Prelude.{◌≡◌, ◌⊎◌, MatchOption};
 ghost use Rattle.std.specs.Io.KnownBytes.{Keeps};
-ghost use Rattle.sdl_graph_binding.specs.sdl_transition.Bound.{IsBound, structure_of, routes_of};
+ghost use Rattle.sdl_transition.specs.Bound.{IsBound, structure_of, routes_of};
 ghost use Rattle.sdl_file_commands.specs.Running.{CanRun, HasBudget};
 ghost use Rattle.sdl_graph_program.specs.Outcomes.{HasRunGraphOrNot};
 
 use crate::commands::Prepared;
 use crate::faults::write_graph_fault;
 use crate::numbering::Numbered;
+use sdl_command::errors::write_error;
+use sdl_command::status::REFUSED;
 use sdl_file_commands::in_threads::run_bound_in_threads;
 use sdl_file_commands::running::Settings;
-use sdl_file_commands::sdl_command::errors::write_error;
-use sdl_file_commands::sdl_command::status::REFUSED;
-use sdl_graph_binding::sdl_graph::Graph;
-use sdl_graph_binding::sdl_transition::Bound;
+use sdl_graph::Graph;
 use sdl_graph_binding::{Broken, Design, GraphAgents, GraphFault, Marks, Stored, bind_graph};
+use sdl_transition::Bound;
 use std::alloc::Global;
 use std::io::{Read, Write};
 use std::sync::Wait;

@@ -1,5 +1,5 @@
 //! Echo as a graph, and in it an Echo whose row does not offer its output, and two that put their steps together in place.
-ghost use Rattle.sdl_graph_program.specs.Running.{CanRun};
+ghost use Rattle.sdl_file_commands.specs.Running.{CanRun};
 
 use sdl_graph_program::{
     Design, Dest, Frame, Graph, Kind, Offer, OfferBuilder, Prepared, Run, SetDesign, SignalId,

@@ -1,10 +1,10 @@
 //! Commands and runs, with their statuses.
 ghost use Rattle.std.specs.Prelude.{IfOk};
-ghost use Rattle.sdl_graph_program.specs.Running.{CanRun};
+ghost use Rattle.sdl_file_commands.specs.Running.{CanRun};
 
 use super::echo::{ABSENT, DESIGN, FILLED, MENDED, MUTE, SET, SOUND, run_echo};
+use sdl_command::arguments::{Command, Options};
 use sdl_examples::ECHO;
-use sdl_graph_program::sdl_file_commands::sdl_command::arguments::{Command, Options};
 use sdl_graph_program::{BROKEN, Design, Prepared, SetDesign, prepare_file};
 use std::alloc::Global;
 use std::test::Fail;

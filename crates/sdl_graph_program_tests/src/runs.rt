@@ -1,16 +1,14 @@
 //! Whole runs of the wheel, and what they leave.
-ghost use Rattle.sdl_graph_run.specs.sdl_graph_binding.sdl_transition.Bound.{IsBound};
+ghost use Rattle.sdl_transition.specs.Bound.{IsBound};
 
 use super::wheel::{BROKEN, DESIGN, FAULTY, SOUND, TRANSITIONS, WHEEL, Wheel};
+use sdl_behaviour::{Frame, Run};
+use sdl_graph_binding::{Broken, GraphAgents, GraphFault, Marks, Stored, bind_graph};
 use sdl_graph_run::run_graph;
-use sdl_graph_run::sdl_graph_binding::sdl_behaviour::{Frame, Run};
-use sdl_graph_run::sdl_graph_binding::sdl_transition::Bound;
-use sdl_graph_run::sdl_graph_binding::{
-    Broken, GraphAgents, GraphFault, Marks, Stored, bind_graph,
-};
-use sdl_graph_run::sdl_run::sdl_log::{Event, Keeps, Unstored};
-use sdl_graph_run::sdl_run::{RunEnd, StartFault};
+use sdl_log::{Event, Keeps, Unstored};
+use sdl_run::{RunEnd, StartFault};
 use sdl_test_systems::routes_of;
+use sdl_transition::Bound;
 use std::alloc::Global;
 use std::process::Abort;
 use std::test::Fail;

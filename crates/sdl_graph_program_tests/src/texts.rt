@@ -1,8 +1,8 @@
 //! The texts of a design's own faults.
 use super::echo::{DESIGN, SET};
 use sdl_graph_program::numbering::{Numbered, numbered_in};
-use sdl_graph_program::sdl_graph_binding::sdl_transition::BindFault;
 use sdl_graph_program::{Design, GraphFault, SetDesign, SetId, refused};
+use sdl_transition::BindFault;
 use std::test::Fail;
 
 const NO_TRANSITION: SetDesign = SetDesign {

@@ -4,5 +4,3 @@
 pub mod running;
 
 pub use running::{GraphClosing, run_graph};
-pub use sdl_graph_binding;
-pub use sdl_run;

@@ -1,15 +1,15 @@
 //! A whole run of the agents of a process graph, on one thread.
 ghost use Rattle.std.specs.Prelude.{◌≡◌, ◌≤◌, IfOk, IfErr};
-ghost use Rattle.sdl_graph_binding.specs.sdl_transition.Bound.{IsBound};
-ghost use Rattle.sdl_run.specs.sdl_driver.Closings.{HasReadIn, HasWrittenIn, StopsByMemory, IsRunOf, IsSameBound, outcome_in, plan_of_bound};
-ghost use Rattle.sdl_run.specs.sdl_driver.Ended.{HasEnded};
-ghost use Rattle.sdl_run.specs.Serial.{IsBackIn};
+ghost use Rattle.sdl_transition.specs.Bound.{IsBound};
+ghost use Rattle.sdl_driver.specs.Closings.{HasReadIn, HasWrittenIn, StopsByMemory, IsRunOf, IsSameBound, outcome_in, plan_of_bound};
+ghost use Rattle.sdl_driver.specs.Ended.{HasEnded};
+ghost use Rattle.sdl_serial_run.specs.Serial.{IsBackIn};
 
-use sdl_graph_binding::sdl_graph::Graph;
-use sdl_graph_binding::sdl_transition::Bound;
+use sdl_graph::Graph;
 use sdl_graph_binding::{Broken, GraphAgents, Marks};
-use sdl_run::sdl_log::{Event, Keeps};
+use sdl_log::{Event, Keeps};
 use sdl_run::{Closing, StartFault, run_keeping};
+use sdl_transition::Bound;
 use std::alloc::Global;
 use std::io::{Read, Write};
 

@@ -10,8 +10,8 @@ pub const NOTICE: SignalId = SignalId(2);
 
 pub const GATE: Via = Via::Gate(GateId(0));
 
-/// A row of an agent with a Pid and an Integer, in a structure of two sets: it may answer by any way, give notice of a
-/// Pid by the gate, create an instance of set 1, and lead to state 0 or 1.
+/// A row of an agent with a Pid and an Integer, in a structure of two sets: it may answer by any way and give notice
+/// of a Pid by the gate; it may create an instance of set 1, and lead to state 0 or 1.
 pub fn sample_offer() -> Offer {
     OfferBuilder::start(2, &[Sort::Pid, Sort::Integer])
         .row(StateId(0), SignalId(0), &[Sort::Integer, Sort::Boolean])

@@ -7,8 +7,8 @@ use Rattle.sdl_signal.specs.declared.values.Item.{Item}
 use Rattle.sdl_routes.specs.declared.route.TableRow.{TableRow}
 use Rattle.sdl_routes.specs.declared.route.Station.{Station}
 use Rattle.sdl_queue.specs.Ends.{FeedEnd, Opening}
-use Rattle.sdl_forward.specs.sdl_ends.Stations.{same_station}
-use Rattle.sdl_forward.specs.sdl_ends.Ends.{WorkerEnds, IsSameEnds, HasFeed, feed_at, feed_mark, put_at}
+use Rattle.sdl_ends.specs.Stations.{same_station}
+use Rattle.sdl_ends.specs.Ends.{WorkerEnds, IsSameEnds, HasFeed, feed_at, feed_mark, put_at}
 use Rattle.sdl_hand.specs.Work.{beginning_at}
 use Rattle.sdl_hand.specs.Puts.{AreRouted, IsRouted}
 use Rattle.sdl_hand.specs.PutsApart.{HasWayOut, HaveWaysOut, PutsApart, PutsOutApart}

@@ -16,8 +16,8 @@ use Rattle.sdl_instances.specs.Machine.{System}
 use Rattle.sdl_instances.specs.Run.{IsRun, arrived, sent, turns}
 use Rattle.sdl_instances.specs.Core.{IsReady, IsSound, IsLegalIn}
 use Rattle.sdl_instances.specs.Calls.{KeepsRest}
-use Rattle.sdl_forward.specs.sdl_ends.Ends.{WorkerEnds, HasFeed, put_at, taken_by}
-pub use Rattle.sdl_forward.specs.sdl_ends.Ends.{AreFresh}
+use Rattle.sdl_ends.specs.Ends.{WorkerEnds, HasFeed, put_at, taken_by}
+pub use Rattle.sdl_ends.specs.Ends.{AreFresh}
 use Rattle.sdl_hand.specs.declared.hand.Stepped.{Stepped}
 use Rattle.sdl_hand.specs.declared.hand.Stepped.TheVariants.{Did, Idle, Memory}
 use Rattle.sdl_hand.specs.Work.{Working, beginning_at}
@@ -80,8 +80,9 @@ pub record IsPuttingOut (may : ℕ → Frame → Step → Type 0) (sys : System)
   pub ways : HasOwnWays sys w.core.block ends
 
 -- What holds of a block and its ends after any number of steps: the items that arrived, in the order of the log, and then the
--- one that it keeps, are those that it took; at each station, what it put there, and then the items in hand that begin there,
--- are the sent items of the log that begin there; and the log is a run with no more turns than the budget.
+-- one that it keeps, are those that it took; at each station, what it put there stands before the items in hand that begin
+-- there. Together they are the sent items of the log that begin there; and the log is a run with no more turns than the
+-- budget.
 pub record HasPutOut (may : ℕ → Frame → Step → Type 0) (sys : System) (w : Working) (ends : WorkerEnds) : Type 0 where
   pub came : arrived w.core.log ++ option_to_list w.kept ≡ taken_by ends
   pub went : (s : Station) → put_at ends s ++ beginning_at sys.routes s w.outgoing ≡ beginning_at sys.routes s (sent w.core.log)

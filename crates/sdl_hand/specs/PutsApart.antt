@@ -3,7 +3,7 @@ use Rattle.std.specs.Prelude.{◌≡◌, Bool, true, false, List, [], ◌++◌, 
 use Rattle.sdl_signal.specs.declared.values.Item.{Item}
 use Rattle.sdl_routes.specs.declared.route.TableRow.{TableRow}
 use Rattle.sdl_routes.specs.declared.route.Station.{Station}
-use Rattle.sdl_forward.specs.sdl_ends.Ends.{WorkerEnds, IsSameEnds, HasFeed, put_at}
+use Rattle.sdl_ends.specs.Ends.{WorkerEnds, IsSameEnds, HasFeed, put_at}
 use Rattle.sdl_hand.specs.declared.hand.Refused.{Refused}
 use Rattle.sdl_hand.specs.Work.{beginning_at, first_station}
 

@@ -14,7 +14,7 @@ use Rattle.sdl_instances.specs.Run.{arrived, sent, turns}
 use Rattle.sdl_instances.specs.Core.{Core, IsReady, IsSound, IsLegalIn}
 use Rattle.sdl_instances.specs.Calls.{KeepsRest}
 use Rattle.sdl_forward.specs.Boards.{stations_of, waiting}
-pub use Rattle.sdl_forward.specs.sdl_ends.Stations.{is_station}
+pub use Rattle.sdl_ends.specs.Stations.{is_station}
 use Rattle.sdl_hand.specs.declared.hand.Stepped.{Stepped}
 use Rattle.sdl_hand.specs.declared.hand.Stepped.TheVariants.{Did, Idle, Memory}
 

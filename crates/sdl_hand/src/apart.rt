@@ -1,12 +1,12 @@
 //! Putting out what is in hand where each queue has ends of its own.
 ghost use Rattle.std.specs.Prelude.{◌≡◌, ◌≢◌, ◌<◌, ◌≤◌, ◌∷◌, [], length, IfErr, IfSome, MatchOption, MatchResult};
 ghost use Rattle.sdl_signal.specs.declared.values.Item.{Item};
-ghost use Rattle.sdl_forward.specs.sdl_ends.Ends.{IsSameEnds};
+ghost use Rattle.sdl_ends.specs.Ends.{IsSameEnds};
 ghost use Rattle.sdl_hand.specs.Puts.{AreRouted, IsRouted};
 ghost use Rattle.sdl_hand.specs.PutsApart.{HasWayOut, HaveWaysOut, PutsApart, PutsOutApart};
 
 use crate::hand::{Hand, Refused};
-use sdl_forward::sdl_ends::Ends;
+use sdl_ends::Ends;
 use sdl_routes::Routes;
 use sdl_signal::Item;
 use std::sync::Wait;

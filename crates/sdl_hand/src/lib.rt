@@ -6,6 +6,3 @@ pub mod hand;
 mod putting;
 
 pub use hand::{Hand, Refused, Stepped, answer_of};
-pub use sdl_forward;
-pub use sdl_forward::{sdl_ends, sdl_opening};
-pub use sdl_instances;

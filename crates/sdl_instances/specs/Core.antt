@@ -82,7 +82,7 @@ sets_of s = map numbers_of s.sets
 abbrev pub HasSortsIn : List (List Sort) → SignalSorts → Type 0
 HasSortsIn signals signal = slice_get signals signal.id.0 ≡ Some signal.sorts.items
 
--- The offer is for the variables of the set, the signals that it outputs have the structure's sorts, and the sets that it
+-- The offer is for the variables of the set. The signals that it outputs have the structure's sorts, and the sets that it
 -- creates are sets of the block.
 pub record IsOfferIn (signals : List (List Sort)) (sets : List ProcessSet) (block : BlockId) (values : List Value) (o : Offer) : Type 0 where
   pub sorts : AreOfSorts values o.vars.items
@@ -103,7 +103,7 @@ pub record AreRulesIn (signals : List (List Sort)) (sets : List ProcessSet) (blo
   pub at_start : (r.start.offer.state ≡ None) × (r.start.offer.signal ≡ None)
   pub rows : AllByRecursion (IsRowIn signals sets block r.vars) r.rows
 
--- Each set of the block has rules, all the rules are of the system, and a set has at most 1,024 instances, and no
+-- Each set of the block has rules, and all the rules are of the system. A set has at most 1,024 instances, and no
 -- more at first.
 pub record IsBoundIn (signals : List (List Sort)) (sets : List ProcessSet) (rules : List Rules) (block : BlockId) : Type 0 where
   pub every : (set : SetId) (d : ProcessSet) → slice_get sets set.0 ≡ Some d → d.block ≡ block → (r : Rules) × (rules_for rules set ≡ Some r)
@@ -116,8 +116,8 @@ HasSerial last (pid.Inst set serial) = (set.0 < length last) × (1 ≤ serial) �
 HasSerial last pid.Null = ⊥
 HasSerial last pid.Env = ⊥
 
--- A living instance is legal: its set has rules, its variables have their sorts, the items of its port are legal, and each
--- Pid that it knows has a set of the structure and a serial number of at least 1.
+-- A living instance is legal: its set has rules; its variables have their sorts; the items of its port are legal. Each Pid
+-- that it knows has a set of the structure and a serial number of at least 1.
 pub record IsLegalInstance (sys : System) (last : List ℕ) (e : Pid × Record) : Type 0 where
   pub rules : (r : Rules) × (rules_at sys e.0 ≡ Some r) × (map sort_of e.1.vars ≡ map sort_of r.vars)
   pub serial : HasSerial last e.0

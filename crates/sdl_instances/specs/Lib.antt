@@ -1,5 +1,3 @@
-pub use Rattle.sdl_processes.specs.Record
-pub use Rattle.sdl_processes.specs.Places
 pub mod Legal
 pub mod Machine
 pub mod Run

@@ -69,9 +69,10 @@ impl<S: Agents, K: Keeps> BlockCore<S, K> {
         }
     }
 
-    /// Lets an item arrive. It enters the port of the instance that its output named, or of the living one of the set at
-    /// the end of its route at `pick` modulo their number, in order of creation. It is discarded where there is none.
-    /// A refusal changes nothing and hands the item back. The instance is found without a scan over the living ones.
+    /// Lets an item arrive. It enters the port of the instance that its output named. Where none was named, it enters
+    /// that of the living one of the set at the route's end at `pick` modulo their number, in order of creation. It is
+    /// discarded where there is none. A refusal changes nothing and hands the item back. The instance is found without a
+    /// scan over the living ones.
     #[inline(always)]
     pub fn arrive(
         &mut self,
@@ -126,9 +127,10 @@ impl<S: Agents, K: Keeps> BlockCore<S, K> {
         self.table.arrive_from(routes, slot, pick)
     }
 
-    /// Lets the ready instance at `pick` modulo their number, in order of creation, make its start transition, or consume the
-    /// signal at the front of its port by its row or by the implicit transition (Z.101, the transition of an agent). Each
-    /// counts one against the budget. The outputs take the fitting route at the same pick. A refusal changes nothing.
+    /// Lets the ready instance at `pick` modulo their number, in order of creation, make a turn: its start transition, or the
+    /// consuming of the signal at the front of its port. That signal is consumed by its row or by the implicit transition
+    /// (Z.101, the transition of an agent). Each counts one against the budget. The outputs take the fitting route at the
+    /// same pick. A refusal changes nothing.
     pub fn turn(&mut self, routes: &Routes, pick: u32) -> Result<Turned, AllocError>
         requires sound { IsSound S.may (system_in self.old routes.now) (core_of self.old) }
         requires parts { CanFire S.may (parts_of self.old) }

@@ -19,8 +19,8 @@ use sdl_signal::{Item, Pid, SetId, Signal, Value};
 use sdl_transition::{Dest, Frame, Next};
 use std::alloc::{AllocError, Global};
 
-/// The living instances of a block in the order of their creation, and the last serial number that each set of the
-/// structure has given out.
+/// The living instances of a block in the order of their creation. With them stands the last serial number that
+/// each set of the structure has given out.
 #[derive(Drop)]
 pub struct Living {
     pub(crate) alloc: Global,

@@ -13,8 +13,8 @@ use sdl_transition::Agents;
 use std::alloc::Global;
 use std::process::Abort;
 
-/// The serial numbers of the living Kids in the order of their creation, the last one given out, and what the random
-/// numbers go on from.
+/// The serial numbers of the living Kids in the order of their creation, the last one given out, and where the
+/// random numbers go on.
 #[derive(Drop)]
 pub struct Known {
     pub living: Vec<u32>,

@@ -13,23 +13,23 @@ use Rattle.sdl_routes.specs.declared.route.TableRow.{TableRow}
 use Rattle.sdl_routes.specs.declared.route.Station.{Station}
 use Rattle.sdl_behaviour.specs.declared.step.Frame.{Frame}
 use Rattle.sdl_behaviour.specs.declared.step.Step.{Step}
-use Rattle.sdl_order.specs.sdl_instances.declared.process_set.ProcessSet.{ProcessSet}
-use Rattle.sdl_order.specs.sdl_instances.Run.{arrived, sent}
-use Rattle.sdl_order.specs.sdl_instances.Core.{IsLegalIn, numbers_of}
-use Rattle.sdl_environment.specs.sdl_ends.Ends.{WorkerEnds, HasFeed, put_at, taken_by}
-use Rattle.sdl_order.specs.sdl_opening.declared.worker.Worker.{Worker}
-use Rattle.sdl_order.specs.sdl_opening.declared.worker.Worker.TheVariants.{Block, Environment, Forwarder}
-use Rattle.sdl_order.specs.sdl_opening.Workers.{first, starter, worker_of_set}
-use Rattle.sdl_order.specs.sdl_opening.Opens.{Brings, AreOpen, ends_of}
-use Rattle.sdl_order.specs.sdl_forward.Forwards.{Forwarding}
-use Rattle.sdl_order.specs.sdl_forward.HandsOn.{IsHandingOn}
-use Rattle.sdl_order.specs.sdl_hand.Work.{Working}
-use Rattle.sdl_order.specs.sdl_hand.Apart.{IsPuttingOut, HasOwnWays, StartsIn}
-use Rattle.sdl_order.specs.sdl_outcome.Plan.{Plan, IsPlan, blocks_in, lines_of, workers_of, ways_of, system_at}
-use Rattle.sdl_order.specs.sdl_outcome.declared.environment_output.EnvOut.{EnvOut}
-use Rattle.sdl_order.specs.sdl_outcome.EnvironmentWork.{EnvWorking, IsEnvFresh, IsLegalItem, ComesIn, AreCounted, env_sent, env_origins}
-use Rattle.sdl_order.proofs.outcome.Lists.{all_at}
-use Rattle.sdl_order.proofs.outcome.Ways.{stations_at, start_at}
+use Rattle.sdl_instances.specs.declared.process_set.ProcessSet.{ProcessSet}
+use Rattle.sdl_instances.specs.Run.{arrived, sent}
+use Rattle.sdl_instances.specs.Core.{IsLegalIn, numbers_of}
+use Rattle.sdl_ends.specs.Ends.{WorkerEnds, HasFeed, put_at, taken_by}
+use Rattle.sdl_opening.specs.declared.worker.Worker.{Worker}
+use Rattle.sdl_opening.specs.declared.worker.Worker.TheVariants.{Block, Environment, Forwarder}
+use Rattle.sdl_opening.specs.Workers.{first, starter, worker_of_set}
+use Rattle.sdl_opening.specs.Opens.{Brings, AreOpen, ends_of}
+use Rattle.sdl_forward.specs.Forwards.{Forwarding}
+use Rattle.sdl_forward.specs.HandsOn.{IsHandingOn}
+use Rattle.sdl_hand.specs.Work.{Working}
+use Rattle.sdl_hand.specs.Apart.{IsPuttingOut, HasOwnWays, StartsIn}
+use Rattle.sdl_outcome.specs.Plan.{Plan, IsPlan, blocks_in, lines_of, workers_of, ways_of, system_at}
+use Rattle.sdl_outcome.specs.declared.environment_output.EnvOut.{EnvOut}
+use Rattle.sdl_outcome.specs.EnvironmentWork.{EnvWorking, IsEnvFresh, IsLegalItem, ComesIn, AreCounted, env_sent, env_origins}
+use Rattle.sdl_outcome.proofs.Lists.{all_at}
+use Rattle.sdl_outcome.proofs.Ways.{stations_at, start_at}
 use Rattle.sdl_order.specs.Driver.{Site, IsCoreAt}
 use Rattle.sdl_order.proofs.StepEnvironment.{env_starts}
 use Rattle.sdl_order.proofs.ForwarderStep.{next_is}

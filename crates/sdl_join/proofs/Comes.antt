@@ -11,25 +11,25 @@ use Rattle.sdl_routes.specs.declared.route.Station.{Station}
 use Rattle.sdl_routes.specs.declared.route.Station.TheVariants.{Line}
 use Rattle.sdl_behaviour.specs.declared.step.Frame.{Frame}
 use Rattle.sdl_behaviour.specs.declared.step.Step.{Step}
-use Rattle.sdl_order.specs.sdl_instances.Run.{arrived, sent}
+use Rattle.sdl_instances.specs.Run.{arrived, sent}
 use Rattle.sdl_queue.specs.declared.rest.Rest.{Rest}
-use Rattle.sdl_environment.specs.sdl_ends.Ends.{WorkerEnds, no_ends, taken_by, AreRejoined}
-use Rattle.sdl_order.specs.sdl_opening.declared.worker.Worker.{Worker}
-use Rattle.sdl_order.specs.sdl_opening.declared.worker.Worker.TheVariants.{Block, Environment, Forwarder}
-use Rattle.sdl_order.specs.sdl_opening.Workers.{Ways, IsAgent, Among, next}
-use Rattle.sdl_order.specs.sdl_opening.Opens.{AreOpen, ends_of}
-use Rattle.sdl_order.specs.sdl_opening.Used.{AreUsed}
-use Rattle.sdl_order.proofs.opening.Using.{used_length}
-use Rattle.sdl_order.specs.sdl_forward.Boards.{waiting, lists_of, IsBoardOf, AreAllStations}
-use Rattle.sdl_order.specs.sdl_forward.Forwards.{Forwarding, next_station}
-use Rattle.sdl_order.specs.sdl_forward.HandsOn.{IsHandingOn, going_to}
-use Rattle.sdl_order.specs.sdl_hand.Work.{Working, is_station}
-use Rattle.sdl_order.specs.sdl_hand.Apart.{IsPuttingOut}
-use Rattle.sdl_order.specs.sdl_outcome.Steps.{bound_for}
-use Rattle.sdl_order.specs.sdl_outcome.Plan.{Plan, IsPlan, MayTravel, blocks_in, lines_of, workers_of, ways_of, system_at}
-use Rattle.sdl_order.specs.sdl_outcome.EnvironmentWork.{ComesIn, env_sent}
-use Rattle.sdl_order.proofs.outcome.Lists.{filter_agrees}
-use Rattle.sdl_order.proofs.outcome.Workers.{workers_once}
+use Rattle.sdl_ends.specs.Ends.{WorkerEnds, no_ends, taken_by, AreRejoined}
+use Rattle.sdl_opening.specs.declared.worker.Worker.{Worker}
+use Rattle.sdl_opening.specs.declared.worker.Worker.TheVariants.{Block, Environment, Forwarder}
+use Rattle.sdl_opening.specs.Workers.{Ways, IsAgent, Among, next}
+use Rattle.sdl_opening.specs.Opens.{AreOpen, ends_of}
+use Rattle.sdl_opening.specs.Used.{AreUsed}
+use Rattle.sdl_opening.proofs.Using.{used_length}
+use Rattle.sdl_forward.specs.Boards.{waiting, lists_of, IsBoardOf, AreAllStations}
+use Rattle.sdl_forward.specs.Forwards.{Forwarding, next_station}
+use Rattle.sdl_forward.specs.HandsOn.{IsHandingOn, going_to}
+use Rattle.sdl_hand.specs.Work.{Working, is_station}
+use Rattle.sdl_hand.specs.Apart.{IsPuttingOut}
+use Rattle.sdl_outcome.specs.Steps.{bound_for}
+use Rattle.sdl_outcome.specs.Plan.{Plan, IsPlan, MayTravel, blocks_in, lines_of, workers_of, ways_of, system_at}
+use Rattle.sdl_outcome.specs.EnvironmentWork.{ComesIn, env_sent}
+use Rattle.sdl_outcome.proofs.Lists.{filter_agrees}
+use Rattle.sdl_outcome.proofs.Workers.{workers_once}
 use Rattle.sdl_order.specs.Driver.{Site, site_books, held_at}
 use Rattle.sdl_order.proofs.BlockStep.{bound_is}
 use Rattle.sdl_order.proofs.StepEnvironment.{env_bound_is}

@@ -4,12 +4,12 @@ use Rattle.std.proofs.lemmas.Option.{none-some, same_Some}
 use Rattle.std.specs.List.{AllByRecursion}
 use Rattle.sdl_routes.specs.declared.route.Station.{Station}
 use Rattle.sdl_queue.specs.Ends.{Opening, TapEnd}
-use Rattle.sdl_environment.specs.sdl_ends.Ends.{WorkerEnds, feed_mark, tap_mark, IsSameEnds}
-use Rattle.sdl_order.specs.sdl_opening.declared.worker.Worker.{Worker}
-use Rattle.sdl_order.specs.sdl_opening.Workers.{Among, same_worker}
-use Rattle.sdl_order.specs.sdl_opening.Opens.{AreOwnEnds, ends_of}
-use Rattle.sdl_order.specs.sdl_opening.Used.{AreUsed}
-use Rattle.sdl_order.proofs.outcome.Lists.{all_map}
+use Rattle.sdl_ends.specs.Ends.{WorkerEnds, feed_mark, tap_mark, IsSameEnds}
+use Rattle.sdl_opening.specs.declared.worker.Worker.{Worker}
+use Rattle.sdl_opening.specs.Workers.{Among, same_worker}
+use Rattle.sdl_opening.specs.Opens.{AreOwnEnds, ends_of}
+use Rattle.sdl_opening.specs.Used.{AreUsed}
+use Rattle.sdl_outcome.proofs.Lists.{all_map}
 
 pub all_unmap : {X Y : Type 0} (P : Y → Type 0) (f : X → Y) (xs : List X) → AllByRecursion P (map f xs) → AllByRecursion (λ x. P (f x)) xs
 all_unmap P f [] h = tt

@@ -14,17 +14,17 @@ use Rattle.sdl_queue.specs.declared.rule.PutList.{PutList}
 use Rattle.sdl_queue.specs.DelayLine.{items_by, HasNumber}
 use Rattle.sdl_queue.specs.Ends.{Opening, OfQueue, OfRing, FeedEnd, TapEnd, Account, items_of, put_of}
 use Rattle.sdl_queue.specs.Rest.{left_in, tags, IsRestOf}
-use Rattle.sdl_environment.specs.sdl_ends.Stations.{same_station, stations_of}
-use Rattle.sdl_order.specs.sdl_forward.Boards.{waiting, lists_of}
-use Rattle.sdl_order.specs.sdl_opening.declared.worker.Worker.{Worker}
-use Rattle.sdl_order.specs.sdl_opening.Workers.{Among, place, taker, same_worker}
-use Rattle.sdl_order.specs.sdl_opening.Opens.{AreOwnEnds, ends_of}
-use Rattle.sdl_order.proofs.opening.Bringing.{among_left, among_right}
-use Rattle.sdl_order.proofs.outcome.Lists.{all_weaker}
-use Rattle.sdl_order.proofs.outcome.Comparisons.{same_station_is, same_station_itself}
-use Rattle.sdl_order.proofs.outcome.AlongStations.{place_taker}
-use Rattle.sdl_order.proofs.outcome.Workers.{taker_place}
-use Rattle.sdl_environment.specs.sdl_ends.Ends.{WorkerEnds, feed_at, put_at, number_at, taken_by, tap_at, column, taps, IsRejoinedAt, AreRejoined}
+use Rattle.sdl_ends.specs.Stations.{same_station, stations_of}
+use Rattle.sdl_forward.specs.Boards.{waiting, lists_of}
+use Rattle.sdl_opening.specs.declared.worker.Worker.{Worker}
+use Rattle.sdl_opening.specs.Workers.{Among, place, taker, same_worker}
+use Rattle.sdl_opening.specs.Opens.{AreOwnEnds, ends_of}
+use Rattle.sdl_opening.proofs.Bringing.{among_left, among_right}
+use Rattle.sdl_outcome.proofs.Lists.{all_weaker}
+use Rattle.sdl_outcome.proofs.Comparisons.{same_station_is, same_station_itself}
+use Rattle.sdl_outcome.proofs.AlongStations.{place_taker}
+use Rattle.sdl_outcome.proofs.Workers.{taker_place}
+use Rattle.sdl_ends.specs.Ends.{WorkerEnds, feed_at, put_at, number_at, taken_by, tap_at, column, taps, IsRejoinedAt, AreRejoined}
 use Rattle.sdl_join.proofs.Places.{ends_behind, ends_here}
 use Rattle.sdl_join.proofs.Kept.{all_unmap}
 use Rattle.sdl_join.specs.Lanes.{IsLane, no_account, account_in, account_at}

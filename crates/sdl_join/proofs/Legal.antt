@@ -4,12 +4,12 @@ use Rattle.std.proofs.lemmas.Bool.{eq-eqb}
 use Rattle.std.specs.List.{flat_map, AllByRecursion}
 use Rattle.sdl_signal.specs.declared.values.Item.{Item}
 use Rattle.sdl_routes.specs.declared.route.Station.{Station}
-use Rattle.sdl_order.specs.sdl_opening.declared.worker.Worker.{Worker}
-use Rattle.sdl_order.specs.sdl_opening.Workers.{Ways, IsAgent, Among}
-use Rattle.sdl_order.specs.sdl_outcome.Stations.{Leads, AreWays, IsWay}
-use Rattle.sdl_order.specs.sdl_outcome.Books.{Books, InOrder, of_route, outs, came, left, standing}
-use Rattle.sdl_order.proofs.outcome.Lists.{all_front, all_end, all_filter}
-use Rattle.sdl_order.proofs.outcome.Along.{back_from}
+use Rattle.sdl_opening.specs.declared.worker.Worker.{Worker}
+use Rattle.sdl_opening.specs.Workers.{Ways, IsAgent, Among}
+use Rattle.sdl_outcome.specs.Stations.{Leads, AreWays, IsWay}
+use Rattle.sdl_outcome.specs.Books.{Books, InOrder, of_route, outs, came, left, standing}
+use Rattle.sdl_outcome.proofs.Lists.{all_front, all_end, all_filter}
+use Rattle.sdl_outcome.proofs.Along.{back_from}
 
 of_route_tail : (P : Item → Type 0) (b : Bool) (x : Item) (xs : List Item) → AllByRecursion P (cond b (x ∷ xs) xs) → AllByRecursion P xs
 of_route_tail P true x xs h = h.1

@@ -12,19 +12,19 @@ use Rattle.sdl_routes.specs.declared.route.Station.TheVariants.{Line, Inlet, Out
 use Rattle.sdl_queue.specs.declared.rule.Tagged.{Tagged}
 use Rattle.sdl_queue.specs.DelayLine.{items_by}
 use Rattle.sdl_queue.specs.Ends.{FeedEnd, Account, items_of}
-use Rattle.sdl_order.specs.sdl_opening.declared.worker.Worker.{Worker}
-use Rattle.sdl_order.specs.sdl_opening.declared.worker.Worker.TheVariants.{Block, Environment, Forwarder}
-use Rattle.sdl_environment.specs.sdl_ends.Stations.{station_behind}
-use Rattle.sdl_order.specs.sdl_opening.Workers.{Ways, IsAgent, Among, first, next, place, taker}
-use Rattle.sdl_order.specs.sdl_hand.Work.{is_station}
-use Rattle.sdl_order.specs.sdl_outcome.Stations.{Leads, AreWays, IsWay, Once}
-use Rattle.sdl_order.specs.sdl_outcome.Books.{Books, InOrder, of_route, outs, came, left, standing}
-use Rattle.sdl_order.specs.sdl_outcome.Steps.{bound_for}
-use Rattle.sdl_order.proofs.outcome.Lists.{all_front, all_end, all_append, all_weaker, all_both, all_every, all_map, all_passes, all_filter, filter_within, filter_none}
-use Rattle.sdl_order.specs.sdl_opening.Opens.{Brings}
-use Rattle.sdl_order.proofs.outcome.AlongStations.{before_one, next_among, place_taker, after_rest, after_itself, next_agent}
-use Rattle.sdl_order.proofs.outcome.Along.{same_route, is_station_is, route_bound, way, ways, head, first_way, back_from}
-use Rattle.sdl_environment.specs.sdl_ends.Ends.{WorkerEnds, feed_at, put_at, number_at, taken_by}
+use Rattle.sdl_opening.specs.declared.worker.Worker.{Worker}
+use Rattle.sdl_opening.specs.declared.worker.Worker.TheVariants.{Block, Environment, Forwarder}
+use Rattle.sdl_ends.specs.Stations.{station_behind}
+use Rattle.sdl_opening.specs.Workers.{Ways, IsAgent, Among, first, next, place, taker}
+use Rattle.sdl_hand.specs.Work.{is_station}
+use Rattle.sdl_outcome.specs.Stations.{Leads, AreWays, IsWay, Once}
+use Rattle.sdl_outcome.specs.Books.{Books, InOrder, of_route, outs, came, left, standing}
+use Rattle.sdl_outcome.specs.Steps.{bound_for}
+use Rattle.sdl_outcome.proofs.Lists.{all_front, all_end, all_append, all_weaker, all_both, all_every, all_map, all_passes, all_filter, filter_within, filter_none}
+use Rattle.sdl_opening.specs.Opens.{Brings}
+use Rattle.sdl_outcome.proofs.AlongStations.{before_one, next_among, place_taker, after_rest, after_itself, next_agent}
+use Rattle.sdl_outcome.proofs.Along.{same_route, is_station_is, route_bound, way, ways, head, first_way, back_from}
+use Rattle.sdl_ends.specs.Ends.{WorkerEnds, feed_at, put_at, number_at, taken_by}
 use Rattle.sdl_join.specs.Joins.{given, pending, Joined}
 
 all_forall : {X Y : Type 0} (Q : Y → X → Type 0) (xs : List X) → ((y : Y) → AllByRecursion (Q y) xs) → AllByRecursion (λ x. (y : Y) → Q y x) xs

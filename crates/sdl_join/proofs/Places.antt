@@ -6,18 +6,18 @@ use Rattle.std.specs.Option.{option_to_list}
 use Rattle.sdl_signal.specs.declared.ids.BlockId.{BlockId}
 use Rattle.sdl_routes.specs.declared.route.Hop.{Hop}
 use Rattle.sdl_routes.specs.Routes.{EachOnce}
-use Rattle.sdl_environment.specs.sdl_ends.Stations.{same_hop}
-use Rattle.sdl_environment.specs.sdl_ends.Ends.{WorkerEnds, no_ends}
-use Rattle.sdl_order.specs.sdl_opening.declared.worker.Worker.{Worker}
-use Rattle.sdl_order.specs.sdl_opening.declared.worker.Worker.TheVariants.{Block, Environment, Forwarder}
-use Rattle.sdl_order.specs.sdl_opening.Workers.{Among, same_worker, blocks_from}
-use Rattle.sdl_order.specs.sdl_opening.Opens.{ends_of}
-use Rattle.sdl_order.proofs.opening.Distributing.{place_get}
-use Rattle.sdl_order.specs.sdl_forward.Forwards.{Forwarding}
-use Rattle.sdl_order.specs.sdl_outcome.Plan.{Plan, blocks_in, lines_of, workers_of}
-use Rattle.sdl_order.proofs.outcome.Comparisons.{same_hop_is, same_hop_itself, same_worker_is, same_worker_itself}
-use Rattle.sdl_order.proofs.outcome.Lists.{all_at}
-use Rattle.sdl_order.proofs.outcome.Workers.{workers_once, count_blocks}
+use Rattle.sdl_ends.specs.Stations.{same_hop}
+use Rattle.sdl_ends.specs.Ends.{WorkerEnds, no_ends}
+use Rattle.sdl_opening.specs.declared.worker.Worker.{Worker}
+use Rattle.sdl_opening.specs.declared.worker.Worker.TheVariants.{Block, Environment, Forwarder}
+use Rattle.sdl_opening.specs.Workers.{Among, same_worker, blocks_from}
+use Rattle.sdl_opening.specs.Opens.{ends_of}
+use Rattle.sdl_opening.proofs.Distributing.{place_get}
+use Rattle.sdl_forward.specs.Forwards.{Forwarding}
+use Rattle.sdl_outcome.specs.Plan.{Plan, blocks_in, lines_of, workers_of}
+use Rattle.sdl_outcome.proofs.Comparisons.{same_hop_is, same_hop_itself, same_worker_is, same_worker_itself}
+use Rattle.sdl_outcome.proofs.Lists.{all_at}
+use Rattle.sdl_outcome.proofs.Workers.{workers_once, count_blocks}
 use Rattle.sdl_order.specs.Driver.{held_at}
 
 -- another worker's ends are looked for further on

@@ -4,9 +4,9 @@ use Rattle.std.proofs.lemmas.Option.{none-some, same_Some}
 use Rattle.sdl_signal.specs.declared.values.Item.{Item}
 use Rattle.sdl_routes.specs.declared.route.Station.TheVariants.{Outlet}
 use Rattle.sdl_queue.specs.DelayLine.{items_by}
-use Rattle.sdl_environment.specs.sdl_ends.Ends.{put_at, number_at}
-use Rattle.sdl_order.specs.sdl_opening.declared.worker.Worker.{Worker}
-use Rattle.sdl_order.specs.sdl_opening.declared.worker.Worker.TheVariants.{Block, Environment, Forwarder}
+use Rattle.sdl_ends.specs.Ends.{put_at, number_at}
+use Rattle.sdl_opening.specs.declared.worker.Worker.{Worker}
+use Rattle.sdl_opening.specs.declared.worker.Worker.TheVariants.{Block, Environment, Forwarder}
 use Rattle.sdl_join.specs.Lanes.{IsLane}
 use Rattle.sdl_join.specs.Rows.{tagged, block_ends, two_feeders, with_left}
 

@@ -9,20 +9,20 @@ use Rattle.sdl_routes.specs.declared.route.Station.TheVariants.{Line, Outlet}
 use Rattle.sdl_behaviour.specs.declared.step.Frame.{Frame}
 use Rattle.sdl_behaviour.specs.declared.step.Step.{Step}
 use Rattle.sdl_queue.specs.Ends.{Account}
-use Rattle.sdl_order.specs.sdl_instances.Run.{sent}
-use Rattle.sdl_order.specs.sdl_hand.Work.{Working}
-use Rattle.sdl_order.specs.sdl_opening.declared.worker.Worker.{Worker}
-use Rattle.sdl_order.specs.sdl_opening.declared.worker.Worker.TheVariants.{Block, Environment, Forwarder}
-use Rattle.sdl_order.specs.sdl_opening.Workers.{IsAgent, Among, starter}
-use Rattle.sdl_order.specs.sdl_outcome.Books.{Books, InOrder, standing}
-use Rattle.sdl_order.specs.sdl_outcome.Plan.{Plan, IsPlan, MayTravel, ways_of}
-use Rattle.sdl_order.specs.sdl_outcome.EnvironmentWork.{ComesIn, GoesOut, env_sent}
+use Rattle.sdl_instances.specs.Run.{sent}
+use Rattle.sdl_hand.specs.Work.{Working}
+use Rattle.sdl_opening.specs.declared.worker.Worker.{Worker}
+use Rattle.sdl_opening.specs.declared.worker.Worker.TheVariants.{Block, Environment, Forwarder}
+use Rattle.sdl_opening.specs.Workers.{IsAgent, Among, starter}
+use Rattle.sdl_outcome.specs.Books.{Books, InOrder, standing}
+use Rattle.sdl_outcome.specs.Plan.{Plan, IsPlan, MayTravel, ways_of}
+use Rattle.sdl_outcome.specs.EnvironmentWork.{ComesIn, GoesOut, env_sent}
 use Rattle.sdl_order.specs.Driver.{Site, site_books, kept_by, IsAtWork}
-use Rattle.sdl_order.proofs.outcome.Lists.{all_front, all_end, all_weaker}
+use Rattle.sdl_outcome.proofs.Lists.{all_front, all_end, all_weaker}
 use Rattle.sdl_order.proofs.Starts.{block, run_starts}
 use Rattle.sdl_order.proofs.Quiet.{passing, route_at, station_cases, last_outlet}
-use Rattle.sdl_order.proofs.outcome.Ways.{ways_are}
-use Rattle.sdl_environment.specs.sdl_ends.Ends.{WorkerEnds}
+use Rattle.sdl_outcome.proofs.Ways.{ways_are}
+use Rattle.sdl_ends.specs.Ends.{WorkerEnds}
 use Rattle.sdl_join.specs.Joins.{HasPut, given, pending, Joined, kept_with, IsJoined}
 use Rattle.sdl_join.proofs.Order.{keeps_order}
 use Rattle.sdl_join.proofs.Legal.{standing_all}

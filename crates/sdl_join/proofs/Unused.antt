@@ -11,11 +11,11 @@ use Rattle.sdl_queue.specs.declared.rule.PutList.{PutList}
 use Rattle.sdl_queue.specs.Rest.{left_in, IsRestOf}
 use Rattle.sdl_queue.specs.DelayLine.{Covers, IsEachPut}
 use Rattle.sdl_queue.specs.Ends.{Opening, OfQueue, OfRing, FeedEnd, TapEnd, Account, put_of, put_list, fresh_feed, fresh_feeds}
-use Rattle.sdl_environment.specs.sdl_ends.Stations.{same_station}
-use Rattle.sdl_environment.specs.sdl_ends.Ends.{WorkerEnds, IsSameEnds, column, IsWholeAt, AreAllEndsOf, IsRejoinedAt, AreRejoined}
-use Rattle.sdl_order.specs.sdl_opening.Opens.{IsLineOfOne, IsOpenedAs, IsFreshAt, fresh_tap}
-use Rattle.sdl_order.specs.sdl_opening.Used.{AreUsed}
-use Rattle.sdl_order.specs.sdl_forward.Boards.{waiting, lists_of}
+use Rattle.sdl_ends.specs.Stations.{same_station}
+use Rattle.sdl_ends.specs.Ends.{WorkerEnds, IsSameEnds, column, IsWholeAt, AreAllEndsOf, IsRejoinedAt, AreRejoined}
+use Rattle.sdl_opening.specs.Opens.{IsLineOfOne, IsOpenedAs, IsFreshAt, fresh_tap}
+use Rattle.sdl_opening.specs.Used.{AreUsed}
+use Rattle.sdl_forward.specs.Boards.{waiting, lists_of}
 
 -- the feeds of an opening have put nothing
 unput : (o : Opening) (ns : List ℕ) → IsEachPut (map put_of (map (fresh_feed o) ns)) [] []

@@ -4,13 +4,13 @@ use Rattle.std.specs.List.{AllByRecursion}
 use Rattle.sdl_signal.specs.declared.values.Item.{Item}
 use Rattle.sdl_behaviour.specs.declared.step.Frame.{Frame}
 use Rattle.sdl_behaviour.specs.declared.step.Step.{Step}
-use Rattle.sdl_environment.specs.sdl_ends.Ends.{WorkerEnds}
-use Rattle.sdl_order.specs.sdl_forward.Forwards.{Forwarding}
-use Rattle.sdl_order.specs.sdl_forward.HandsOn.{IsHandingOn}
-use Rattle.sdl_order.specs.sdl_hand.Work.{Working}
-use Rattle.sdl_order.specs.sdl_hand.Apart.{IsPuttingOut}
-use Rattle.sdl_order.specs.sdl_outcome.Plan.{Plan, blocks_in, lines_of, system_at}
-use Rattle.sdl_order.specs.sdl_outcome.EnvironmentWork.{IsEnvFresh}
+use Rattle.sdl_ends.specs.Ends.{WorkerEnds}
+use Rattle.sdl_forward.specs.Forwards.{Forwarding}
+use Rattle.sdl_forward.specs.HandsOn.{IsHandingOn}
+use Rattle.sdl_hand.specs.Work.{Working}
+use Rattle.sdl_hand.specs.Apart.{IsPuttingOut}
+use Rattle.sdl_outcome.specs.Plan.{Plan, blocks_in, lines_of, system_at}
+use Rattle.sdl_outcome.specs.EnvironmentWork.{IsEnvFresh}
 use Rattle.sdl_order.specs.Driver.{Site, IsCoreAt}
 use Rattle.sdl_environment.specs.EnvApart.{IsEnvPuttingOut}
 

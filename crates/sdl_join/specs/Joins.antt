@@ -7,17 +7,17 @@ use Rattle.sdl_routes.specs.declared.route.Station.{Station}
 use Rattle.sdl_behaviour.specs.declared.step.Frame.{Frame}
 use Rattle.sdl_behaviour.specs.declared.step.Step.{Step}
 use Rattle.sdl_queue.specs.Ends.{Account, items_of}
-use Rattle.sdl_environment.specs.sdl_ends.Ends.{WorkerEnds, put_at, taken_by}
-use Rattle.sdl_order.specs.sdl_opening.declared.worker.Worker.{Worker}
-use Rattle.sdl_order.specs.sdl_opening.declared.worker.Worker.TheVariants.{Block, Environment, Forwarder}
-use Rattle.sdl_order.specs.sdl_opening.Workers.{Ways, IsAgent}
-use Rattle.sdl_order.specs.sdl_forward.Boards.{waiting, IsBoardOf}
-use Rattle.sdl_order.specs.sdl_forward.Forwards.{Forwarding}
-use Rattle.sdl_order.specs.sdl_hand.Work.{Working}
-use Rattle.sdl_order.specs.sdl_outcome.Steps.{bound_for}
-use Rattle.sdl_order.specs.sdl_outcome.Books.{Books}
-use Rattle.sdl_order.specs.sdl_outcome.Plan.{Plan, MayTravel, blocks_in, lines_of, ways_of}
-use Rattle.sdl_order.specs.sdl_outcome.EnvironmentWork.{IsEnvSound, AreCounted, ComesIn, GoesOut, env_sent, env_origins}
+use Rattle.sdl_ends.specs.Ends.{WorkerEnds, put_at, taken_by}
+use Rattle.sdl_opening.specs.declared.worker.Worker.{Worker}
+use Rattle.sdl_opening.specs.declared.worker.Worker.TheVariants.{Block, Environment, Forwarder}
+use Rattle.sdl_opening.specs.Workers.{Ways, IsAgent}
+use Rattle.sdl_forward.specs.Boards.{waiting, IsBoardOf}
+use Rattle.sdl_forward.specs.Forwards.{Forwarding}
+use Rattle.sdl_hand.specs.Work.{Working}
+use Rattle.sdl_outcome.specs.Steps.{bound_for}
+use Rattle.sdl_outcome.specs.Books.{Books}
+use Rattle.sdl_outcome.specs.Plan.{Plan, MayTravel, blocks_in, lines_of, ways_of}
+use Rattle.sdl_outcome.specs.EnvironmentWork.{IsEnvSound, AreCounted, ComesIn, GoesOut, env_sent, env_origins}
 use Rattle.sdl_order.specs.Driver.{Site, site_books, kept_by, IsCoreAt}
 use Rattle.sdl_join.specs.Lanes.{IsLane}
 

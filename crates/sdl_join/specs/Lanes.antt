@@ -8,10 +8,10 @@ use Rattle.sdl_queue.specs.declared.rest.Rest.{Rest}
 use Rattle.sdl_queue.specs.declared.rest.Rest.TheVariants.{Serial, Ruled, Ring}
 use Rattle.sdl_queue.specs.Ends.{Account, items_of}
 use Rattle.sdl_queue.specs.Rest.{ring_account}
-use Rattle.sdl_environment.specs.sdl_ends.Stations.{same_station}
-use Rattle.sdl_environment.specs.sdl_ends.Ends.{WorkerEnds, put_at, number_at, taken_by}
-use Rattle.sdl_order.specs.sdl_opening.declared.worker.Worker.{Worker}
-use Rattle.sdl_order.specs.sdl_opening.Workers.{taker}
+use Rattle.sdl_ends.specs.Stations.{same_station}
+use Rattle.sdl_ends.specs.Ends.{WorkerEnds, put_at, number_at, taken_by}
+use Rattle.sdl_opening.specs.declared.worker.Worker.{Worker}
+use Rattle.sdl_opening.specs.Workers.{taker}
 
 -- The queue of a station, beside the ends of the workers: what was taken is what its taker took; what a worker put there is its
 -- things among those taken, and then its things among those left; and each thing bears the number of a worker's feed there.

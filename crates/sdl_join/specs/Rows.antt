@@ -4,9 +4,9 @@ use Rattle.sdl_signal.specs.declared.values.Item.{Item}
 use Rattle.sdl_routes.specs.declared.route.Station.TheVariants.{Outlet}
 use Rattle.sdl_queue.specs.declared.rule.Tagged.{Tagged}
 use Rattle.sdl_queue.specs.Ends.{OfQueue, Account}
-use Rattle.sdl_environment.specs.sdl_ends.Ends.{WorkerEnds, no_ends}
-use Rattle.sdl_order.specs.sdl_opening.declared.worker.Worker.{Worker}
-use Rattle.sdl_order.specs.sdl_opening.declared.worker.Worker.TheVariants.{Block, Environment, Forwarder}
+use Rattle.sdl_ends.specs.Ends.{WorkerEnds, no_ends}
+use Rattle.sdl_opening.specs.declared.worker.Worker.{Worker}
+use Rattle.sdl_opening.specs.declared.worker.Worker.TheVariants.{Block, Environment, Forwarder}
 
 abbrev pub tagged : ℕ → Item → Tagged
 tagged n i = record { feeder = n; item = i; pad = 0; more_pad = 0 }

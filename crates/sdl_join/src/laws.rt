@@ -9,16 +9,16 @@ ghost use Rattle.sdl_routes.specs.declared.route.Station.TheVariants.{Outlet};
 ghost use Rattle.sdl_routes.specs.Routes.{EachOnce};
 ghost use Rattle.sdl_queue.specs.declared.rest.Rest.{Rest};
 ghost use Rattle.sdl_queue.specs.Ends.{Account, items_of};
-ghost use Rattle.sdl_environment.specs.sdl_ends.Stations.{stations_of};
-ghost use Rattle.sdl_environment.specs.sdl_ends.Ends.{WorkerEnds, IsSameEnds, AreRejoined};
-ghost use Rattle.sdl_order.specs.sdl_opening.declared.worker.Worker.{Worker};
-ghost use Rattle.sdl_order.specs.sdl_opening.Workers.{Ways, IsAgent};
-ghost use Rattle.sdl_order.specs.sdl_opening.Opens.{AreOwnEnds, AreOpen, ends_of};
-ghost use Rattle.sdl_order.specs.sdl_opening.Used.{AreUsed};
-ghost use Rattle.sdl_order.specs.sdl_forward.Boards.{waiting, lists_of};
-ghost use Rattle.sdl_order.specs.sdl_outcome.Stations.{AreWays};
-ghost use Rattle.sdl_order.specs.sdl_outcome.Books.{Books, InOrder, standing};
-ghost use Rattle.sdl_order.specs.sdl_outcome.Plan.{Plan, IsPlan, MayTravel, ways_of};
+ghost use Rattle.sdl_ends.specs.Stations.{stations_of};
+ghost use Rattle.sdl_ends.specs.Ends.{WorkerEnds, IsSameEnds, AreRejoined};
+ghost use Rattle.sdl_opening.specs.declared.worker.Worker.{Worker};
+ghost use Rattle.sdl_opening.specs.Workers.{Ways, IsAgent};
+ghost use Rattle.sdl_opening.specs.Opens.{AreOwnEnds, AreOpen, ends_of};
+ghost use Rattle.sdl_opening.specs.Used.{AreUsed};
+ghost use Rattle.sdl_forward.specs.Boards.{waiting, lists_of};
+ghost use Rattle.sdl_outcome.specs.Stations.{AreWays};
+ghost use Rattle.sdl_outcome.specs.Books.{Books, InOrder, standing};
+ghost use Rattle.sdl_outcome.specs.Plan.{Plan, IsPlan, MayTravel, ways_of};
 ghost use Rattle.sdl_order.specs.Driver.{Site, IsAtWork};
 ghost use Rattle.sdl_join.specs.Lanes.{IsLane, account_at};
 ghost use Rattle.sdl_join.specs.Joins.{Joined, IsJoined};
@@ -59,9 +59,8 @@ pub fn stands_joined<S: Agents>()
     ensures none { (plan : Plan) (site : Site) (astray : Option Item) (ends : Worker → WorkerEnds) (accounts : Station → Account) → IsPlan plan → IsJoined S.may plan site astray ends accounts → astray ≡ None }
 {}
 
-/// Where the ends of a run were opened for its routes, each worker came back with its own ends and with what its steps keep, and all
-/// queues were put together again, then the workers and what is left stand as between two steps on one thread, and nothing went
-/// astray.
+/// The ends of a run were opened for its routes. Each worker came back with its own ends and with what its steps keep. All queues
+/// were put together again. Then the workers and what is left stand as between two steps on one thread, and nothing went astray.
 pub fn joined_workers_stand<S: Agents>()
     ensures work { (plan : Plan) (site : Site) (astray : Option Item) (all now : List WorkerEnds) (shelf : List (Station × ℕ)) (rests : List (Station × Rest)) → IsPlan plan
         → AreOpen plan.structure plan.routes all shelf → AreUsed all now → AreRejoined now (map (λ (x : Station × ℕ). x.0) shelf) rests

@@ -12,13 +12,13 @@ use Rattle.sdl_log.specs.declared.event.Done.{Done}
 use Rattle.sdl_log.specs.declared.event.Event.{Event}
 use Rattle.sdl_log.specs.declared.counts.Counts.{Counts}
 pub use Rattle.sdl_log.specs.Counts.{output_by, no_route_by, entered_in, no_instance_in, gone_in, fired_in, implicit_in, stopped_in, fired_by, implicit_by}
-use Rattle.sdl_outcome.specs.sdl_instances.Machine.{State}
-use Rattle.sdl_outcome.specs.sdl_instances.Core.{IsBoundIn, signals_of, sets_of}
-use Rattle.sdl_outcome.specs.sdl_instances.Run.{done_in, origins, turns, waiting}
+use Rattle.sdl_instances.specs.Machine.{State}
+use Rattle.sdl_instances.specs.Core.{IsBoundIn, signals_of, sets_of}
+use Rattle.sdl_instances.specs.Run.{done_in, origins, turns, waiting}
 use Rattle.sdl_outcome.specs.declared.environment_output.EnvOut.{EnvOut}
 use Rattle.sdl_outcome.specs.declared.environment_output.EnvOut.TheVariants as env_out
 use Rattle.sdl_ledger.specs.declared.ledger.Ledger.{Ledger}
-use Rattle.sdl_outcome.specs.sdl_opening.declared.worker.Worker.TheVariants.{Environment, Forwarder}
+use Rattle.sdl_opening.specs.declared.worker.Worker.TheVariants.{Environment, Forwarder}
 use Rattle.sdl_outcome.specs.EnvironmentWork.{ComesIn, env_sent}
 use Rattle.sdl_outcome.specs.Books.{InOrder}
 use Rattle.sdl_outcome.specs.Plan.{Plan, IsPlan, blocks_in, rules_at, ways_of}

@@ -2,15 +2,15 @@
 ghost use Rattle.std.specs.Prelude.{◌≡◌, map, length};
 ghost use Rattle.std.specs.List.{AllZip};
 ghost use Rattle.sdl_log.specs.Counts.{AreCountsOf};
-ghost use Rattle.sdl_outcome.specs.sdl_forward.Boards.{lists_of};
+ghost use Rattle.sdl_forward.specs.Boards.{lists_of};
 ghost use Rattle.sdl_queue.specs.Rest.{left_in};
 ghost use Rattle.sdl_outcome.specs.Lists.{held_in};
 ghost use Rattle.sdl_outcome.specs.Outcome.{Outcome};
 ghost use Rattle.sdl_ledger.specs.Counts.{IsLedgerOf, CountsFit, Adds, CanAdd, summed, of_event, of_counts, of_output, of_hand, of_rest};
 
+use sdl_hand::Hand;
 use sdl_log::{Counts, Keeps};
 use sdl_outcome::EnvOut;
-use sdl_outcome::sdl_hand::Hand;
 use sdl_queue::Rest;
 use sdl_routes::Station;
 use sdl_signal::Item;
@@ -45,8 +45,8 @@ pub struct Ledger {
 }
 
 impl Ledger {
-    /// The ledger of what a run left: the logs of its blocks, stored or counted, the outputs of the environment and what it received, what the
-    /// workers hold, what rests at the stations, and how many signals wait in the ports. No memory is taken.
+    /// The ledger of what a run left: the logs of its blocks, stored or counted, the outputs of the environment and what it
+    /// received; what the workers hold, what rests at the stations, and how many signals wait in the ports. No memory is taken.
     pub fn of<K: Keeps>(
         logs: &[K],
         counts: &[Counts],

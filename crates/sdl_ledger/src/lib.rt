@@ -4,5 +4,3 @@
 mod ledger;
 
 pub use ledger::Ledger;
-pub use sdl_outcome;
-pub use sdl_outcome::{sdl_forward, sdl_instances, sdl_opening};

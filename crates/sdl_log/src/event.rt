@@ -42,8 +42,8 @@ pub enum Done {
     Made(Pid),
 }
 
-// It only fills lists. Its bytes are not all zeros, so that an event's are not filled by one call of the C library, which is slower
-// for so many than stores are.
+// It only fills lists. Its bytes are not all zeros, so that an event's are not filled by one call of the C library. For so many
+// bytes that is slower than stores are.
 impl Default for Done {
     fn default() -> Self {
         Done::Made(Pid::Null)

@@ -140,8 +140,8 @@ impl Keeps for Vec<Event> {
     }
 
     // apart from its callers, since the compiler then writes the event where it stands in the log, without a copy on the way; and
-    // over an unfilled turn, since what an arrival leaves of its place would else be filled by one call of the C library, which is
-    // slower for so many bytes than stores are
+    // over an unfilled turn. Else what an arrival leaves of its place would be filled by one call of the C library. For so many
+    // bytes that is slower than stores are
     #[inline(never)]
     fn enter(&mut self, item: &Item, pid: Pid) {
         let mut event = unfilled();

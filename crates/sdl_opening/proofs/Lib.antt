@@ -1,4 +1,3 @@
-pub use Rattle.sdl_ends.proofs as ends
 pub mod Collected
 pub mod Counted
 pub mod Giving

@@ -1,4 +1,3 @@
-pub use Rattle.sdl_ends.specs as sdl_ends
 pub mod Stations
 pub mod Workers
 pub mod Puts

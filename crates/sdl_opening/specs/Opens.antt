@@ -36,18 +36,18 @@ IsLineOfOne (Line h) n = n ≡ 1
 IsLineOfOne (Inlet b) n = ⊥
 IsLineOfOne Outlet n = ⊥
 
--- a station with so many feeders is opened as a ring where it is a path that only one worker feeds, and else as a queue
+-- a station with so many feeders is opened as a ring where only one worker feeds it and it is a path; else as a queue
 abbrev pub IsOpenedAs : Opening → Station → ℕ → Type 0
 IsOpenedAs o s n = IsOfRing o ↔ IsLineOfOne s n
 
--- the feeds of the station, in the order of the workers, are those of one opening by number, it has one tap, and it is a ring or
--- a queue as the number of its feeders says
+-- the feeds of the station, in the order of the workers, are those of one opening by number; it has one tap; it is a ring or a
+-- queue as the number of its feeders says
 abbrev pub IsFreshAt : List WorkerEnds → Station → Type 0
 IsFreshAt all s = (o : Opening) × (n : ℕ) × (column s all ≡ fresh_feeds o n) × (taps s all ≡ fresh_tap o n ∷ []) × IsOpenedAs o s n
 
 -- Each worker has its own ends, at which nothing was put or taken, and a feed exactly where it brings items. There is a queue for
--- each station of some route, all of whose ends are among them, the feeds numbered in the order of the workers, and room for
--- them when they come back.
+-- each station of some route, all of whose ends are among them. The feeds are numbered in the order of the workers, and there is
+-- room for them when they come back.
 pub record AreOpen (s : Structure) (rows : List TableRow) (all : List WorkerEnds) (shelf : List (Station × ℕ)) : Type 0 where
   pub number : length all ≡ length (workers_in s)
   pub stations : AreAllStations rows (map (λ (x : Station × ℕ). x.0) shelf)

@@ -51,7 +51,7 @@ pub record Ways : Type 0 where
 abbrev pub first : List Station → Option Station
 first ss = slice_get ss 0
 
--- where a worker brings an item of route r: a forwarder to the station behind its own, another to the first
+-- where a worker brings an item of route r: a forwarder to the station after its own, another to the first
 abbrev pub next : Ways → Worker → ℕ → Option Station
 next t (Block b) r = first (t.stations r)
 next t Environment r = first (t.stations r)

@@ -9,8 +9,8 @@ ghost use Rattle.sdl_ends.specs.Ends.{WorkerEnds, column, AreAllEndsOf};
 ghost use Rattle.sdl_opening.specs.Opens.{AreOpen};
 ghost use Rattle.sdl_opening.specs.Used.{AreUsed};
 
-/// However the ends of an opening were used, they are still all ends of its queues, of which each station has one, and there is
-/// room for them: they can be rejoined.
+/// However the ends of an opening were used, they are still all ends of its queues. Each station has one, and there is room for
+/// them: they can be rejoined.
 pub fn used_ends_come_back()
     ensures once { (s : Structure) (rows : List TableRow) (all : List WorkerEnds) (shelf : List (Station × ℕ)) → AreOpen s rows all shelf → EachOnce (map (λ (x : Station × ℕ). x.0) shelf) }
     ensures whole { (s : Structure) (rows : List TableRow) (all now : List WorkerEnds) (shelf : List (Station × ℕ)) → AreOpen s rows all shelf → AreUsed all now

@@ -11,6 +11,5 @@ mod worker;
 
 pub use opening::ends_open;
 pub use order::workers_of;
-pub use sdl_ends;
 pub use stations::stations_of;
 pub use worker::Worker;

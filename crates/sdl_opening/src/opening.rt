@@ -90,9 +90,9 @@ fn put_together(alloc: Global, shares: Vec<Share>) -> Result<Vec<Ends>, AllocErr
     Ok(ends)
 }
 
-/// Opens a queue for each station of some route, with a feed for each worker that puts there, and gives the ends to the workers, by
-/// number: the blocks, the environment, and then the forwarders of the delaying paths that carry a signal. Beside them comes the
-/// room for what comes back. Where memory is refused there is nothing.
+/// Opens a queue for each station of some route, with a feed for each worker that puts there. It gives the ends to the workers,
+/// by number: the blocks, the environment, and then the forwarders of the delaying paths that carry a signal. Beside them comes
+/// the room for what comes back. Where memory is refused there is nothing.
 pub fn ends_open<R: Wait>(
     rt: &R,
     alloc: Global,

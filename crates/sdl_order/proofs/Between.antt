@@ -3,25 +3,25 @@ use Rattle.std.proofs.Common.{ℕ, List, [], ◌∷◌, ◌++◌, reverse, set, 
 use Rattle.std.specs.Option.{option_to_list}
 use Rattle.std.specs.List.{flat_map, AllByRecursion}
 use Rattle.std.proofs.lemmas.Bool.{cond_both}
-use Rattle.sdl_outcome.specs.sdl_instances.Run.{arrived, sent}
+use Rattle.sdl_instances.specs.Run.{arrived, sent}
 use Rattle.sdl_signal.specs.declared.values.Item.{Item}
 use Rattle.sdl_routes.specs.declared.route.Hop.{Hop}
 use Rattle.sdl_routes.specs.declared.route.Station.{Station}
 use Rattle.sdl_behaviour.specs.declared.step.Frame.{Frame}
 use Rattle.sdl_behaviour.specs.declared.step.Step.{Step}
-use Rattle.sdl_outcome.specs.sdl_forward.Boards.{same_hop, waiting, IsBoardOf}
-use Rattle.sdl_outcome.specs.sdl_forward.declared.forwarder.Forwarded.{Forwarded}
-use Rattle.sdl_outcome.specs.sdl_forward.declared.forwarder.Forwarded.TheVariants as forwarded
-use Rattle.sdl_outcome.specs.sdl_forward.Forwards.{Forwarding}
-use Rattle.sdl_outcome.specs.sdl_forward.Forwards as hands
-use Rattle.sdl_outcome.specs.sdl_hand.declared.hand.Stepped.{Stepped}
-use Rattle.sdl_outcome.specs.sdl_hand.declared.hand.Stepped.TheVariants as stepped
-use Rattle.sdl_outcome.specs.sdl_opening.declared.worker.Worker.{Worker}
-use Rattle.sdl_outcome.specs.sdl_opening.declared.worker.Worker.TheVariants.{Block, Environment, Forwarder}
+use Rattle.sdl_forward.specs.Boards.{same_hop, waiting, IsBoardOf}
+use Rattle.sdl_forward.specs.declared.forwarder.Forwarded.{Forwarded}
+use Rattle.sdl_forward.specs.declared.forwarder.Forwarded.TheVariants as forwarded
+use Rattle.sdl_forward.specs.Forwards.{Forwarding}
+use Rattle.sdl_forward.specs.Forwards as hands
+use Rattle.sdl_hand.specs.declared.hand.Stepped.{Stepped}
+use Rattle.sdl_hand.specs.declared.hand.Stepped.TheVariants as stepped
+use Rattle.sdl_opening.specs.declared.worker.Worker.{Worker}
+use Rattle.sdl_opening.specs.declared.worker.Worker.TheVariants.{Block, Environment, Forwarder}
 use Rattle.sdl_outcome.specs.Stations.{Among, taker, place}
 use Rattle.sdl_outcome.specs.Books.{standing, left, of_route}
 use Rattle.sdl_outcome.specs.Plan.{Plan, IsPlan, MayTravel, blocks_in, ways_of, system_at}
-use Rattle.sdl_outcome.specs.sdl_hand.Work.{Working, StepsAs}
+use Rattle.sdl_hand.specs.Work.{Working, StepsAs}
 use Rattle.sdl_order.specs.Driver.{Site, site_books, of_agent, held_at, IsAtWork, IsFresh, BlockSteps, EnvironmentSteps, ForwarderSteps}
 use Rattle.sdl_outcome.specs.declared.environment_output.EnvOut.{EnvOut}
 use Rattle.sdl_outcome.specs.EnvironmentWork.{EnvWorking, env_sent, env_origins, AreCounted, ComesIn, EnvStepsAs}

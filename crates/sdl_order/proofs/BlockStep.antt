@@ -15,15 +15,15 @@ use Rattle.sdl_routes.specs.declared.route.Station.TheVariants.{Line, Inlet, Out
 use Rattle.sdl_behaviour.specs.declared.step.Frame.{Frame}
 use Rattle.sdl_behaviour.specs.declared.step.Step.{Step}
 use Rattle.sdl_log.specs.declared.event.Event.{Event}
-use Rattle.sdl_outcome.specs.sdl_instances.Run.{arrived, arrived_in, sent, sent_by, done_in, all_done}
-use Rattle.sdl_outcome.specs.sdl_forward.Boards.{waiting, AreAllStations}
-use Rattle.sdl_outcome.specs.sdl_opening.declared.worker.Worker.{Worker}
-use Rattle.sdl_outcome.specs.sdl_opening.declared.worker.Worker.TheVariants.{Block, Environment, Forwarder}
+use Rattle.sdl_instances.specs.Run.{arrived, arrived_in, sent, sent_by, done_in, all_done}
+use Rattle.sdl_forward.specs.Boards.{waiting, AreAllStations}
+use Rattle.sdl_opening.specs.declared.worker.Worker.{Worker}
+use Rattle.sdl_opening.specs.declared.worker.Worker.TheVariants.{Block, Environment, Forwarder}
 use Rattle.sdl_outcome.specs.Stations.{IsAgent, first, next, place, taker}
 use Rattle.sdl_outcome.specs.Books.{standing}
 use Rattle.sdl_outcome.specs.Steps.{Acts, IsUnchangedAt, bound_for}
 use Rattle.sdl_outcome.specs.Plan.{Plan, IsPlan, MayTravel, system_at, ways_of}
-use Rattle.sdl_outcome.specs.sdl_hand.Work.{Working, Works, beginning_at, first_station, is_station}
+use Rattle.sdl_hand.specs.Work.{Working, Works, beginning_at, first_station, is_station}
 use Rattle.sdl_outcome.specs.EnvironmentWork.{env_sent}
 use Rattle.sdl_order.specs.Driver.{Site, site_books, of_agent, IsCoreAt, IsAtWork}
 use Rattle.sdl_outcome.proofs.Lists.{all_front, all_end, all_append, all_filter, filter_agrees, get_set, get_set_other, length_set}

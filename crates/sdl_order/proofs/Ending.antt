@@ -11,17 +11,17 @@ use Rattle.sdl_routes.specs.declared.route.Station.{Station}
 use Rattle.sdl_behaviour.specs.declared.step.Frame.{Frame}
 use Rattle.sdl_behaviour.specs.declared.step.Step.{Step}
 use Rattle.sdl_log.specs.declared.event.Event.{Event}
-use Rattle.sdl_outcome.specs.sdl_instances.Run.{IsRun, arrived, sent, turns}
-use Rattle.sdl_outcome.specs.sdl_forward.Boards.{same_hop, waiting}
-use Rattle.sdl_outcome.specs.sdl_forward.Forwards.{Forwarding}
-use Rattle.sdl_outcome.specs.sdl_opening.declared.worker.Worker.{Worker}
-use Rattle.sdl_outcome.specs.sdl_opening.declared.worker.Worker.TheVariants.{Block, Environment, Forwarder}
+use Rattle.sdl_instances.specs.Run.{IsRun, arrived, sent, turns}
+use Rattle.sdl_forward.specs.Boards.{same_hop, waiting}
+use Rattle.sdl_forward.specs.Forwards.{Forwarding}
+use Rattle.sdl_opening.specs.declared.worker.Worker.{Worker}
+use Rattle.sdl_opening.specs.declared.worker.Worker.TheVariants.{Block, Environment, Forwarder}
 use Rattle.sdl_outcome.specs.Stations.{IsAgent, Among, taker}
 use Rattle.sdl_outcome.specs.Books.{Books, InOrder, standing}
 use Rattle.sdl_outcome.specs.Steps.{IsStill}
 use Rattle.sdl_outcome.specs.Plan.{Plan, IsPlan, MayTravel, blocks_in, blocks_from, workers_of, lines_of, system_at, ways_of}
 use Rattle.sdl_outcome.specs.Outcome.{WorkerHand, IsComplete, IsLawful, AreRunsFrom, LeftsAreLegal, of_worker, books_of}
-use Rattle.sdl_outcome.specs.sdl_hand.Work.{Working}
+use Rattle.sdl_hand.specs.Work.{Working}
 use Rattle.sdl_order.specs.Driver.{Site, site_books, of_agent, held_at, IsCoreAt, IsAtWork, outcome_of, finals_of, block_hand, env_hand, forwarder_hand}
 use Rattle.sdl_outcome.specs.EnvironmentWork.{env_sent}
 use Rattle.sdl_outcome.proofs.Lists.{all_both}

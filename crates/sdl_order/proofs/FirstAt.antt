@@ -4,7 +4,7 @@ use Rattle.std.specs.List.{AllByRecursion}
 use Rattle.std.proofs.lemmas.Option.{none-some, same_Some}
 use Rattle.sdl_routes.specs.declared.route.Hop.{Hop}
 use Rattle.sdl_routes.specs.Routes.{EachOnce}
-use Rattle.sdl_outcome.specs.sdl_forward.Forwards.{Forwarding}
+use Rattle.sdl_forward.specs.Forwards.{Forwarding}
 use Rattle.sdl_order.proofs.ForwarderStep.{IsFirstAt}
 
 hop_apart : (h : Hop) (fs : List Forwarding) (k : ℕ) (f : Forwarding) → AllByRecursion (λ y. h ≢ y) (map (λ (g : Forwarding). g.hop) fs) → slice_get fs k ≡ Some f → h ≢ f.hop

@@ -8,9 +8,9 @@ use Rattle.sdl_routes.specs.declared.route.Hop.{Hop}
 use Rattle.sdl_routes.specs.declared.route.TableRow.{TableRow}
 use Rattle.sdl_routes.specs.declared.route.Station.{Station}
 use Rattle.sdl_routes.specs.declared.route.Station.TheVariants.{Line}
-use Rattle.sdl_outcome.specs.sdl_forward.Boards.{same_hop, same_station}
-use Rattle.sdl_outcome.specs.sdl_forward.Forwards.{Forwarding, station_behind, next_station}
-use Rattle.sdl_outcome.specs.sdl_opening.declared.worker.Worker.TheVariants.{Forwarder}
+use Rattle.sdl_forward.specs.Boards.{same_hop, same_station}
+use Rattle.sdl_forward.specs.Forwards.{Forwarding, station_behind, next_station}
+use Rattle.sdl_opening.specs.declared.worker.Worker.TheVariants.{Forwarder}
 use Rattle.sdl_outcome.specs.Stations.{next}
 use Rattle.sdl_outcome.specs.Plan.{Plan, ways_of}
 use Rattle.sdl_order.specs.Driver.{held_at}

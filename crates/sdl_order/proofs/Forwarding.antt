@@ -10,9 +10,9 @@ use Rattle.sdl_routes.specs.declared.route.Station.TheVariants.{Line, Inlet, Out
 use Rattle.sdl_routes.specs.Routes.{EachOnce}
 use Rattle.sdl_behaviour.specs.declared.step.Frame.{Frame}
 use Rattle.sdl_behaviour.specs.declared.step.Step.{Step}
-use Rattle.sdl_outcome.specs.sdl_forward.Boards.{waiting, IsBoardOf}
-use Rattle.sdl_outcome.specs.sdl_forward.Forwards.{Forwarding, Moves, Holds}
-use Rattle.sdl_outcome.specs.sdl_opening.declared.worker.Worker.{Worker}
+use Rattle.sdl_forward.specs.Boards.{waiting, IsBoardOf}
+use Rattle.sdl_forward.specs.Forwards.{Forwarding, Moves, Holds}
+use Rattle.sdl_opening.specs.declared.worker.Worker.{Worker}
 use Rattle.sdl_outcome.specs.Stations.{IsAgent, taker}
 use Rattle.sdl_outcome.specs.Books.{standing}
 use Rattle.sdl_outcome.specs.Steps.{BringsOn, IsStill, IsUnchangedAt}

@@ -9,13 +9,13 @@ use Rattle.sdl_routes.specs.declared.route.Hop.{Hop}
 use Rattle.sdl_signal.specs.declared.values.Item.{Item}
 use Rattle.sdl_routes.specs.declared.route.Station.{Station}
 use Rattle.sdl_routes.specs.declared.route.Station.TheVariants.{Line}
-use Rattle.sdl_outcome.specs.sdl_opening.declared.worker.Worker.{Worker}
-use Rattle.sdl_outcome.specs.sdl_opening.declared.worker.Worker.TheVariants.{Forwarder}
+use Rattle.sdl_opening.specs.declared.worker.Worker.{Worker}
+use Rattle.sdl_opening.specs.declared.worker.Worker.TheVariants.{Forwarder}
 use Rattle.sdl_outcome.specs.Stations.{Ways, IsAgent, Leads, AreWays, IsWay, Among, Once, first, next, place, taker}
-use Rattle.sdl_outcome.specs.sdl_forward.Forwards.{station_behind}
+use Rattle.sdl_forward.specs.Forwards.{station_behind}
 use Rattle.sdl_outcome.specs.Books.{Books, InOrder, of_route, outs, came, left, standing}
 use Rattle.sdl_outcome.specs.Steps.{bound_for, IsStill, BringsOn, Acts, Steps}
-use Rattle.sdl_outcome.specs.sdl_hand.Work.{is_station}
+use Rattle.sdl_hand.specs.Work.{is_station}
 use Rattle.sdl_outcome.proofs.Comparisons.{cases_station, cases_worker}
 use Rattle.sdl_outcome.proofs.Lists.{all_front, all_end, all_append, all_weaker, all_passes, filter_none}
 use Rattle.sdl_outcome.proofs.AlongStations.{next_among, first_among, after_any, after_skip, after_itself, next_agent, line_not_place, place_taker}

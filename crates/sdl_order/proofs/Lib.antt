@@ -1,8 +1,3 @@
-pub use Rattle.sdl_outcome.proofs as outcome
-pub use Rattle.sdl_outcome.proofs.forward
-pub use Rattle.sdl_outcome.proofs.hand
-pub use Rattle.sdl_outcome.proofs.instances
-pub use Rattle.sdl_outcome.proofs.opening
 pub mod Keeps
 pub mod Stamps
 pub mod Whole

@@ -14,16 +14,16 @@ use Rattle.sdl_behaviour.specs.declared.step.Frame.{Frame}
 use Rattle.sdl_behaviour.specs.declared.step.Step.{Step}
 use Rattle.sdl_log.specs.declared.event.Event.{Event}
 use Rattle.sdl_log.specs.declared.event.Event.TheVariants as event
-use Rattle.sdl_outcome.specs.sdl_instances.Run.{arrived, sent, turns, turn_in}
-use Rattle.sdl_outcome.specs.sdl_forward.Boards.{same_station}
-use Rattle.sdl_outcome.specs.sdl_opening.declared.worker.Worker.{Worker}
-use Rattle.sdl_outcome.specs.sdl_opening.declared.worker.Worker.TheVariants.{Block, Environment, Forwarder}
+use Rattle.sdl_instances.specs.Run.{arrived, sent, turns, turn_in}
+use Rattle.sdl_forward.specs.Boards.{same_station}
+use Rattle.sdl_opening.specs.declared.worker.Worker.{Worker}
+use Rattle.sdl_opening.specs.declared.worker.Worker.TheVariants.{Block, Environment, Forwarder}
 use Rattle.sdl_outcome.specs.Stations.{Ways, Among, next, place, taker}
 use Rattle.sdl_outcome.specs.Books.{standing}
 use Rattle.sdl_outcome.specs.Steps.{bound_for}
-use Rattle.sdl_outcome.specs.sdl_hand.Work.{is_station}
+use Rattle.sdl_hand.specs.Work.{is_station}
 use Rattle.sdl_outcome.specs.Plan.{Plan, IsPlan, blocks_in, blocks_from, lines_of, workers_of, system_at, ways_of}
-use Rattle.sdl_outcome.specs.sdl_hand.Work.{Working, Works}
+use Rattle.sdl_hand.specs.Work.{Working, Works}
 use Rattle.sdl_order.specs.Driver.{Site, site_books, IsAtWork}
 use Rattle.sdl_order.specs.Measure.{stations_from, to_go, to_go_out, turns_left, load, work_left}
 use Rattle.sdl_outcome.proofs.Lists.{all_at, all_end, get_set, get_set_other}

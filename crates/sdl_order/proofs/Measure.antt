@@ -9,12 +9,12 @@ use Rattle.sdl_routes.specs.declared.route.Station.{Station}
 use Rattle.sdl_routes.specs.declared.route.Station.TheVariants.{Line}
 use Rattle.sdl_behaviour.specs.declared.step.Frame.{Frame}
 use Rattle.sdl_behaviour.specs.declared.step.Step.{Step}
-use Rattle.sdl_outcome.specs.sdl_forward.Boards.{same_station, IsBoardOf}
-use Rattle.sdl_outcome.specs.sdl_forward.Forwards.{Forwarding, Moves}
-use Rattle.sdl_outcome.specs.sdl_opening.declared.worker.Worker.{Worker}
-use Rattle.sdl_outcome.specs.sdl_opening.declared.worker.Worker.TheVariants.{Environment, Forwarder}
+use Rattle.sdl_forward.specs.Boards.{same_station, IsBoardOf}
+use Rattle.sdl_forward.specs.Forwards.{Forwarding, Moves}
+use Rattle.sdl_opening.specs.declared.worker.Worker.{Worker}
+use Rattle.sdl_opening.specs.declared.worker.Worker.TheVariants.{Environment, Forwarder}
 use Rattle.sdl_outcome.specs.Stations.{Among, Once, first, place, taker, same_worker}
-use Rattle.sdl_outcome.specs.sdl_forward.Forwards.{station_behind}
+use Rattle.sdl_forward.specs.Forwards.{station_behind}
 use Rattle.sdl_outcome.specs.Books.{standing}
 use Rattle.sdl_outcome.specs.Steps.{BringsOn}
 use Rattle.sdl_outcome.specs.Plan.{Plan, IsPlan, blocks_in, blocks_from, lines_of, workers_of, ways_of}

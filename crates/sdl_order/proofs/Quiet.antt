@@ -20,18 +20,18 @@ use Rattle.sdl_routes.specs.declared.route.EndPoint.TheVariants as ends
 use Rattle.sdl_routes.specs.declared.route.Station.{Station}
 use Rattle.sdl_routes.specs.declared.route.Station.TheVariants.{Line, Inlet, Outlet}
 use Rattle.sdl_routes.specs.Routes.{IsRoute, IsWalk, Carries, IsLastStation, is_delaying, hop_direction}
-use Rattle.sdl_outcome.specs.sdl_instances.Machine.{State}
-use Rattle.sdl_outcome.specs.sdl_instances.Run.{turns}
-use Rattle.sdl_outcome.specs.sdl_instances.Core.{IsReady}
+use Rattle.sdl_instances.specs.Machine.{State}
+use Rattle.sdl_instances.specs.Run.{turns}
+use Rattle.sdl_instances.specs.Core.{IsReady}
 use Rattle.sdl_behaviour.specs.declared.step.Frame.{Frame}
 use Rattle.sdl_behaviour.specs.declared.step.Step.{Step}
-use Rattle.sdl_outcome.specs.sdl_forward.Boards.{waiting}
-use Rattle.sdl_outcome.specs.sdl_forward.Forwards.{Forwarding}
+use Rattle.sdl_forward.specs.Boards.{waiting}
+use Rattle.sdl_forward.specs.Forwards.{Forwarding}
 use Rattle.sdl_outcome.specs.Stations.{Among, taker}
 use Rattle.sdl_outcome.specs.Plan.{Plan, IsPlan, blocks_in, path_line, lines_from, lines_of, ways_of}
 use Rattle.sdl_outcome.specs.Outcome.{log_at}
 use Rattle.sdl_outcome.specs.Ends.{IsFree, IsSettled, IsQuiet, IsSpentAt}
-use Rattle.sdl_outcome.specs.sdl_hand.Work.{Working}
+use Rattle.sdl_hand.specs.Work.{Working}
 use Rattle.sdl_order.specs.Driver.{Site, IsAtWork, IsIdle, site_books, outcome_of, finals_of, block_hand, env_hand, forwarder_hand}
 use Rattle.sdl_outcome.proofs.Lists.{all_at, all_end, all_append}
 use Rattle.sdl_outcome.proofs.Ways.{row_of}

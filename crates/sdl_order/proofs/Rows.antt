@@ -4,7 +4,7 @@ use Rattle.std.proofs.lemmas.Bool.{cond_both}
 use Rattle.std.proofs.lemmas.Option.{none-some, same_Some}
 use Rattle.sdl_signal.specs.declared.values.Pid.{Pid}
 use Rattle.sdl_log.specs.declared.event.Trigger.TheVariants as trigger
-use Rattle.sdl_outcome.specs.sdl_instances.Core.{IsReady}
+use Rattle.sdl_instances.specs.Core.{IsReady}
 use Rattle.sdl_signal.specs.declared.ids.BlockId.{BlockId}
 use Rattle.std.proofs.lemmas.List.{length-append}
 use Rattle.sdl_signal.specs.declared.values.Item.{Item}
@@ -21,10 +21,10 @@ use Rattle.sdl_outcome.specs.EnvironmentWork.{HasReadAll, HasWritten, AreCounted
 use Rattle.sdl_routes.specs.declared.route.Hop.{Hop}
 use Rattle.sdl_routes.specs.declared.route.Station.TheVariants as station
 use Rattle.sdl_routes.specs.Routes.{IsRoute}
-use Rattle.sdl_outcome.specs.sdl_instances.Machine.{State}
-use Rattle.sdl_outcome.specs.sdl_instances.Run.{IsStamped, turns}
-use Rattle.sdl_outcome.specs.sdl_forward.Boards.{same_station, waiting}
-use Rattle.sdl_outcome.specs.sdl_opening.declared.worker.Worker.TheVariants.{Block, Environment, Forwarder}
+use Rattle.sdl_instances.specs.Machine.{State}
+use Rattle.sdl_instances.specs.Run.{IsStamped, turns}
+use Rattle.sdl_forward.specs.Boards.{same_station, waiting}
+use Rattle.sdl_opening.specs.declared.worker.Worker.TheVariants.{Block, Environment, Forwarder}
 use Rattle.sdl_outcome.specs.Books.{outs, came, left}
 use Rattle.sdl_outcome.specs.Plan.{workers_of, ways_of}
 use Rattle.sdl_outcome.specs.Outcome.{books_of, log_at}

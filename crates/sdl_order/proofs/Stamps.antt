@@ -5,7 +5,7 @@ use Rattle.std.specs.List.{flat_map, AllByRecursion}
 use Rattle.sdl_signal.specs.declared.values.Item.{Item}
 use Rattle.sdl_log.specs.declared.event.Event.{Event}
 use Rattle.sdl_outcome.specs.Stations.{Among}
-use Rattle.sdl_outcome.specs.sdl_instances.Run.{arrived_in, sent_by, done_in, all_done, sent, above, IsStamped}
+use Rattle.sdl_instances.specs.Run.{arrived_in, sent_by, done_in, all_done, sent, above, IsStamped}
 use Rattle.sdl_outcome.specs.Causes.{Precedes, IsCause, direct, further}
 
 pub among_cases : {X : Type 0} (x : X) (xs ys : List X) → Among x (xs ++ ys) → Among x xs ⊎ Among x ys

@@ -12,14 +12,14 @@ use Rattle.sdl_parts.specs.declared.parts.Set.{Set}
 use Rattle.sdl_routes.specs.declared.route.TableRow.{TableRow}
 use Rattle.sdl_behaviour.specs.declared.step.Frame.{Frame}
 use Rattle.sdl_behaviour.specs.declared.step.Step.{Step}
-use Rattle.sdl_outcome.specs.sdl_instances.declared.process_set.ProcessSet.{ProcessSet}
+use Rattle.sdl_instances.specs.declared.process_set.ProcessSet.{ProcessSet}
 use Rattle.sdl_log.specs.declared.event.Event.{Event}
-use Rattle.sdl_outcome.specs.sdl_instances.Machine.{State}
-use Rattle.sdl_outcome.specs.sdl_instances.Run.{Leads, done_in, sent_by, sent, all_done, initial}
-use Rattle.sdl_outcome.specs.sdl_instances.Core.{Core, IsSound, IsBoundIn, numbers_of, sets_of}
-use Rattle.sdl_outcome.proofs.instances.Home.{IsHome, IsFromBlock, next_home, run_home}
-use Rattle.sdl_outcome.specs.sdl_opening.declared.worker.Worker.{Worker}
-use Rattle.sdl_outcome.specs.sdl_opening.declared.worker.Worker.TheVariants.{Block, Environment}
+use Rattle.sdl_instances.specs.Machine.{State}
+use Rattle.sdl_instances.specs.Run.{Leads, done_in, sent_by, sent, all_done, initial}
+use Rattle.sdl_instances.specs.Core.{Core, IsSound, IsBoundIn, numbers_of, sets_of}
+use Rattle.sdl_instances.proofs.Home.{IsHome, IsFromBlock, next_home, run_home}
+use Rattle.sdl_opening.specs.declared.worker.Worker.{Worker}
+use Rattle.sdl_opening.specs.declared.worker.Worker.TheVariants.{Block, Environment}
 use Rattle.sdl_outcome.specs.Plan.{Plan, ways_of, system_at, starter, worker_of_set}
 use Rattle.sdl_outcome.proofs.Lists.{all_append, all_weaker}
 

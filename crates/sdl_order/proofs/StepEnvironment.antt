@@ -12,11 +12,11 @@ use Rattle.sdl_routes.specs.declared.route.Station.{Station}
 use Rattle.sdl_routes.specs.declared.route.Station.TheVariants.{Line, Inlet, Outlet}
 use Rattle.sdl_behaviour.specs.declared.step.Frame.{Frame}
 use Rattle.sdl_behaviour.specs.declared.step.Step.{Step}
-use Rattle.sdl_outcome.specs.sdl_forward.Boards.{waiting, AreAllStations, IsBoardOf}
-use Rattle.sdl_outcome.specs.sdl_hand.Work.{beginning_at, first_station, is_station}
+use Rattle.sdl_forward.specs.Boards.{waiting, AreAllStations, IsBoardOf}
+use Rattle.sdl_hand.specs.Work.{beginning_at, first_station, is_station}
 use Rattle.sdl_outcome.specs.declared.environment_output.EnvOut.{EnvOut}
-use Rattle.sdl_outcome.specs.sdl_opening.declared.worker.Worker.{Worker}
-use Rattle.sdl_outcome.specs.sdl_opening.declared.worker.Worker.TheVariants.{Block, Environment, Forwarder}
+use Rattle.sdl_opening.specs.declared.worker.Worker.{Worker}
+use Rattle.sdl_opening.specs.declared.worker.Worker.TheVariants.{Block, Environment, Forwarder}
 use Rattle.sdl_outcome.specs.Stations.{IsAgent, Among, next, taker}
 use Rattle.sdl_outcome.specs.Books.{standing}
 use Rattle.sdl_outcome.specs.Steps.{Acts, IsUnchangedAt, bound_for}

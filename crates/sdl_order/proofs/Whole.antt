@@ -9,8 +9,8 @@ use Rattle.sdl_behaviour.specs.declared.step.Step.{Step}
 use Rattle.sdl_log.specs.declared.event.Event.{Event}
 use Rattle.sdl_log.specs.declared.event.Done.{Done}
 use Rattle.sdl_log.specs.declared.event.Done.TheVariants.{Sent, NoRoute, Made}
-use Rattle.sdl_outcome.specs.sdl_instances.Machine.{State}
-use Rattle.sdl_outcome.specs.sdl_instances.Run.{IsStamped, IsNumbered, all_done, origins, origin_by}
+use Rattle.sdl_instances.specs.Machine.{State}
+use Rattle.sdl_instances.specs.Run.{IsStamped, IsNumbered, all_done, origins, origin_by}
 use Rattle.sdl_outcome.specs.Books.{InOrder}
 use Rattle.sdl_outcome.specs.Causes.{IsCause}
 use Rattle.sdl_outcome.specs.Plan.{Plan, IsPlan, ways_of}

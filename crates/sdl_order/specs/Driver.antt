@@ -8,20 +8,20 @@ use Rattle.sdl_routes.specs.declared.route.Station.{Station}
 use Rattle.sdl_routes.specs.declared.route.Station.TheVariants.{Line, Outlet}
 use Rattle.sdl_behaviour.specs.declared.step.Frame.{Frame}
 use Rattle.sdl_behaviour.specs.declared.step.Step.{Step}
-use Rattle.sdl_outcome.specs.sdl_instances.Machine.{State}
-use Rattle.sdl_outcome.specs.sdl_instances.Run.{arrived, sent}
-use Rattle.sdl_outcome.specs.sdl_instances.Core.{Core, IsSound, signals_of, sets_of}
-use Rattle.sdl_outcome.specs.sdl_forward.Boards.{same_hop, waiting, IsBoardOf}
-use Rattle.sdl_outcome.specs.sdl_forward.declared.forwarder.Forwarded.{Forwarded}
-use Rattle.sdl_outcome.specs.sdl_forward.Forwards.{Forwarding}
-use Rattle.sdl_outcome.specs.sdl_forward.Forwards as hands
-use Rattle.sdl_outcome.specs.sdl_hand.declared.hand.Stepped.{Stepped}
-use Rattle.sdl_outcome.specs.sdl_opening.declared.worker.Worker.{Worker}
-use Rattle.sdl_outcome.specs.sdl_opening.declared.worker.Worker.TheVariants.{Block, Environment, Forwarder}
+use Rattle.sdl_instances.specs.Machine.{State}
+use Rattle.sdl_instances.specs.Run.{arrived, sent}
+use Rattle.sdl_instances.specs.Core.{Core, IsSound, signals_of, sets_of}
+use Rattle.sdl_forward.specs.Boards.{same_hop, waiting, IsBoardOf}
+use Rattle.sdl_forward.specs.declared.forwarder.Forwarded.{Forwarded}
+use Rattle.sdl_forward.specs.Forwards.{Forwarding}
+use Rattle.sdl_forward.specs.Forwards as hands
+use Rattle.sdl_hand.specs.declared.hand.Stepped.{Stepped}
+use Rattle.sdl_opening.specs.declared.worker.Worker.{Worker}
+use Rattle.sdl_opening.specs.declared.worker.Worker.TheVariants.{Block, Environment, Forwarder}
 use Rattle.sdl_outcome.specs.Stations.{IsAgent}
 use Rattle.sdl_outcome.specs.Books.{Books, InOrder, standing}
 use Rattle.sdl_outcome.specs.Plan.{Plan, blocks_in, lines_of, system_at, ways_of, MayTravel}
-use Rattle.sdl_outcome.specs.sdl_hand.Work.{Working, StepsAs, IsAtRest}
+use Rattle.sdl_hand.specs.Work.{Working, StepsAs, IsAtRest}
 use Rattle.sdl_outcome.specs.EnvironmentWork.{EnvWorking, env_sent, env_origins, AreCounted, ComesIn, IsEnvFresh, IsEnvSound, EnvStepsAs}
 use Rattle.sdl_outcome.specs.Outcome.{WorkerHand, Outcome}
 

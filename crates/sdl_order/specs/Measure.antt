@@ -2,16 +2,16 @@
 use Rattle.std.specs.Prelude.{ℕ, suc, ◌+◌, ◌-◌, ◌*◌, cond, List, [], ◌∷◌, Some, None, length, slice_get, sum_by}
 use Rattle.sdl_signal.specs.declared.values.Item.{Item}
 use Rattle.sdl_routes.specs.declared.route.Station.{Station}
-use Rattle.sdl_outcome.specs.sdl_instances.Run.{turns}
-use Rattle.sdl_outcome.specs.sdl_forward.Boards.{same_station}
-use Rattle.sdl_outcome.specs.sdl_opening.declared.worker.Worker.{Worker}
-use Rattle.sdl_outcome.specs.sdl_opening.declared.worker.Worker.TheVariants.{Block, Environment, Forwarder}
+use Rattle.sdl_instances.specs.Run.{turns}
+use Rattle.sdl_forward.specs.Boards.{same_station}
+use Rattle.sdl_opening.specs.declared.worker.Worker.{Worker}
+use Rattle.sdl_opening.specs.declared.worker.Worker.TheVariants.{Block, Environment, Forwarder}
 use Rattle.sdl_outcome.specs.Stations.{Ways, place}
 use Rattle.sdl_outcome.specs.Books.{standing}
 use Rattle.sdl_outcome.specs.Plan.{Plan, ways_of, workers_of}
 use Rattle.sdl_signal.specs.Environment.{most_lines}
 use Rattle.sdl_outcome.specs.EnvironmentWork.{EnvWorking}
-use Rattle.sdl_outcome.specs.sdl_hand.Work.{Working}
+use Rattle.sdl_hand.specs.Work.{Working}
 use Rattle.sdl_order.specs.Driver.{Site, site_books}
 
 -- how many stations of the list there are from s on
@@ -27,7 +27,7 @@ to_go t s items = sum_by (λ (i : Item). stations_from s (t.stations i.route.0))
 abbrev pub to_go_out : Ways → List Item → ℕ
 to_go_out t items = sum_by (λ (i : Item). length (t.stations i.route.0) + 1) items
 
--- the lines that the environment may still read, and the end behind them
+-- the lines that the environment may still read, and the end after them
 abbrev pub lines_left : EnvWorking → ℕ
 lines_left w = elim w.ended [ None ↦ (most_lines - w.reading.carried) + 1 | Some end ↦ 0 ]
 

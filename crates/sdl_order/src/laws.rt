@@ -2,7 +2,7 @@
 ghost use Rattle.sdl_outcome.specs.Stations.{Ways, AreWays};
 ghost use Rattle.sdl_outcome.specs.Books.{Books, InOrder, outs, came, left};
 ghost use Rattle.sdl_outcome.specs.Steps.{Steps};
-ghost use Rattle.sdl_outcome.specs.sdl_instances.Machine.{State};
+ghost use Rattle.sdl_instances.specs.Machine.{State};
 ghost use Rattle.std.specs.Prelude.{◌≡◌, ℕ, List, [], ◌∷◌, ◌++◌, Option, Some, true, false};
 ghost use Rattle.sdl_signal.specs.declared.ends.InputEnd.TheVariants as input;
 ghost use Rattle.sdl_signal.specs.declared.ends.OutputEnd.TheVariants as output;
@@ -13,8 +13,8 @@ ghost use Rattle.sdl_outcome.specs.declared.environment_output.EnvOut.TheVariant
 ghost use Rattle.sdl_outcome.specs.EnvironmentWork.{HasReadAll, HasWritten, AreCounted, received_text, env_origins};
 ghost use Rattle.sdl_signal.specs.declared.values.Item.{Item};
 ghost use Rattle.sdl_log.specs.declared.event.Trigger.TheVariants as trigger;
-ghost use Rattle.sdl_outcome.specs.sdl_instances.Run.{IsStamped};
-ghost use Rattle.sdl_outcome.specs.sdl_opening.declared.worker.Worker.TheVariants.{Block, Environment, Forwarder};
+ghost use Rattle.sdl_instances.specs.Run.{IsStamped};
+ghost use Rattle.sdl_opening.specs.declared.worker.Worker.TheVariants.{Block, Environment, Forwarder};
 ghost use Rattle.sdl_outcome.specs.Ends.{IsSpentAt, IsQuiet};
 ghost use Rattle.sdl_order.specs.Driver.{Site, IsAtWork, IsFresh};
 ghost use Rattle.sdl_outcome.specs.Ring.{plan, block, hop, tok, leaves, no_one, stops_early, enters, sends};

@@ -2,6 +2,3 @@
 #![tactic(auto)]
 
 pub mod laws;
-
-pub use sdl_outcome;
-pub use sdl_outcome::{sdl_forward, sdl_hand, sdl_instances, sdl_opening};

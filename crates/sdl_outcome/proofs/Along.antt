@@ -8,7 +8,7 @@ use Rattle.sdl_routes.specs.declared.route.Hop.{Hop}
 use Rattle.sdl_signal.specs.declared.values.Item.{Item}
 use Rattle.sdl_routes.specs.declared.route.Station.{Station}
 use Rattle.sdl_routes.specs.declared.route.Station.TheVariants.{Line}
-use Rattle.sdl_hand.specs.sdl_opening.declared.worker.Worker.{Worker}
+use Rattle.sdl_opening.specs.declared.worker.Worker.{Worker}
 use Rattle.sdl_outcome.specs.Stations.{Ways, Leads, AreWays, IsWay, Among, first, next, place}
 use Rattle.sdl_outcome.specs.Books.{Books, InOrder, NoOther, of_route}
 use Rattle.sdl_outcome.specs.Steps.{bound_for}

@@ -5,12 +5,12 @@ use Rattle.std.proofs.lemmas.Option.{same_Some}
 use Rattle.sdl_routes.specs.declared.route.Hop.{Hop}
 use Rattle.sdl_routes.specs.declared.route.Station.{Station}
 use Rattle.sdl_routes.specs.declared.route.Station.TheVariants.{Line}
-use Rattle.sdl_hand.specs.sdl_opening.declared.worker.Worker.{Worker}
-use Rattle.sdl_hand.specs.sdl_opening.declared.worker.Worker.TheVariants.{Block, Environment, Forwarder}
-use Rattle.sdl_hand.specs.sdl_opening.Opens.{Brings}
-use Rattle.sdl_hand.specs.sdl_forward.Boards.{same_station}
+use Rattle.sdl_opening.specs.declared.worker.Worker.{Worker}
+use Rattle.sdl_opening.specs.declared.worker.Worker.TheVariants.{Block, Environment, Forwarder}
+use Rattle.sdl_opening.specs.Opens.{Brings}
+use Rattle.sdl_forward.specs.Boards.{same_station}
 use Rattle.sdl_outcome.specs.Stations.{Ways, IsAgent, Leads, AreWays, IsWay, Among, Once, first, next, place, taker}
-use Rattle.sdl_hand.specs.sdl_forward.Forwards.{station_behind}
+use Rattle.sdl_forward.specs.Forwards.{station_behind}
 use Rattle.sdl_outcome.proofs.Comparisons.{same_station_is, same_station_itself}
 
 pub first_among : (ss : List Station) (s : Station) → first ss ≡ Some s → Among s ss

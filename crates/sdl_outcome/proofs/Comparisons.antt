@@ -7,9 +7,9 @@ use Rattle.sdl_routes.specs.declared.route.Hop.{Hop}
 use Rattle.sdl_signal.specs.declared.ids.BlockId.{BlockId}
 use Rattle.sdl_routes.specs.declared.route.Station.{Station}
 use Rattle.sdl_routes.specs.declared.route.Station.TheVariants.{Line, Inlet, Outlet}
-use Rattle.sdl_hand.specs.sdl_opening.declared.worker.Worker.{Worker}
-use Rattle.sdl_hand.specs.sdl_opening.declared.worker.Worker.TheVariants.{Block, Environment, Forwarder}
-use Rattle.sdl_hand.specs.sdl_forward.Boards.{same_hop, same_station}
+use Rattle.sdl_opening.specs.declared.worker.Worker.{Worker}
+use Rattle.sdl_opening.specs.declared.worker.Worker.TheVariants.{Block, Environment, Forwarder}
+use Rattle.sdl_forward.specs.Boards.{same_hop, same_station}
 use Rattle.sdl_outcome.specs.Stations.{same_worker}
 
 block : ℕ → BlockId

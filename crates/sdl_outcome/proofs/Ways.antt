@@ -14,8 +14,8 @@ use Rattle.sdl_routes.specs.declared.route.Station.{Station}
 use Rattle.sdl_routes.specs.declared.route.Station.TheVariants.{Line, Inlet}
 use Rattle.sdl_routes.specs.Routes.{IsRoute, IsLastStation, EachOnce, is_delaying}
 use Rattle.sdl_routes.specs.Table.{IsTableRoute}
-use Rattle.sdl_hand.specs.sdl_opening.declared.worker.Worker.{Worker}
-use Rattle.sdl_hand.specs.sdl_opening.declared.worker.Worker.TheVariants.{Block, Environment}
+use Rattle.sdl_opening.specs.declared.worker.Worker.{Worker}
+use Rattle.sdl_opening.specs.declared.worker.Worker.TheVariants.{Block, Environment}
 use Rattle.sdl_outcome.specs.Stations.{IsAgent, Leads, AreWays, IsWay, Among, Once, place}
 use Rattle.sdl_outcome.proofs.Lists.{all_at}
 use Rattle.sdl_outcome.specs.Plan.{Plan, IsPlan, ways_of, starter, finisher}

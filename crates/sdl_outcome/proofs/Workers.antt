@@ -6,8 +6,8 @@ use Rattle.sdl_routes.specs.declared.route.Hop.{Hop}
 use Rattle.sdl_routes.specs.declared.route.Station.{Station}
 use Rattle.sdl_routes.specs.declared.route.Station.TheVariants.{Line, Inlet, Outlet}
 use Rattle.sdl_routes.specs.Routes.{EachOnce}
-use Rattle.sdl_hand.specs.sdl_opening.declared.worker.Worker.{Worker}
-use Rattle.sdl_hand.specs.sdl_opening.declared.worker.Worker.TheVariants.{Block, Environment, Forwarder}
+use Rattle.sdl_opening.specs.declared.worker.Worker.{Worker}
+use Rattle.sdl_opening.specs.declared.worker.Worker.TheVariants.{Block, Environment, Forwarder}
 use Rattle.sdl_outcome.specs.Stations.{place, taker}
 use Rattle.sdl_outcome.specs.Plan.{Plan, blocks_in, blocks_from, lines_of, workers_of}
 use Rattle.sdl_outcome.proofs.Lists.{all_append, all_weaker}

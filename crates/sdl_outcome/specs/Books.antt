@@ -4,7 +4,7 @@ use Rattle.std.specs.Prelude.{ℕ, ◌==◌, List, ◌++◌, reverse, ◌≡◌}
 use Rattle.std.specs.List.{filter, flat_map, AllByRecursion}
 use Rattle.sdl_signal.specs.declared.values.Item.{Item}
 use Rattle.sdl_routes.specs.declared.route.Station.{Station}
-use Rattle.sdl_hand.specs.sdl_opening.declared.worker.Worker.{Worker}
+use Rattle.sdl_opening.specs.declared.worker.Worker.{Worker}
 use Rattle.sdl_outcome.specs.Stations.{Ways, Leads, IsAgent, Among, place, taker}
 
 -- what each worker sent, what arrived at it, what it keeps untreated and what it has yet to put; what rests at each station

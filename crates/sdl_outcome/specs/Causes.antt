@@ -3,7 +3,7 @@
 use Rattle.std.specs.Prelude.{ℕ, List, [], ◌∷◌, ◌⊎◌}
 use Rattle.sdl_signal.specs.declared.values.Item.{Item}
 use Rattle.sdl_log.specs.declared.event.Event.{Event}
-use Rattle.sdl_hand.specs.sdl_instances.Run.{arrived_in, sent}
+use Rattle.sdl_instances.specs.Run.{arrived_in, sent}
 use Rattle.sdl_outcome.specs.Stations.{Among}
 
 -- i arrived before o was sent

@@ -6,10 +6,10 @@ use Rattle.sdl_signal.specs.declared.values.Pid.{Pid}
 use Rattle.sdl_routes.specs.declared.route.Hop.{Hop}
 use Rattle.sdl_routes.specs.declared.route.Station.{Station}
 use Rattle.sdl_routes.specs.declared.route.Station.TheVariants as station
-use Rattle.sdl_hand.specs.sdl_instances.Machine.{State}
-use Rattle.sdl_hand.specs.sdl_instances.Run.{turns}
-use Rattle.sdl_hand.specs.sdl_instances.Core.{IsReady}
-use Rattle.sdl_hand.specs.sdl_forward.Boards.{waiting}
+use Rattle.sdl_instances.specs.Machine.{State}
+use Rattle.sdl_instances.specs.Run.{turns}
+use Rattle.sdl_instances.specs.Core.{IsReady}
+use Rattle.sdl_forward.specs.Boards.{waiting}
 use Rattle.sdl_outcome.specs.declared.end.RunEnd.{RunEnd}
 use Rattle.sdl_outcome.specs.declared.end.RunEnd.TheVariants as run_end
 use Rattle.sdl_outcome.specs.Plan.{Plan, blocks_in, workers_of}

@@ -27,10 +27,10 @@ use Rattle.sdl_routes.specs.declared.route.Via.TheVariants as via
 use Rattle.sdl_routes.specs.declared.route.Wish.{Wish}
 use Rattle.sdl_routes.specs.declared.route.Station.{Station}
 use Rattle.sdl_routes.specs.declared.route.Station.TheVariants.{Outlet}
-use Rattle.sdl_hand.specs.sdl_instances.Legal.{IsLegal}
-use Rattle.sdl_hand.specs.sdl_instances.Machine.{FitsAt, NoneFits, goal_at}
-use Rattle.sdl_hand.specs.sdl_instances.Core.{signals_of, sets_of}
-use Rattle.sdl_hand.specs.sdl_forward.Boards.{stations_of, waiting}
+use Rattle.sdl_instances.specs.Legal.{IsLegal}
+use Rattle.sdl_instances.specs.Machine.{FitsAt, NoneFits, goal_at}
+use Rattle.sdl_instances.specs.Core.{signals_of, sets_of}
+use Rattle.sdl_forward.specs.Boards.{stations_of, waiting}
 use Rattle.sdl_hand.specs.declared.hand.Stepped.{Stepped}
 use Rattle.sdl_hand.specs.declared.hand.Stepped.TheVariants.{Did, Idle, Memory}
 use Rattle.sdl_hand.specs.Work.{beginning_at}

@@ -1,8 +1,3 @@
-pub use Rattle.sdl_hand.specs as sdl_hand
-pub use Rattle.sdl_hand.specs.sdl_ends
-pub use Rattle.sdl_hand.specs.sdl_forward
-pub use Rattle.sdl_hand.specs.sdl_instances
-pub use Rattle.sdl_hand.specs.sdl_opening
 pub mod Stations
 pub mod Books
 pub mod Steps

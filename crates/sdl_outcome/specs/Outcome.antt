@@ -8,10 +8,10 @@ use Rattle.sdl_routes.specs.declared.route.Station.{Station}
 use Rattle.sdl_behaviour.specs.declared.step.Frame.{Frame}
 use Rattle.sdl_behaviour.specs.declared.step.Step.{Step}
 use Rattle.sdl_log.specs.declared.event.Event.{Event}
-use Rattle.sdl_hand.specs.sdl_instances.Machine.{State}
-use Rattle.sdl_hand.specs.sdl_instances.Run.{IsRun, arrived, sent, origins}
-use Rattle.sdl_hand.specs.sdl_forward.Boards.{waiting, IsBoardOf}
-use Rattle.sdl_hand.specs.sdl_opening.declared.worker.Worker.{Worker}
+use Rattle.sdl_instances.specs.Machine.{State}
+use Rattle.sdl_instances.specs.Run.{IsRun, arrived, sent, origins}
+use Rattle.sdl_forward.specs.Boards.{waiting, IsBoardOf}
+use Rattle.sdl_opening.specs.declared.worker.Worker.{Worker}
 use Rattle.sdl_outcome.specs.declared.environment_output.EnvOut.{EnvOut}
 use Rattle.sdl_outcome.specs.EnvironmentWork.{env_sent, env_origins, AreCounted}
 use Rattle.sdl_outcome.specs.Stations.{Among, same_worker}

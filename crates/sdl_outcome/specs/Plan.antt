@@ -7,12 +7,12 @@ use Rattle.sdl_routes.specs.declared.route.TableRow.{TableRow}
 use Rattle.sdl_routes.specs.Routes.{AreRoutesOf}
 use Rattle.sdl_routes.specs.Table.{IsTable}
 use Rattle.sdl_transition.specs.Rules.{Rules}
-use Rattle.sdl_hand.specs.sdl_instances.Legal.{IsLegal}
-use Rattle.sdl_hand.specs.sdl_instances.Machine.{System}
-use Rattle.sdl_hand.specs.sdl_instances.Core.{signals_of, sets_of}
-use Rattle.sdl_hand.specs.sdl_opening.declared.worker.Worker.{Worker}
-use Rattle.sdl_hand.specs.sdl_opening.Workers.{workers_in, ways_in}
-pub use Rattle.sdl_hand.specs.sdl_opening.Workers.{blocks_from, path_line, lines_from, worker_of_set, starter, finisher}
+use Rattle.sdl_instances.specs.Legal.{IsLegal}
+use Rattle.sdl_instances.specs.Machine.{System}
+use Rattle.sdl_instances.specs.Core.{signals_of, sets_of}
+use Rattle.sdl_opening.specs.declared.worker.Worker.{Worker}
+use Rattle.sdl_opening.specs.Workers.{workers_in, ways_in}
+pub use Rattle.sdl_opening.specs.Workers.{blocks_from, path_line, lines_from, worker_of_set, starter, finisher}
 use Rattle.sdl_outcome.specs.Stations.{Ways}
 
 pub record Plan : Type 0 where

@@ -27,7 +27,7 @@ use Rattle.sdl_log.specs.declared.event.Event.TheVariants as event
 use Rattle.sdl_log.specs.declared.event.Done.TheVariants as done
 use Rattle.sdl_log.specs.declared.event.Trigger.{Trigger}
 use Rattle.sdl_log.specs.declared.event.Trigger.TheVariants as trigger
-use Rattle.sdl_hand.specs.sdl_instances.Machine.{State}
+use Rattle.sdl_instances.specs.Machine.{State}
 use Rattle.sdl_outcome.specs.Plan.{Plan}
 use Rattle.sdl_outcome.specs.Outcome.{Outcome, WorkerHand}
 

@@ -3,7 +3,7 @@ use Rattle.std.specs.Prelude.{ℕ, List, [], ◌∷◌, ◌++◌, map, ◌≡◌
 use Rattle.sdl_routes.specs.declared.route.Hop.{Hop}
 use Rattle.sdl_routes.specs.declared.route.Station.{Station}
 use Rattle.sdl_routes.specs.declared.route.Station.TheVariants.{Line}
-pub use Rattle.sdl_hand.specs.sdl_opening.Workers.{same_worker, taker, place, IsAgent, Ways, first, next, Among}
+pub use Rattle.sdl_opening.specs.Workers.{same_worker, taker, place, IsAgent, Ways, first, next, Among}
 
 -- each station once
 abbrev pub Once : List Station → Type 0

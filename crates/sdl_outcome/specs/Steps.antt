@@ -5,8 +5,8 @@ use Rattle.sdl_signal.specs.declared.values.Item.{Item}
 use Rattle.sdl_routes.specs.declared.route.Hop.{Hop}
 use Rattle.sdl_routes.specs.declared.route.Station.{Station}
 use Rattle.sdl_routes.specs.declared.route.Station.TheVariants.{Line}
-use Rattle.sdl_hand.specs.sdl_opening.declared.worker.Worker.{Worker}
-use Rattle.sdl_hand.specs.sdl_opening.declared.worker.Worker.TheVariants.{Forwarder}
+use Rattle.sdl_opening.specs.declared.worker.Worker.{Worker}
+use Rattle.sdl_opening.specs.declared.worker.Worker.TheVariants.{Forwarder}
 use Rattle.sdl_hand.specs.Work.{is_station}
 use Rattle.sdl_outcome.specs.Stations.{Ways, IsAgent, next, place}
 use Rattle.sdl_outcome.specs.Books.{Books, standing}

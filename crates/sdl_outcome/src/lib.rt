@@ -6,6 +6,4 @@ mod environment_output;
 
 pub use end::RunEnd;
 pub use environment_output::EnvOut;
-pub use sdl_hand;
-pub use sdl_hand::sdl_opening::Worker;
-pub use sdl_hand::{sdl_ends, sdl_forward, sdl_instances, sdl_opening};
+pub use sdl_opening::Worker;

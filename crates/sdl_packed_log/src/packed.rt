@@ -43,7 +43,7 @@ pub struct Last {
 }
 
 /// A log that is stored whole, in less memory than a list of its events takes (this project's own). An arrival takes 160 bytes,
-/// and a turn 784, with 112 more for each action of its step and 144 for what each of them did; in a list each event takes 2,672.
+/// and a turn 784. Each action of a turn's step takes 112 more, and what each of them did 144; in a list each event takes 2,672.
 #[derive(Drop)]
 pub struct Packed {
     notes: Vec<Note>,

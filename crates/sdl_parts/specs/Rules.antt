@@ -28,7 +28,7 @@ HasEndsApart c = (c.first.gate ≢ c.second.gate) × ¬ ((c.first.side ≡ Inner
 abbrev pub CarriesSome : Channel → Type 0
 CarriesSome c = ¬ ((c.forth.items ≡ []) × (c.back.items ≡ []))
 
--- (3) At an outer side a signal of a path that starts there is in the outward list, and one of a path that ends there in
+-- (3) At an outer side a signal of a path that starts there is in the outward list. One of a path that ends there is in
 -- the inward list. At an inner side it is the reverse.
 abbrev pub AdmitsStart : Gate → Side → SignalId → Type 0
 AdmitsStart g Outer signal = Contains g.outward.items signal

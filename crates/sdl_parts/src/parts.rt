@@ -18,8 +18,8 @@ pub struct Block {
     pub name: Name,
 }
 
-/// A set of process instances in a block, with the number of instances that a run begins with and the most that may live at a time,
-/// each at most 1,024 (this project's own limit).
+/// A set of process instances in a block. It has the number of instances that a run begins with, and the most that may live at a
+/// time. Each is at most 1,024 (this project's own limit).
 #[derive(Drop)]
 pub struct Set {
     pub name: Name,

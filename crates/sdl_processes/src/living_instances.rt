@@ -18,8 +18,8 @@ use sdl_signal::{Item, Pid, SetId, StateId, Value};
 use std::alloc::{AllocError, Global};
 use std::marker::Model;
 
-/// The living instances of a block in the order of their creation, with the counts of those that are ready, and the places
-/// of those of each set.
+/// The living instances of a block in the order of their creation, with the counts of those that are ready. The places of
+/// those of each set stand beside them.
 #[derive(Drop)]
 pub struct Instances {
     map: IndexMap<Pid, Instance>,
@@ -122,8 +122,8 @@ impl Instances {
         }
     }
 
-    /// Puts the item of the slot, which has one, at the back of the port of the instance at this place, and leaves the slot empty.
-    /// A refusal changes nothing.
+    /// Puts the item of the slot, which has one, at the back of the port of the instance at this place. The slot is empty after
+    /// that. A refusal changes nothing.
     #[inline(always)]
     pub fn receive_from(&mut self, place: usize, slot: &mut Option<Item>) -> Result<Pid, AllocError>
         requires within { place < length self.old.entries }

@@ -61,7 +61,7 @@ fn clear(counts: &mut Vec<usize>)
     counts.fill(0);
 }
 
-/// Walks from this number on, over as many as are to be skipped, and gives where it stops, and how many of those counted
+/// Walks from this number on, over as many as are to be skipped. It gives where it stops, and how many of those counted
 /// there are still to be skipped.
 fn seek(counts: &[usize], start: usize, skip: usize) -> (usize, usize)
     requires { sum (take start counts.now) + skip < sum counts.now }

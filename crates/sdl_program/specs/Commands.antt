@@ -1,20 +1,20 @@
 -- What the program does of its commands, and its exit statuses. (This project's own.)
 use Rattle.std.specs.Prelude.{◌≡◌, ◌≢◌, ℕ, ◌⊎◌, List, Option, None, Some, IsSomeAnd}
 use Rattle.std.specs.Io.KnownBytes.{Keeps}
-use Rattle.sdl_file_commands.specs.sdl_run.sdl_parts.Structure.{Structure}
-use Rattle.sdl_file_commands.specs.sdl_run.sdl_routes.declared.route.TableRow.{TableRow}
-use Rattle.sdl_file_commands.specs.sdl_run.sdl_behaviour.declared.step.Frame.{Frame}
-use Rattle.sdl_file_commands.specs.sdl_run.sdl_behaviour.declared.step.Step.{Step}
+use Rattle.sdl_parts.specs.Structure.{Structure}
+use Rattle.sdl_routes.specs.declared.route.TableRow.{TableRow}
+use Rattle.sdl_behaviour.specs.declared.step.Frame.{Frame}
+use Rattle.sdl_behaviour.specs.declared.step.Step.{Step}
 use Rattle.sdl_agents.specs.declared.systems.System.{System}
 use Rattle.sdl_agents.specs.declared.systems.System.TheVariants as system
 use Rattle.sdl_agents.specs.Systems.{system_of}
 use Rattle.sdl_agents.specs.Tables.{EchoMay, RelayMay, SpawnMay, RingMay}
-use Rattle.sdl_file_commands.specs.sdl_command.declared.arguments.Arguments.{Arguments}
-use Rattle.sdl_file_commands.specs.sdl_command.declared.arguments.Arguments.TheVariants as arguments
-use Rattle.sdl_file_commands.specs.sdl_command.declared.arguments.Options.{Options}
-use Rattle.sdl_file_commands.specs.sdl_command.declared.arguments.Command.TheVariants as command
-use Rattle.sdl_file_commands.specs.sdl_command.Arguments.{arguments_of}
-use Rattle.sdl_file_commands.specs.sdl_command.Pipe.{IsPipedAs}
+use Rattle.sdl_command.specs.declared.arguments.Arguments.{Arguments}
+use Rattle.sdl_command.specs.declared.arguments.Arguments.TheVariants as arguments
+use Rattle.sdl_command.specs.declared.arguments.Options.{Options}
+use Rattle.sdl_command.specs.declared.arguments.Command.TheVariants as command
+use Rattle.sdl_command.specs.Arguments.{arguments_of}
+use Rattle.sdl_command.specs.Pipe.{IsPipedAs}
 use Rattle.sdl_file_commands.specs.Commands.{IsDone}
 use Rattle.sdl_file_commands.specs.Outcomes.{HasRunBy}
 use Rattle.sdl_program.specs.declared.running.Job.{Job}

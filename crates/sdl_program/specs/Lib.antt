@@ -1,2 +1,1 @@
-pub use Rattle.sdl_file_commands.specs as sdl_file_commands
 pub mod Commands

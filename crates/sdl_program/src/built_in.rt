@@ -4,15 +4,15 @@ ghost use Rattle.std.specs.List.{AllByRecursion};
 ghost use Rattle.std.specs.Io.KnownBytes.{Keeps};
 ghost use Rattle.sdl_agents.specs.Tables.{EchoMay, RelayMay, SpawnMay, RingMay};
 ghost use Rattle.sdl_file_commands.specs.Running.{CanRun};
-ghost use Rattle.sdl_file_commands.specs.sdl_run.sdl_transition.Transitions.{IsAllowedBehaviour};
+ghost use Rattle.sdl_behaviour.specs.Transitions.{IsAllowedBehaviour};
 ghost use Rattle.sdl_program.specs.Commands.{HasRunJob, may_of};
 
 use crate::running::Job;
 use sdl_agents::{System, echo_behaviours, relay_behaviours, ring_behaviours, spawn_behaviours};
+use sdl_command::status::REFUSED;
 use sdl_file_commands::faults::write_bind_fault;
 use sdl_file_commands::in_threads::run_bound_in_threads;
-use sdl_file_commands::sdl_command::status::REFUSED;
-use sdl_file_commands::sdl_run::sdl_transition::{Agents, Behaviour, bind};
+use sdl_transition::{Agents, Behaviour, bind};
 use std::alloc::{AllocError, Global};
 use std::io::{Read, Write};
 use std::sync::Wait;

@@ -7,8 +7,7 @@ pub mod program;
 mod running;
 pub mod systems;
 
-pub use sdl_file_commands;
-pub use sdl_file_commands::sdl_command::arguments::{Arguments, Command, Options, read_arguments};
-pub use sdl_file_commands::sdl_command::pipe::pipe;
+pub use sdl_command::arguments::{Arguments, Command, Options, read_arguments};
+pub use sdl_command::pipe::pipe;
 pub use sdl_file_commands::streams;
 pub use systems::{carry_out, run_file};

@@ -1,18 +1,18 @@
 //! What the program does, over any reader and writers, and its exit statuses.
 ghost use Rattle.std.specs.Prelude.{◌≡◌, ◌≢◌, ◌⊎◌, List, ℕ, map, IfOk, IsErr};
 ghost use Rattle.std.specs.Io.KnownBytes.{Keeps};
-ghost use Rattle.sdl_file_commands.specs.sdl_command.Arguments.{arguments_of};
+ghost use Rattle.sdl_command.specs.Arguments.{arguments_of};
 ghost use Rattle.sdl_file_commands.specs.Commands.{IsDone};
 ghost use Rattle.sdl_program.specs.Commands.{Answers, HasRunBuiltIn, IsAnswered, IsUntouched};
 
 use crate::systems::run_file;
+use sdl_command::arguments::{Arguments, Command, Options, read_arguments};
+use sdl_command::errors::{without_memory, write_error};
+pub use sdl_command::pipe::pipe_command;
+pub use sdl_command::status::{FAULTY, REFUSED, WHOLE, WRONG_ARGUMENTS};
 use sdl_file_commands::files::{FileRead, read_file};
-use sdl_file_commands::sdl_command::arguments::{Arguments, Command, Options, read_arguments};
-use sdl_file_commands::sdl_command::errors::{without_memory, write_error};
-pub use sdl_file_commands::sdl_command::pipe::pipe_command;
-pub use sdl_file_commands::sdl_command::status::{FAULTY, REFUSED, WHOLE, WRONG_ARGUMENTS};
-use sdl_file_commands::sdl_structure::FileFault;
 use sdl_file_commands::words::{words_behind_the_name, words_of};
+use sdl_structure::FileFault;
 use std::alloc::{AllocError, Global};
 use std::io::{Read, Write};
 use std::rt::{Env, Files};

@@ -7,11 +7,11 @@ ghost use Rattle.sdl_program.specs.Commands.{HasRunBuiltIn};
 
 use crate::built_in::run_system;
 use sdl_agents::system_named;
+use sdl_command::errors::{without_memory, write_error};
+use sdl_command::status::REFUSED;
 use sdl_file_commands::running::Settings;
-use sdl_file_commands::sdl_command::errors::{without_memory, write_error};
-use sdl_file_commands::sdl_command::status::REFUSED;
-use sdl_file_commands::sdl_run::sdl_parts::Checked;
-use sdl_file_commands::sdl_run::sdl_routes::Routes;
+use sdl_parts::Checked;
+use sdl_routes::Routes;
 use std::io::{Read, Write};
 use std::sync::Wait;
 use std::thread::Threads;

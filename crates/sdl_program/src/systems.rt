@@ -7,11 +7,11 @@ ghost use Rattle.sdl_file_commands.specs.Commands.{IsDone, ComesTo};
 ghost use Rattle.sdl_program.specs.Commands.{HasRunBuiltIn};
 
 use crate::running::run_command;
+use sdl_command::arguments::{Command, Options};
+use sdl_command::status::REFUSED;
 use sdl_file_commands::commands::{check_command, checked_file, routes_command, routes_in};
 use sdl_file_commands::running::Settings;
-use sdl_file_commands::sdl_command::arguments::{Command, Options};
-use sdl_file_commands::sdl_command::status::REFUSED;
-use sdl_file_commands::sdl_run::sdl_parts::{Checked, Structure};
+use sdl_parts::{Checked, Structure};
 use std::alloc::Global;
 use std::io::{Read, Write};
 use std::sync::Wait;

@@ -1,9 +1,9 @@
 //! The lines on standard error: each is handed to its writer in one call.
 use super::bytes::{reader_of, writer_of};
 use super::trial::{ECHO_TRIAL, PLENTY, Trial, run};
+use sdl_command::errors::write_error;
 use sdl_examples::ECHO;
 use sdl_program::program::{FAULTY, REFUSED};
-use sdl_program::sdl_file_commands::sdl_command::errors::write_error;
 use std::test::Fail;
 
 /// The block's gate lets no signal in.

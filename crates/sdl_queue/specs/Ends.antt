@@ -60,8 +60,8 @@ fresh_feed o f = record { opening = o; number = f; put = []; backlog = [] }
 abbrev pub fresh_feeds : Opening → ℕ → List FeedEnd
 fresh_feeds o feeders = map (fresh_feed o) (range_with_len 0 feeders)
 
--- They are all the ends of one opening, the feeds in any order: each feed is of the tap's opening, there are as many as it has
--- feeders, and each feeder's is among them (so that each number stands there once, and no other).
+-- They are all the ends of one opening, the feeds in any order: each feed is of the tap's opening; there are as many as it has
+-- feeders; each feeder's is among them (so that each number stands there once, and no other).
 abbrev pub AreAllEnds : List FeedEnd → TapEnd → Type 0
 AreAllEnds feeds tap = AllByRecursion (λ f. f.opening ≡ tap.opening) feeds × (length feeds ≡ tap.feeders) × Covers tap.feeders (map put_of feeds)
 

@@ -5,8 +5,8 @@ use crossbeam_queue::{RuledSegQueue, SegPass};
 use sdl_signal::Item;
 use std::collections::LinkedList;
 
-/// An item with the number of the feeder that put it. It is filled up to 160 bytes, so that a processor copies it in whole parts of
-/// 32: the last of 144 bytes would be copied as a part that overlaps the one before, and who then reads that part waits until both
+/// An item with the number of the feeder that put it. It is filled up to 160 bytes, so that a processor copies it in whole parts
+/// of 32: the last of 144 bytes would be copied as a part that overlaps the one before. Who then reads that part waits until both
 /// are stored.
 #[derive(Drop)]
 pub struct Tagged {

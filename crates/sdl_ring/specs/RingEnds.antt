@@ -17,7 +17,7 @@ pub record RingOpening : Type 0 where
 abbrev pub opening_of : {T P : Type 0} → End T Global P → RingOpening
 opening_of e = record { words = e.words; slots = e.slots; names = e.names; heap = e.heap }
 
--- a feed: which opening it is of, what it has put, which of that still waits for room in the ring, and how many free slots
+-- a feed: which opening it is of, what it has put, and which of that still waits for room in the ring; how many free slots
 -- of the ring it knows of
 pub record RingFeedEnd : Type 0 where
   pub opening : RingOpening

@@ -37,7 +37,7 @@ hop_path s h = path_at s h.channel (hop_direction h)
 abbrev pub Carries : Structure → Hop → SignalId → Type 0
 Carries s h signal = IsSomeAnd (hop_path s h) (λ p. Contains p.signals signal)
 
--- a hop joins the next where it ends on one side of a block gate and the next starts on the other side of the same gate
+-- a hop joins the next where it ends on one side of a block gate, and the next starts on the gate's other side
 abbrev pub Joins : Structure → Hop → Hop → Type 0
 Joins s h k =
     IsSomeAnd (hop_path s h) (λ p. IsSomeAnd (hop_path s k) (λ q.
@@ -91,8 +91,9 @@ abbrev pub IsSource : Structure → GateId → Source → Type 0
 IsSource s gate (source.Set t) = IsSomeAnd (gate_at s gate) (λ g. g.owner ≡ owner.Set t)
 IsSource s gate (source.Gate e) = (e ≡ gate) × IsSomeAnd (gate_at s gate) (λ g. g.owner ≡ owner.System)
 
--- A route of the structure: a signal with hops, of which each carries it and joins the next, from a gate of a set or of the
--- system to such a gate. Its stations are its delaying hops in order, and then the inlet of the last set's block, or the outlet.
+-- A route of the structure: a signal with hops, each of which carries it and joins the next; it leads from a gate of a set or of
+-- the system to such a gate. Its stations are its delaying hops in order, and then the inlet of the last set's block, or the
+-- outlet.
 pub record IsRoute (s : Structure) (row : TableRow) : Type 0 where
   pub walk : IsWalk s row.route.signal row.route.hops.items
   pub start : StartsAtGate s row.route.hops.items row.route.start

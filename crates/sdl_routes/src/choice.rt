@@ -51,7 +51,7 @@ fn station_at(stations: &[Station], place: usize) -> Option<Station>
     stations.get(place).copied()
 }
 
-/// The station behind this one, and the first behind none.
+/// The station after this one, and the first after none.
 pub fn station_after(stations: &[Station], after: Option<Station>) -> Option<Station>
     requires { EachOnce stations.now }
     ensures { FollowsIn stations.now after result }

@@ -16,8 +16,8 @@ pub enum EndPoint {
     Environment(GateId),
 }
 
-/// Where an item of a route waits (this project's own): on a delaying path, in the inlet of a block, which every route to its
-/// sets enters last, or in the outlet, which every route to the environment enters last.
+/// Where an item of a route waits (this project's own): on a delaying path, in the inlet of a block, or in the outlet. Every
+/// route to a block's sets enters its inlet last, and every route to the environment enters the outlet last.
 #[derive(Clone, Copy, Debug, PartialEq, Eq, PartialOrd, Ord)]
 pub enum Station {
     Line(Hop),

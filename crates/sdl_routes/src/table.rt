@@ -78,7 +78,7 @@ impl Routes {
         self.rows.len()
     }
 
-    /// The first station of the route for `None`, else the station behind the one given. `None` behind the last station,
+    /// The first station of the route for `None`, else the station after the one given. `None` after the last station,
     /// for a station that is not the route's, and for a route that is not in the table.
     #[inline(always)]
     pub fn next(&self, route: RouteId, after: Option<Station>) -> Option<Station>

@@ -90,8 +90,8 @@ fn append_all_inner(alloc: Global, text: &mut String) -> Result<(), AllocError> 
     Ok(())
 }
 
-/// A system with 64 signals, one block and one set, and this many channels from the system's gate to the block's, and 8 from
-/// there to the set's, each with all signals.
+/// A system with 64 signals, one block and one set. It has this many channels from the system's gate to the block's, and 8
+/// from there to the set's, each with all signals.
 fn wide_file(alloc: Global, outer: u32) -> Result<String, AllocError> {
     let mut text = String::new(alloc);
     append_head(alloc, &mut text)?;

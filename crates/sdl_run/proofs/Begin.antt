@@ -2,26 +2,26 @@
 use Rattle.std.proofs.Common.{ℕ, zero, suc, ◌+◌, List, ◌∷◌, length, map, None, ◌≡◌, refl, ap, sym, ◌∙◌, subst, arith}
 use Rattle.std.proofs.lemmas.List.{length-map, length-append}
 use Rattle.std.specs.List.{AllByRecursion}
-use Rattle.sdl_settling.specs.sdl_parts.Structure.{Structure}
-use Rattle.sdl_settling.specs.sdl_routes.declared.route.TableRow.{TableRow}
-use Rattle.sdl_settling.specs.sdl_routes.declared.route.Station.{Station}
-use Rattle.sdl_settling.specs.sdl_behaviour.declared.step.Frame.{Frame}
-use Rattle.sdl_settling.specs.sdl_behaviour.declared.step.Step.{Step}
-use Rattle.sdl_settling.specs.sdl_transition.Bound.{AreOneSystem}
-use Rattle.sdl_settling.specs.sdl_ends.Ends.{WorkerEnds}
-use Rattle.sdl_settling.specs.sdl_opening.declared.worker.Worker.TheVariants.{Environment, Forwarder}
-use Rattle.sdl_settling.specs.sdl_opening.Workers.{blocks_from, lines_from}
-use Rattle.sdl_settling.specs.sdl_opening.Opens.{AreOpen}
-use Rattle.sdl_settling.specs.sdl_forward.Forwards.{Forwarding}
-use Rattle.sdl_settling.specs.sdl_serial_run.sdl_block.Workers.{worker_of, behaviours_of}
-use Rattle.sdl_settling.specs.sdl_serial_run.sdl_outcome.Plan.{blocks_in}
-use Rattle.sdl_settling.specs.sdl_serial_run.sdl_outcome.EnvironmentWork.{IsEnvFresh}
-use Rattle.sdl_settling.specs.sdl_serial_run.sdl_driver.declared.driver.Driver.{Driver}
-use Rattle.sdl_settling.specs.sdl_serial_run.sdl_driver.Drivers.{site_of, plan_of}
+use Rattle.sdl_parts.specs.Structure.{Structure}
+use Rattle.sdl_routes.specs.declared.route.TableRow.{TableRow}
+use Rattle.sdl_routes.specs.declared.route.Station.{Station}
+use Rattle.sdl_behaviour.specs.declared.step.Frame.{Frame}
+use Rattle.sdl_behaviour.specs.declared.step.Step.{Step}
+use Rattle.sdl_transition.specs.Bound.{AreOneSystem}
+use Rattle.sdl_ends.specs.Ends.{WorkerEnds}
+use Rattle.sdl_opening.specs.declared.worker.Worker.TheVariants.{Environment, Forwarder}
+use Rattle.sdl_opening.specs.Workers.{blocks_from, lines_from}
+use Rattle.sdl_opening.specs.Opens.{AreOpen}
+use Rattle.sdl_forward.specs.Forwards.{Forwarding}
+use Rattle.sdl_block.specs.Workers.{worker_of, behaviours_of}
+use Rattle.sdl_outcome.specs.Plan.{blocks_in}
+use Rattle.sdl_outcome.specs.EnvironmentWork.{IsEnvFresh}
+use Rattle.sdl_driver.specs.declared.driver.Driver.{Driver}
+use Rattle.sdl_driver.specs.Drivers.{site_of, plan_of}
 use Rattle.sdl_join.specs.Back.{AreNew}
-use Rattle.sdl_settling.specs.sdl_serial_run.Starting.{idle_at}
-use Rattle.sdl_settling.specs.sdl_serial_run.Serial.{IsNew}
-use Rattle.sdl_settling.proofs.serial_run.Fresh.{cores_new, hops_of, none_held}
+use Rattle.sdl_serial_run.specs.Starting.{idle_at}
+use Rattle.sdl_serial_run.specs.Serial.{IsNew}
+use Rattle.sdl_serial_run.proofs.Fresh.{cores_new, hops_of, none_held}
 
 module _ {S K I : Type 0} {F : I → Type 0} {g : _} (may : ℕ → Frame → Step → Type 0) (d : Driver S K I F g) (new : AllByRecursion (IsNew may d.checked d.budget) d.blocks.items)
     (system : AreOneSystem may d.checked d.routes (map behaviours_of d.blocks.items)) (environment : IsEnvFresh (blocks_in (plan_of d)) d.environment) (forwarders : d.forwarders.items ≡ map idle_at (lines_from 0 d.checked.channels)) where

@@ -2,17 +2,17 @@
 use Rattle.std.proofs.Common.{ℕ, List, Option, ◌≡◌, sym, ◌∙◌, subst, take}
 use Rattle.std.proofs.KnownBytes.{Appends-kept}
 use Rattle.std.specs.Io.KnownBytes.{Keeps}
-use Rattle.sdl_settling.specs.sdl_signal.declared.values.Item.{Item}
-use Rattle.sdl_settling.specs.sdl_signal.declared.ends.OutputEnd.{OutputEnd}
-use Rattle.sdl_settling.specs.sdl_signal.declared.ends.OutputEnd.TheVariants as output
-use Rattle.sdl_settling.specs.sdl_parts.Structure.{Structure, lexicon_of}
-use Rattle.sdl_settling.specs.sdl_routes.declared.route.TableRow.{TableRow}
-use Rattle.sdl_settling.specs.sdl_routes.declared.route.Station.{Station}
-use Rattle.sdl_settling.specs.sdl_ends.Ends.{WorkerEnds, IsSameEnds, put_at}
-use Rattle.sdl_settling.proofs.serial_run.driving.hand.FrontsApart.{has_feed_still}
-use Rattle.sdl_settling.proofs.threads.Flushes.{taken_same}
-use Rattle.sdl_settling.specs.sdl_serial_run.sdl_outcome.EnvironmentWork.{EnvWorking, HasReadSoFar, HasWritten, HasWrittenSoFar, received_text}
-use Rattle.sdl_settling.specs.sdl_serial_run.sdl_environment.EnvApart.{IsEnvPuttingOut}
+use Rattle.sdl_signal.specs.declared.values.Item.{Item}
+use Rattle.sdl_signal.specs.declared.ends.OutputEnd.{OutputEnd}
+use Rattle.sdl_signal.specs.declared.ends.OutputEnd.TheVariants as output
+use Rattle.sdl_parts.specs.Structure.{Structure, lexicon_of}
+use Rattle.sdl_routes.specs.declared.route.TableRow.{TableRow}
+use Rattle.sdl_routes.specs.declared.route.Station.{Station}
+use Rattle.sdl_ends.specs.Ends.{WorkerEnds, IsSameEnds, put_at}
+use Rattle.sdl_hand.proofs.FrontsApart.{has_feed_still}
+use Rattle.sdl_threads.proofs.Flushes.{taken_same}
+use Rattle.sdl_outcome.specs.EnvironmentWork.{EnvWorking, HasReadSoFar, HasWritten, HasWrittenSoFar, received_text}
+use Rattle.sdl_environment.specs.EnvApart.{IsEnvPuttingOut}
 use Rattle.sdl_run.specs.Environment.{KeepsEnvironment}
 
 module _ (s : Structure) (rows : List TableRow) (old : EnvWorking) (was : Option Item) (before : WorkerEnds) (read_from read_to written_from written_to : Option (List ℕ)) (kept : KeepsEnvironment s rows old was before read_from read_to written_from written_to) where

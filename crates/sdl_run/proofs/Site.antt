@@ -4,33 +4,33 @@ use Rattle.std.proofs.lemmas.List.{length-map}
 use Rattle.std.proofs.lemmas.Option.{none-some, same_Some}
 use Rattle.std.proofs.lemmas.Slice.Zip.{AllZip-long}
 use Rattle.std.specs.List.{AllZip}
-use Rattle.sdl_settling.specs.sdl_signal.declared.values.Item.{Item}
-use Rattle.sdl_settling.specs.sdl_routes.declared.route.Station.{Station}
-use Rattle.sdl_settling.specs.sdl_queue.declared.rest.Rest.{Rest}
-use Rattle.sdl_settling.specs.sdl_behaviour.declared.step.Frame.{Frame}
-use Rattle.sdl_settling.specs.sdl_behaviour.declared.step.Step.{Step}
-use Rattle.sdl_settling.specs.sdl_transition.Rules.{Rules, block_rules}
-use Rattle.sdl_settling.specs.sdl_instances.Machine.{System}
-use Rattle.sdl_settling.specs.sdl_instances.CoreOf.{CanFire}
-use Rattle.sdl_settling.specs.sdl_instances.Calls.{KeepsRest}
-use Rattle.sdl_settling.specs.sdl_ends.Ends.{WorkerEnds, IsSameEnds}
-use Rattle.sdl_settling.specs.sdl_opening.Used.{AreUsed}
-use Rattle.sdl_settling.specs.sdl_forward.Boards.{lists_of}
-use Rattle.sdl_settling.specs.sdl_forward.Forwards.{Forwarding}
-use Rattle.sdl_settling.specs.sdl_forward.HandsOn.{IsHandingOn}
-use Rattle.sdl_settling.specs.sdl_hand.Work.{Working}
-use Rattle.sdl_settling.specs.sdl_hand.Apart.{IsPuttingOut}
-use Rattle.sdl_settling.specs.sdl_serial_run.sdl_block.declared.worker.BlockWorker.{BlockWorker}
-use Rattle.sdl_settling.specs.sdl_serial_run.sdl_block.Workers.{worker_of, behaviours_of, system_around}
-use Rattle.sdl_settling.specs.sdl_serial_run.sdl_outcome.Plan.{Plan, blocks_in, system_at}
-use Rattle.sdl_settling.specs.sdl_serial_run.sdl_outcome.EnvironmentWork.{EnvWorking}
-use Rattle.sdl_settling.specs.sdl_serial_run.sdl_order.Driver.{Site, IsCoreAt}
-use Rattle.sdl_settling.specs.sdl_serial_run.sdl_environment.EnvApart.{IsEnvPuttingOut}
-use Rattle.sdl_settling.proofs.serial_run.driving.Driving.{system_is}
-use Rattle.sdl_settling.proofs.serial_run.driving.Drives.{map_map}
+use Rattle.sdl_signal.specs.declared.values.Item.{Item}
+use Rattle.sdl_routes.specs.declared.route.Station.{Station}
+use Rattle.sdl_queue.specs.declared.rest.Rest.{Rest}
+use Rattle.sdl_behaviour.specs.declared.step.Frame.{Frame}
+use Rattle.sdl_behaviour.specs.declared.step.Step.{Step}
+use Rattle.sdl_transition.specs.Rules.{Rules, block_rules}
+use Rattle.sdl_instances.specs.Machine.{System}
+use Rattle.sdl_instances.specs.CoreOf.{CanFire}
+use Rattle.sdl_instances.specs.Calls.{KeepsRest}
+use Rattle.sdl_ends.specs.Ends.{WorkerEnds, IsSameEnds}
+use Rattle.sdl_opening.specs.Used.{AreUsed}
+use Rattle.sdl_forward.specs.Boards.{lists_of}
+use Rattle.sdl_forward.specs.Forwards.{Forwarding}
+use Rattle.sdl_forward.specs.HandsOn.{IsHandingOn}
+use Rattle.sdl_hand.specs.Work.{Working}
+use Rattle.sdl_hand.specs.Apart.{IsPuttingOut}
+use Rattle.sdl_block.specs.declared.worker.BlockWorker.{BlockWorker}
+use Rattle.sdl_block.specs.Workers.{worker_of, behaviours_of, system_around}
+use Rattle.sdl_outcome.specs.Plan.{Plan, blocks_in, system_at}
+use Rattle.sdl_outcome.specs.EnvironmentWork.{EnvWorking}
+use Rattle.sdl_order.specs.Driver.{Site, IsCoreAt}
+use Rattle.sdl_environment.specs.EnvApart.{IsEnvPuttingOut}
+use Rattle.sdl_driver.proofs.Driving.{system_is}
+use Rattle.sdl_driver.proofs.Drives.{map_map}
 use Rattle.sdl_join.specs.Back.{HaveComeBack}
-use Rattle.sdl_settling.specs.sdl_threads.declared.workers.BlockThread.{BlockThread}
-use Rattle.sdl_settling.specs.sdl_threads.declared.workers.ForwarderThread.{ForwarderThread}
+use Rattle.sdl_threads.specs.declared.workers.BlockThread.{BlockThread}
+use Rattle.sdl_threads.specs.declared.workers.ForwarderThread.{ForwarderThread}
 use Rattle.sdl_run.specs.Sharing.{paired, block_thread, forwarder_thread}
 use Rattle.sdl_run.proofs.Places.{all_places, all_of, front, behind, at_map, map_at, at_paired, zip_left, zip_map, paired_left, paired_right, paired_length}
 use Rattle.sdl_run.proofs.Comes.{CameBack}

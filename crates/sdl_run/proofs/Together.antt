@@ -6,48 +6,48 @@ use Rattle.std.proofs.lemmas.Slice.Zip.{AllZip-long}
 use Rattle.std.specs.List.{AllByRecursion, AllZip}
 use Rattle.std.specs.Option.{is_some}
 use Rattle.std.specs.Prelude.{⊤}
-use Rattle.sdl_settling.specs.sdl_signal.declared.values.Item.{Item}
-use Rattle.sdl_settling.specs.sdl_parts.Structure.{Structure, IsStructure}
-use Rattle.sdl_settling.specs.sdl_routes.declared.route.TableRow.{TableRow}
-use Rattle.sdl_settling.specs.sdl_routes.declared.route.Station.{Station}
-use Rattle.sdl_settling.specs.sdl_routes.Table.{IsTable}
-use Rattle.sdl_settling.specs.sdl_queue.declared.rest.Rest.{Rest}
-use Rattle.sdl_settling.specs.sdl_behaviour.declared.step.Frame.{Frame}
-use Rattle.sdl_settling.specs.sdl_behaviour.declared.step.Step.{Step}
-use Rattle.sdl_settling.specs.sdl_transition.Bound.{AreOneSystem}
-use Rattle.sdl_settling.specs.sdl_transition.Rules.{Rules, block_rules}
-use Rattle.sdl_settling.specs.sdl_instances.CoreOf.{CanFire}
-use Rattle.sdl_settling.specs.sdl_ends.Ends.{WorkerEnds, IsSameEnds, AreRejoined}
-use Rattle.sdl_settling.specs.sdl_opening.Opens.{AreOpen}
-use Rattle.sdl_settling.specs.sdl_opening.Workers.{workers_in}
-use Rattle.sdl_settling.specs.sdl_opening.Used.{AreUsed}
-use Rattle.sdl_settling.specs.sdl_forward.Boards.{lists_of}
-use Rattle.sdl_settling.specs.sdl_forward.Forwards.{Forwarding}
-use Rattle.sdl_settling.specs.sdl_forward.HandsOn.{IsHandingOn}
-use Rattle.sdl_settling.specs.sdl_hand.Apart.{IsPuttingOut}
-use Rattle.sdl_settling.specs.sdl_serial_run.sdl_block.declared.worker.BlockWorker.{BlockWorker}
-use Rattle.sdl_settling.specs.sdl_serial_run.sdl_block.Workers.{worker_of, behaviours_of, system_around}
-use Rattle.sdl_settling.specs.sdl_serial_run.sdl_outcome.Plan.{Plan, IsPlan, lines_from, workers_of}
-use Rattle.sdl_settling.specs.sdl_serial_run.sdl_outcome.EnvironmentWork.{EnvWorking, IsEnvFresh, HasReadSoFar, HasWrittenSoFar}
-use Rattle.sdl_settling.specs.sdl_serial_run.sdl_order.Driver.{Site, IsAtWork}
-use Rattle.sdl_settling.specs.sdl_serial_run.sdl_environment.EnvApart.{IsEnvPuttingOut}
-use Rattle.sdl_settling.specs.sdl_serial_run.sdl_driver.declared.driver.Driver.{Driver}
-use Rattle.sdl_settling.specs.sdl_serial_run.sdl_driver.declared.parked.Parked.{Parked}
-use Rattle.sdl_settling.specs.sdl_serial_run.sdl_driver.Drivers.{site_of, plan_of}
-use Rattle.sdl_settling.specs.sdl_serial_run.sdl_driver.Stopped.{site_of_parked, plan_of_parked, IsParked}
-use Rattle.sdl_settling.proofs.serial_run.driving.Drives.{map_map, workers_few}
-use Rattle.sdl_settling.proofs.serial_run.driving.Readings.{reads_none, writes_none}
+use Rattle.sdl_signal.specs.declared.values.Item.{Item}
+use Rattle.sdl_parts.specs.Structure.{Structure, IsStructure}
+use Rattle.sdl_routes.specs.declared.route.TableRow.{TableRow}
+use Rattle.sdl_routes.specs.declared.route.Station.{Station}
+use Rattle.sdl_routes.specs.Table.{IsTable}
+use Rattle.sdl_queue.specs.declared.rest.Rest.{Rest}
+use Rattle.sdl_behaviour.specs.declared.step.Frame.{Frame}
+use Rattle.sdl_behaviour.specs.declared.step.Step.{Step}
+use Rattle.sdl_transition.specs.Bound.{AreOneSystem}
+use Rattle.sdl_transition.specs.Rules.{Rules, block_rules}
+use Rattle.sdl_instances.specs.CoreOf.{CanFire}
+use Rattle.sdl_ends.specs.Ends.{WorkerEnds, IsSameEnds, AreRejoined}
+use Rattle.sdl_opening.specs.Opens.{AreOpen}
+use Rattle.sdl_opening.specs.Workers.{workers_in}
+use Rattle.sdl_opening.specs.Used.{AreUsed}
+use Rattle.sdl_forward.specs.Boards.{lists_of}
+use Rattle.sdl_forward.specs.Forwards.{Forwarding}
+use Rattle.sdl_forward.specs.HandsOn.{IsHandingOn}
+use Rattle.sdl_hand.specs.Apart.{IsPuttingOut}
+use Rattle.sdl_block.specs.declared.worker.BlockWorker.{BlockWorker}
+use Rattle.sdl_block.specs.Workers.{worker_of, behaviours_of, system_around}
+use Rattle.sdl_outcome.specs.Plan.{Plan, IsPlan, lines_from, workers_of}
+use Rattle.sdl_outcome.specs.EnvironmentWork.{EnvWorking, IsEnvFresh, HasReadSoFar, HasWrittenSoFar}
+use Rattle.sdl_order.specs.Driver.{Site, IsAtWork}
+use Rattle.sdl_environment.specs.EnvApart.{IsEnvPuttingOut}
+use Rattle.sdl_driver.specs.declared.driver.Driver.{Driver}
+use Rattle.sdl_driver.specs.declared.parked.Parked.{Parked}
+use Rattle.sdl_driver.specs.Drivers.{site_of, plan_of}
+use Rattle.sdl_driver.specs.Stopped.{site_of_parked, plan_of_parked, IsParked}
+use Rattle.sdl_driver.proofs.Drives.{map_map, workers_few}
+use Rattle.sdl_driver.proofs.Readings.{reads_none, writes_none}
 use Rattle.sdl_join.specs.Back.{HaveComeBack, AreNew}
-use Rattle.sdl_settling.specs.sdl_serial_run.Starting.{idle_at}
-use Rattle.sdl_settling.specs.sdl_serial_run.Serial.{IsNew}
-use Rattle.sdl_settling.specs.sdl_threads.declared.workers.BlockThread.{BlockThread}
-use Rattle.sdl_settling.specs.sdl_threads.declared.workers.ForwarderThread.{ForwarderThread}
-use Rattle.sdl_settling.specs.sdl_threads.declared.work.Returned.{Returned}
-use Rattle.sdl_settling.specs.sdl_threads.declared.kinds.Kind.{Kind}
-use Rattle.sdl_settling.specs.sdl_threads.declared.kinds.Kind.TheVariants.{Block, Forwarder}
-use Rattle.sdl_settling.specs.sdl_threads.Back.{ComesFrom, worker_in}
-use Rattle.sdl_settling.specs.sdl_threads.Kinds.{KeepsOneOf, SameOneOf}
-use Rattle.sdl_settling.specs.sdl_threads.Workers.{IsSameBlock, IsSameForwarder}
+use Rattle.sdl_serial_run.specs.Starting.{idle_at}
+use Rattle.sdl_serial_run.specs.Serial.{IsNew}
+use Rattle.sdl_threads.specs.declared.workers.BlockThread.{BlockThread}
+use Rattle.sdl_threads.specs.declared.workers.ForwarderThread.{ForwarderThread}
+use Rattle.sdl_threads.specs.declared.work.Returned.{Returned}
+use Rattle.sdl_threads.specs.declared.kinds.Kind.{Kind}
+use Rattle.sdl_threads.specs.declared.kinds.Kind.TheVariants.{Block, Forwarder}
+use Rattle.sdl_threads.specs.Back.{ComesFrom, worker_in}
+use Rattle.sdl_threads.specs.Kinds.{KeepsOneOf, SameOneOf}
+use Rattle.sdl_threads.specs.Workers.{IsSameBlock, IsSameForwarder}
 use Rattle.sdl_run.specs.Sharing.{paired, block_thread, forwarder_thread, GivesOut}
 use Rattle.sdl_settling.specs.Coming.{blocks_back, forwarders_back, ends_back}
 use Rattle.sdl_run.specs.Environment.{KeepsEnvironment}

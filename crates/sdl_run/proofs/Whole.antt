@@ -1,35 +1,35 @@
 -- A run that has stopped is that of the system that was started.
 use Rattle.std.proofs.Common.{ℕ, ◌+◌, List, Option, length, map, All, ◌≡◌, ap, sym, ◌∙◌, subst, arith}
 use Rattle.std.proofs.lemmas.List.{length-map}
-use Rattle.sdl_settling.specs.sdl_parts.Structure.{Structure}
-use Rattle.sdl_settling.specs.sdl_routes.declared.route.TableRow.{TableRow}
-use Rattle.sdl_settling.specs.sdl_behaviour.declared.step.Frame.{Frame}
-use Rattle.sdl_settling.specs.sdl_behaviour.declared.step.Step.{Step}
-use Rattle.sdl_settling.specs.sdl_transition.declared.block_parts.BlockParts.{BlockParts}
-use Rattle.sdl_settling.specs.sdl_transition.declared.binding.Bound.{Bound}
-use Rattle.sdl_settling.specs.sdl_transition.Bound.{AreOneSystem, IsBound, structure_of, routes_of, blocks_of}
-use Rattle.sdl_settling.specs.sdl_transition.Index.{IsIndexed}
-use Rattle.sdl_settling.specs.sdl_transition.Transitions.{IsAllowedBehaviour}
-use Rattle.sdl_settling.specs.sdl_transition.Rules.{Rules, block_rules}
-use Rattle.sdl_settling.specs.sdl_instances.CoreOf.{CanFire}
-use Rattle.sdl_settling.specs.sdl_forward.Forwards.{Forwarding}
-use Rattle.sdl_settling.specs.sdl_serial_run.sdl_block.declared.worker.BlockWorker.{BlockWorker}
-use Rattle.sdl_settling.specs.sdl_serial_run.sdl_block.Workers.{behaviours_of}
-use Rattle.sdl_settling.specs.sdl_serial_run.sdl_outcome.Plan.{Plan, blocks_in, lines_from}
-use Rattle.sdl_settling.specs.sdl_serial_run.sdl_outcome.Outcome.{Outcome}
-use Rattle.sdl_settling.specs.sdl_serial_run.sdl_outcome.declared.end.RunEnd.{RunEnd}
-use Rattle.sdl_settling.specs.sdl_serial_run.sdl_outcome.EnvironmentWork.{HasReadSoFar, HasWrittenSoFar}
-use Rattle.sdl_settling.specs.sdl_serial_run.sdl_ledger.declared.ledger.Ledger.{Ledger}
-use Rattle.sdl_settling.specs.sdl_serial_run.sdl_driver.declared.closing.Closing.{Closing}
-use Rattle.sdl_settling.specs.sdl_serial_run.sdl_driver.declared.closing.Room.{Room}
-use Rattle.sdl_settling.specs.sdl_serial_run.sdl_driver.declared.parked.Parked.{Parked}
-use Rattle.sdl_settling.specs.sdl_serial_run.sdl_driver.Closings.{HasRoom, HasReadIn, HasWrittenIn}
-use Rattle.sdl_settling.specs.sdl_serial_run.sdl_driver.Ended.{HasEnded}
-use Rattle.sdl_settling.specs.sdl_serial_run.sdl_driver.Stopped.{plan_of_parked, IsParked, IsSystemOfParked}
-use Rattle.sdl_settling.proofs.serial_run.driving.Drives.{map_map}
-use Rattle.sdl_settling.proofs.serial_run.driving.Rooms.{room_as}
-use Rattle.sdl_settling.specs.sdl_serial_run.Starting.{idle_at}
-use Rattle.sdl_settling.specs.sdl_serial_run.Serial.{IsBoundOf, plan_of_parts}
+use Rattle.sdl_parts.specs.Structure.{Structure}
+use Rattle.sdl_routes.specs.declared.route.TableRow.{TableRow}
+use Rattle.sdl_behaviour.specs.declared.step.Frame.{Frame}
+use Rattle.sdl_behaviour.specs.declared.step.Step.{Step}
+use Rattle.sdl_transition.specs.declared.block_parts.BlockParts.{BlockParts}
+use Rattle.sdl_transition.specs.declared.binding.Bound.{Bound}
+use Rattle.sdl_transition.specs.Bound.{AreOneSystem, IsBound, structure_of, routes_of, blocks_of}
+use Rattle.sdl_transition.specs.Index.{IsIndexed}
+use Rattle.sdl_behaviour.specs.Transitions.{IsAllowedBehaviour}
+use Rattle.sdl_transition.specs.Rules.{Rules, block_rules}
+use Rattle.sdl_instances.specs.CoreOf.{CanFire}
+use Rattle.sdl_forward.specs.Forwards.{Forwarding}
+use Rattle.sdl_block.specs.declared.worker.BlockWorker.{BlockWorker}
+use Rattle.sdl_block.specs.Workers.{behaviours_of}
+use Rattle.sdl_outcome.specs.Plan.{Plan, blocks_in, lines_from}
+use Rattle.sdl_outcome.specs.Outcome.{Outcome}
+use Rattle.sdl_outcome.specs.declared.end.RunEnd.{RunEnd}
+use Rattle.sdl_outcome.specs.EnvironmentWork.{HasReadSoFar, HasWrittenSoFar}
+use Rattle.sdl_ledger.specs.declared.ledger.Ledger.{Ledger}
+use Rattle.sdl_driver.specs.declared.closing.Closing.{Closing}
+use Rattle.sdl_driver.specs.declared.closing.Room.{Room}
+use Rattle.sdl_driver.specs.declared.parked.Parked.{Parked}
+use Rattle.sdl_driver.specs.Closings.{HasRoom, HasReadIn, HasWrittenIn}
+use Rattle.sdl_driver.specs.Ended.{HasEnded}
+use Rattle.sdl_driver.specs.Stopped.{plan_of_parked, IsParked, IsSystemOfParked}
+use Rattle.sdl_driver.proofs.Drives.{map_map}
+use Rattle.sdl_driver.proofs.Rooms.{room_as}
+use Rattle.sdl_serial_run.specs.Starting.{idle_at}
+use Rattle.sdl_serial_run.specs.Serial.{IsBoundOf, plan_of_parts}
 use Rattle.sdl_run.specs.declared.joining.Starting.{Starting}
 use Rattle.sdl_run.specs.Room.{IsParkedOf}
 use Rattle.sdl_run.proofs.Places.{all_of, all_places, map_at}

@@ -1,21 +1,21 @@
 -- What stands before the blocks of a run in threads start.
 use Rattle.std.specs.Prelude.{◌≡◌, ℕ, ◌+◌, ◌≤◌, List, [], map, length, vec_len, vec_capacity}
 use Rattle.std.specs.List.{All, AllByRecursion}
-use Rattle.sdl_settling.specs.sdl_parts.Structure.{Structure, IsStructure}
-use Rattle.sdl_settling.specs.sdl_routes.declared.route.TableRow.{TableRow}
-use Rattle.sdl_settling.specs.sdl_routes.Table.{IsTable}
-use Rattle.sdl_settling.specs.sdl_behaviour.declared.step.Frame.{Frame}
-use Rattle.sdl_settling.specs.sdl_behaviour.declared.step.Step.{Step}
-use Rattle.sdl_settling.specs.sdl_transition.Bound.{AreOneSystem}
-use Rattle.sdl_settling.specs.sdl_instances.CoreOf.{CanFire}
-use Rattle.sdl_settling.specs.sdl_opening.Opens.{AreOpen}
-use Rattle.sdl_settling.specs.sdl_serial_run.sdl_outcome.Plan.{lines_from}
-use Rattle.sdl_settling.specs.sdl_serial_run.sdl_outcome.EnvironmentWork.{IsEnvFresh}
-use Rattle.sdl_settling.specs.sdl_serial_run.Starting.{idle_at}
-use Rattle.sdl_settling.specs.sdl_serial_run.Serial.{IsNew}
-use Rattle.sdl_settling.specs.sdl_serial_run.sdl_block.Workers.{behaviours_of}
-use Rattle.sdl_settling.specs.sdl_serial_run.sdl_driver.Closings.{HasRoom}
-use Rattle.sdl_settling.specs.sdl_serial_run.sdl_driver.declared.parked.Parked.{Parked}
+use Rattle.sdl_parts.specs.Structure.{Structure, IsStructure}
+use Rattle.sdl_routes.specs.declared.route.TableRow.{TableRow}
+use Rattle.sdl_routes.specs.Table.{IsTable}
+use Rattle.sdl_behaviour.specs.declared.step.Frame.{Frame}
+use Rattle.sdl_behaviour.specs.declared.step.Step.{Step}
+use Rattle.sdl_transition.specs.Bound.{AreOneSystem}
+use Rattle.sdl_instances.specs.CoreOf.{CanFire}
+use Rattle.sdl_opening.specs.Opens.{AreOpen}
+use Rattle.sdl_outcome.specs.Plan.{lines_from}
+use Rattle.sdl_outcome.specs.EnvironmentWork.{IsEnvFresh}
+use Rattle.sdl_serial_run.specs.Starting.{idle_at}
+use Rattle.sdl_serial_run.specs.Serial.{IsNew}
+use Rattle.sdl_block.specs.Workers.{behaviours_of}
+use Rattle.sdl_driver.specs.Closings.{HasRoom}
+use Rattle.sdl_driver.specs.declared.parked.Parked.{Parked}
 use Rattle.sdl_settling.specs.Room.{HasApartRoom}
 use Rattle.sdl_run.specs.declared.joining.Starting.{Starting}
 use Rattle.sdl_run.specs.declared.room.Opened.{Opened}

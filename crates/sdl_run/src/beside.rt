@@ -1,19 +1,19 @@
 //! All workers make their steps at once, the environment on this thread.
 ghost use Rattle.std.specs.Prelude.{◌≡◌, ◌<◌, ◌≤◌, ◌^◌, [], vec_len, vec_capacity};
 ghost use Rattle.std.specs.List.{All, AllZip};
-ghost use Rattle.sdl_settling.specs.sdl_ends.Ends.{IsSameEnds};
-ghost use Rattle.sdl_settling.specs.sdl_threads.Back.{ComesFrom};
+ghost use Rattle.sdl_ends.specs.Ends.{IsSameEnds};
+ghost use Rattle.sdl_threads.specs.Back.{ComesFrom};
 ghost use Rattle.sdl_run.specs.Environment.{KeepsEnvironment};
 
 use crate::environment_thread::EnvironmentThread;
+use sdl_ends::Ends;
+use sdl_environment::EnvApart;
+use sdl_log::Keeps;
+use sdl_parts::Structure;
+use sdl_routes::Routes;
 use sdl_settling::back::put_apart;
-use sdl_settling::sdl_ends::Ends;
-use sdl_settling::sdl_log::Keeps;
-use sdl_settling::sdl_parts::Structure;
-use sdl_settling::sdl_routes::Routes;
-use sdl_settling::sdl_serial_run::sdl_environment::EnvApart;
-use sdl_settling::sdl_threads::{AtWork, Gate, Returned, Team, Work, run_workers};
-use sdl_settling::sdl_transition::Agents;
+use sdl_threads::{AtWork, Gate, Returned, Team, Work, run_workers};
+use sdl_transition::Agents;
 use std::io::{Read, Write};
 use std::snapshot::Snapshot;
 use std::sync::Wait;
@@ -68,8 +68,8 @@ fn run_until_told<
     (done, environment, way)
 }
 
-/// Lets all workers make their steps until they are told to stop, the environment on this thread, with these to read from and to
-/// write to. It answers the environment and its ends, and how it came back, beside the others as they came back.
+/// Lets all workers make their steps until they are told to stop. The environment's are on this thread, with these to read from
+/// and to write to. It answers the environment and its ends, and how it came back, beside the others as they came back.
 pub fn run_beside<
     S: Agents + Send,
     K: Keeps + Send,

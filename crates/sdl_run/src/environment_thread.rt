@@ -2,12 +2,12 @@
 ghost use Rattle.std.specs.Prelude.{◌≡◌};
 ghost use Rattle.std.specs.Io.KnownBytes.{Keeps};
 
-use sdl_settling::sdl_ends::{Ends, Marks};
-use sdl_settling::sdl_hand::Stepped;
-use sdl_settling::sdl_parts::Structure;
-use sdl_settling::sdl_routes::Routes;
-use sdl_settling::sdl_serial_run::sdl_environment::{EnvApart, RoutedStructure};
-use sdl_settling::sdl_threads::Work;
+use sdl_ends::{Ends, Marks};
+use sdl_environment::{EnvApart, RoutedStructure};
+use sdl_hand::Stepped;
+use sdl_parts::Structure;
+use sdl_routes::Routes;
+use sdl_threads::Work;
 use std::io::{Read, Write};
 use std::snapshot::Snapshot;
 use std::sync::Wait;
@@ -33,8 +33,8 @@ pub struct EnvironmentThread<'e, 'i, 'o, I, O> {
 const FLUSHED_AT: u32 = 4;
 
 impl<'e, 'i, 'o, I: Read, O: Write> EnvironmentThread<'e, 'i, 'o, I, O> {
-    /// Whether the next step is not held back until the others rest: it waits for no reader, or for one that had more to give when
-    /// it was read last, and broke off within a line, so that nobody waits there for an answer.
+    /// Whether the next step is not held back until the others rest: it waits for no reader, or for one that had more to give
+    /// when it was read last. That one broke off within a line, so that nobody waits there for an answer.
     fn reads_on(&self) -> bool {
         self.environment.is_ready() || self.environment.breaks_off()
     }
@@ -64,7 +64,7 @@ impl<'e, 'i, 'o, I: Read, O: Write> Work for EnvironmentThread<'e, 'i, 'o, I, O>
     ghost use Rattle.std.specs.Prelude.{◌≡◌, refl};
     ghost use Rattle.std.proofs.Common.{◌∙◌};
     ghost use Rattle.sdl_run.specs.Environment.{KeepsEnvironment};
-    ghost use Rattle.sdl_settling.specs.sdl_ends.Ends.{IsSameEnds};
+    ghost use Rattle.sdl_ends.specs.Ends.{IsSameEnds};
 
     ghost keeps = { λ s rows w. KeepsEnvironment s rows w.environment.now.worker w.environment.now.astray w.ends (I.remaining w.started_input.value) (I.remaining w.input.now) (O.contents w.started_output.value) (O.contents w.output.now) };
 

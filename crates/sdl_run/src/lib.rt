@@ -9,11 +9,8 @@ mod room;
 mod sharing;
 mod threads;
 
-pub use sdl_settling::sdl_serial_run;
-pub use sdl_settling::sdl_serial_run::{
-    Closing, EnvOut, Ledger, RunEnd, StartFault, Worker, run_keeping, run_serial, sdl_behaviour,
-    sdl_block, sdl_driver, sdl_environment, sdl_instances, sdl_ledger, sdl_log, sdl_order,
-    sdl_outcome, sdl_parts, sdl_routes, sdl_signal, sdl_transition,
+pub use sdl_serial_run::{
+    Closing, EnvOut, Ledger, RunEnd, StartFault, Worker, run_keeping, run_serial,
 };
-pub use sdl_settling::sdl_threads::{Gate, OpenGate};
+pub use sdl_threads::{Gate, OpenGate};
 pub use threads::{run_threads, run_threads_keeping};

@@ -1,23 +1,23 @@
 //! What a run in threads takes before its blocks start.
 ghost use Rattle.std.specs.Prelude.{◌≡◌, ◌<◌, ◌≤◌, ◌^◌, [], length, IfOk};
-ghost use Rattle.sdl_settling.specs.sdl_serial_run.sdl_driver.Closings.{HasRoom};
-ghost use Rattle.sdl_settling.specs.sdl_routes.Routes.{AreRoutesOf};
+ghost use Rattle.sdl_driver.specs.Closings.{HasRoom};
+ghost use Rattle.sdl_routes.specs.Routes.{AreRoutesOf};
 ghost use Rattle.sdl_settling.specs.Room.{HasApartRoom};
 ghost use Rattle.sdl_run.specs.Room.{IsOpened, IsThreadRoom};
 
+use sdl_block::BlockWorker;
+use sdl_driver::closing::Room;
+use sdl_ends::{Ends, Shelf};
+use sdl_environment::EnvWorker;
+use sdl_forward::Forwarder;
+use sdl_log::{Event, Keeps};
+use sdl_opening::ends_open;
+use sdl_parts::Checked;
+use sdl_routes::Routes;
+use sdl_serial_run::start::forwarders_of;
 use sdl_settling::rejoining::ApartRoom;
-use sdl_settling::sdl_ends::{Ends, Shelf};
-use sdl_settling::sdl_forward::Forwarder;
-use sdl_settling::sdl_log::{Event, Keeps};
-use sdl_settling::sdl_opening::ends_open;
-use sdl_settling::sdl_parts::Checked;
-use sdl_settling::sdl_routes::Routes;
-use sdl_settling::sdl_serial_run::sdl_block::BlockWorker;
-use sdl_settling::sdl_serial_run::sdl_driver::closing::Room;
-use sdl_settling::sdl_serial_run::sdl_environment::EnvWorker;
-use sdl_settling::sdl_serial_run::start::forwarders_of;
-use sdl_settling::sdl_threads::{AtWork, Returned};
-use sdl_settling::sdl_transition::Agents;
+use sdl_threads::{AtWork, Returned};
+use sdl_transition::Agents;
 use std::alloc::{AllocError, Global};
 use std::sync::Wait;
 

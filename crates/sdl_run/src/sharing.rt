@@ -1,16 +1,16 @@
 //! Each worker is given its ends.
 ghost use Rattle.std.specs.Prelude.{◌≡◌, ℕ, ◌+◌, ◌≤◌, [], length, vec_len, vec_capacity};
-ghost use Rattle.sdl_settling.specs.sdl_threads.declared.kinds.Kind.TheVariants as kind;
+ghost use Rattle.sdl_threads.specs.declared.kinds.Kind.TheVariants as kind;
 ghost use Rattle.sdl_run.specs.Sharing.{block_thread, forwarder_thread, Gives, GivesOut};
 
+use sdl_block::BlockWorker;
+use sdl_ends::Ends;
+use sdl_forward::Forwarder;
+use sdl_log::Keeps;
+use sdl_serial_run::blocks::put_last;
 use sdl_settling::back::take_front;
-use sdl_settling::sdl_ends::Ends;
-use sdl_settling::sdl_forward::Forwarder;
-use sdl_settling::sdl_log::Keeps;
-use sdl_settling::sdl_serial_run::blocks::put_last;
-use sdl_settling::sdl_serial_run::sdl_block::BlockWorker;
-use sdl_settling::sdl_threads::{AtWork, BlockThread, ForwarderThread, Kind};
-use sdl_settling::sdl_transition::Agents;
+use sdl_threads::{AtWork, BlockThread, ForwarderThread, Kind};
+use sdl_transition::Agents;
 use std::collections::VecDeque;
 
 /// Adds each block with the next of the ends behind the workers.

@@ -1,24 +1,24 @@
 //! A whole run in threads.
 ghost use Rattle.std.specs.Prelude.{◌≡◌, ◌≤◌, length, IfOk, IfErr};
-ghost use Rattle.sdl_settling.specs.sdl_transition.Bound.{AreOneSystem, IsBound};
-ghost use Rattle.sdl_settling.specs.sdl_serial_run.sdl_driver.Closings.{HasReadIn, HasWrittenIn, StopsByMemory, IsSameBound, outcome_in, plan_of_bound};
-ghost use Rattle.sdl_settling.specs.sdl_serial_run.sdl_driver.Ended.{HasEnded};
-ghost use Rattle.sdl_settling.specs.sdl_serial_run.sdl_outcome.Lists.{items_in};
-ghost use Rattle.sdl_settling.specs.sdl_serial_run.Serial.{IsBoundOf, IsBackIn, plan_of_parts};
+ghost use Rattle.sdl_transition.specs.Bound.{AreOneSystem, IsBound};
+ghost use Rattle.sdl_driver.specs.Closings.{HasReadIn, HasWrittenIn, StopsByMemory, IsSameBound, outcome_in, plan_of_bound};
+ghost use Rattle.sdl_driver.specs.Ended.{HasEnded};
+ghost use Rattle.sdl_outcome.specs.Lists.{items_in};
+ghost use Rattle.sdl_serial_run.specs.Serial.{IsBoundOf, IsBackIn, plan_of_parts};
 ghost use Rattle.sdl_run.specs.Room.{IsThreadRoom};
 
 use crate::joining::{Starting, run_apart};
 use crate::room::{ThreadRoom, make_thread_room};
-use sdl_settling::sdl_instances::bounds::parts_are_bound;
-use sdl_settling::sdl_log::{FilledAhead, Keeps};
-use sdl_settling::sdl_parts::Checked;
-use sdl_settling::sdl_routes::Routes;
-use sdl_settling::sdl_serial_run::blocks::{gather, start_blocks};
-use sdl_settling::sdl_serial_run::lists::{in_lists, room_for_lists};
-use sdl_settling::sdl_serial_run::sdl_driver::closing::{Closing, StartFault};
-use sdl_settling::sdl_threads::Gate;
-use sdl_settling::sdl_transition::{Agents, BlockParts, Bound};
+use sdl_driver::closing::{Closing, StartFault};
+use sdl_instances::bounds::parts_are_bound;
+use sdl_log::{FilledAhead, Keeps};
+use sdl_parts::Checked;
+use sdl_routes::Routes;
+use sdl_serial_run::blocks::{gather, start_blocks};
+use sdl_serial_run::lists::{in_lists, room_for_lists};
 use sdl_settling::settling::settle;
+use sdl_threads::Gate;
+use sdl_transition::{Agents, BlockParts, Bound};
 use std::alloc::Global;
 use std::io::{Read, Write};
 use std::sync::Wait;
@@ -135,12 +135,12 @@ pub fn run_threads_keeping<
     }
 }
 
-/// Runs a system in threads until it ends: each block and each forwarder in a thread of its own, the environment on this one,
-/// which reads the environment's signals as lines of the input, and writes what the environment receives as lines of the output.
-/// All are told to stop once the input has ended and none has anything to do, or a budget is used, or memory is refused; what is
-/// left is then settled on this thread. `budget` is the number of turns that each block may have. `gate` is called before each
-/// step of each worker. Where memory is refused before the first step, the system is handed back; where it is refused to a worker,
-/// or a worker's thread could not start, the run ends with `Memory` and that worker. May wait for other threads.
+/// Runs a system in threads until it ends: each block and each forwarder in a thread of its own, the environment on this one. It
+/// reads the environment's signals as lines of the input, and writes what the environment receives as lines of the output. All
+/// are told to stop once the input has ended and none has anything to do, or a budget is used, or memory is refused; what is left
+/// is then settled on this thread. `budget` is the number of turns that each block may have. `gate` is called before each step of
+/// each worker. Where memory is refused before the first step, the system is handed back; where it is refused to a worker, or a
+/// worker's thread could not start, the run ends with `Memory` and that worker. May wait for other threads.
 pub fn run_threads<S: Agents + Send, G: Gate, T: Threads + Wait + Sync, R: Read, W: Write>(
     rt: &T,
     alloc: Global,

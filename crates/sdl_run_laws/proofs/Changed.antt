@@ -3,26 +3,26 @@ use Rattle.std.proofs.Common.{◌≡◌, ℕ, suc, ◌+◌, ◌<◌, inl, inr, B
 use Rattle.std.specs.Fmt.{digits}
 use Rattle.std.proofs.lemmas.List.{length-take-le}
 use Rattle.std.proofs.lemmas.Option.{same_Some}
-use Rattle.sdl_driver.specs.sdl_signal.declared.ids.GateId.{GateId}
-use Rattle.sdl_driver.specs.sdl_signal.declared.values.Item.{Item}
-use Rattle.sdl_driver.specs.sdl_signal.declared.values.Pid.{Pid}
-use Rattle.sdl_driver.specs.sdl_signal.declared.values.Signal.{Signal}
-use Rattle.sdl_driver.specs.sdl_signal.declared.values.EnvLine.{EnvLine}
-use Rattle.sdl_driver.specs.sdl_signal.declared.reading.LineFault.{LineFault}
-use Rattle.sdl_driver.specs.sdl_signal.declared.ends.InputEnd.TheVariants as input
-use Rattle.sdl_driver.specs.sdl_signal.declared.ends.OutputEnd.TheVariants as output
-use Rattle.sdl_driver.specs.sdl_lines.Bytes.{ended_line, IsFirstLine}
-use Rattle.sdl_driver.specs.sdl_signal.Line.{line_text}
-use Rattle.sdl_driver.specs.sdl_parts.Structure.{lexicon_of}
-use Rattle.sdl_driver.specs.sdl_routes.declared.route.TableRow.{TableRow}
-use Rattle.sdl_driver.specs.sdl_routes.declared.route.Source.{Source}
-use Rattle.sdl_driver.specs.sdl_routes.declared.route.Source.TheVariants as source
-use Rattle.sdl_driver.specs.sdl_outcome.declared.environment_output.EnvOut.TheVariants as env_out
-use Rattle.sdl_driver.specs.sdl_outcome.declared.end.RunEnd.{RunEnd}
-use Rattle.sdl_driver.specs.sdl_outcome.declared.end.RunEnd.TheVariants as run_end
-use Rattle.sdl_driver.specs.sdl_outcome.EnvironmentWork.{HasReadAll, HasWritten, received_text}
-use Rattle.sdl_driver.specs.sdl_ledger.declared.ledger.Ledger.{Ledger}
-use Rattle.sdl_driver.specs.sdl_ledger.Counts.{IsLedgerOf, Balances, waiting_in}
+use Rattle.sdl_signal.specs.declared.ids.GateId.{GateId}
+use Rattle.sdl_signal.specs.declared.values.Item.{Item}
+use Rattle.sdl_signal.specs.declared.values.Pid.{Pid}
+use Rattle.sdl_signal.specs.declared.values.Signal.{Signal}
+use Rattle.sdl_signal.specs.declared.values.EnvLine.{EnvLine}
+use Rattle.sdl_signal.specs.declared.reading.LineFault.{LineFault}
+use Rattle.sdl_signal.specs.declared.ends.InputEnd.TheVariants as input
+use Rattle.sdl_signal.specs.declared.ends.OutputEnd.TheVariants as output
+use Rattle.sdl_lines.specs.Bytes.{ended_line, IsFirstLine}
+use Rattle.sdl_signal.specs.Line.{line_text}
+use Rattle.sdl_parts.specs.Structure.{lexicon_of}
+use Rattle.sdl_routes.specs.declared.route.TableRow.{TableRow}
+use Rattle.sdl_routes.specs.declared.route.Source.{Source}
+use Rattle.sdl_routes.specs.declared.route.Source.TheVariants as source
+use Rattle.sdl_outcome.specs.declared.environment_output.EnvOut.TheVariants as env_out
+use Rattle.sdl_outcome.specs.declared.end.RunEnd.{RunEnd}
+use Rattle.sdl_outcome.specs.declared.end.RunEnd.TheVariants as run_end
+use Rattle.sdl_outcome.specs.EnvironmentWork.{HasReadAll, HasWritten, received_text}
+use Rattle.sdl_ledger.specs.declared.ledger.Ledger.{Ledger}
+use Rattle.sdl_ledger.specs.Counts.{IsLedgerOf, Balances, waiting_in}
 use Rattle.sdl_driver.specs.Closings.{StopsByMemory}
 use Rattle.sdl_run_laws.specs.Echo.{echo, to_e, routes}
 use Rattle.sdl_run_laws.specs.EchoRun.{leaves, ledger, final, ping, signal, input_text, output_text}

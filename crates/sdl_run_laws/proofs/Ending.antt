@@ -3,32 +3,32 @@ use Rattle.std.proofs.Common.{◌≡◌, ℕ, zero, suc, ◌<◌, ◌⊎◌, inl
 use Rattle.std.specs.List.{AllByRecursion}
 use Rattle.std.proofs.lemmas.Bool.{cond_both}
 use Rattle.std.proofs.lemmas.Option.{none-some, same_Some}
-use Rattle.sdl_driver.specs.sdl_signal.declared.values.Pid.{Pid}
-use Rattle.sdl_driver.specs.sdl_signal.declared.values.Pid.TheVariants as pid
-use Rattle.sdl_driver.specs.sdl_signal.declared.values.Item.{Item}
-use Rattle.sdl_driver.specs.sdl_signal.declared.values.Origin.{Origin}
-use Rattle.sdl_driver.specs.sdl_routes.declared.route.TableRow.{TableRow}
-use Rattle.sdl_driver.specs.sdl_routes.declared.route.Station.{Station}
-use Rattle.sdl_driver.specs.sdl_routes.declared.route.Station.TheVariants as station
+use Rattle.sdl_signal.specs.declared.values.Pid.{Pid}
+use Rattle.sdl_signal.specs.declared.values.Pid.TheVariants as pid
+use Rattle.sdl_signal.specs.declared.values.Item.{Item}
+use Rattle.sdl_signal.specs.declared.values.Origin.{Origin}
+use Rattle.sdl_routes.specs.declared.route.TableRow.{TableRow}
+use Rattle.sdl_routes.specs.declared.route.Station.{Station}
+use Rattle.sdl_routes.specs.declared.route.Station.TheVariants as station
 use Rattle.sdl_agents.specs.Tables.{EchoMay}
-use Rattle.sdl_driver.specs.sdl_instances.Record.{Record}
-use Rattle.sdl_driver.specs.sdl_instances.Machine.{State}
-use Rattle.sdl_driver.specs.sdl_instances.Run.{IsStamped}
-use Rattle.sdl_driver.specs.sdl_instances.Core.{IsReady}
-use Rattle.sdl_driver.specs.sdl_forward.Boards.{same_station, stations_of, waiting, IsStationOf, IsBoardOf}
-use Rattle.sdl_driver.specs.sdl_opening.declared.worker.Worker.{Worker}
-use Rattle.sdl_driver.specs.sdl_opening.declared.worker.Worker.TheVariants.{Block, Environment, Forwarder}
-use Rattle.sdl_driver.specs.sdl_outcome.declared.end.RunEnd.TheVariants as run_end
-use Rattle.sdl_driver.specs.sdl_outcome.Stations.{Among, Leads, same_worker, taker}
-use Rattle.sdl_driver.specs.sdl_outcome.Books.{NoOther, outs, came, left, standing}
-use Rattle.sdl_driver.specs.sdl_outcome.Causes.{IsCause}
-use Rattle.sdl_driver.specs.sdl_outcome.Plan.{MayTravel, ways_of}
-use Rattle.sdl_driver.specs.sdl_outcome.Outcome.{IsComplete, Headline, LeftsAreLegal, books_of, all_origins, log_at}
-use Rattle.sdl_driver.specs.sdl_outcome.Ends.{IsQuiet, IsSettled}
-use Rattle.sdl_driver.specs.sdl_outcome.Ring.{block, hop}
-use Rattle.sdl_driver.proofs.outcome.Comparisons.{same_worker_is}
-use Rattle.sdl_driver.proofs.order.Stamps.{cause_stamp}
-use Rattle.sdl_driver.specs.sdl_ledger.Counts.{IsLedgerOf, Balances, waiting_in}
+use Rattle.sdl_processes.specs.Record.{Record}
+use Rattle.sdl_instances.specs.Machine.{State}
+use Rattle.sdl_instances.specs.Run.{IsStamped}
+use Rattle.sdl_instances.specs.Core.{IsReady}
+use Rattle.sdl_forward.specs.Boards.{same_station, stations_of, waiting, IsStationOf, IsBoardOf}
+use Rattle.sdl_opening.specs.declared.worker.Worker.{Worker}
+use Rattle.sdl_opening.specs.declared.worker.Worker.TheVariants.{Block, Environment, Forwarder}
+use Rattle.sdl_outcome.specs.declared.end.RunEnd.TheVariants as run_end
+use Rattle.sdl_outcome.specs.Stations.{Among, Leads, same_worker, taker}
+use Rattle.sdl_outcome.specs.Books.{NoOther, outs, came, left, standing}
+use Rattle.sdl_outcome.specs.Causes.{IsCause}
+use Rattle.sdl_outcome.specs.Plan.{MayTravel, ways_of}
+use Rattle.sdl_outcome.specs.Outcome.{IsComplete, Headline, LeftsAreLegal, books_of, all_origins, log_at}
+use Rattle.sdl_outcome.specs.Ends.{IsQuiet, IsSettled}
+use Rattle.sdl_outcome.specs.Ring.{block, hop}
+use Rattle.sdl_outcome.proofs.Comparisons.{same_worker_is}
+use Rattle.sdl_order.proofs.Stamps.{cause_stamp}
+use Rattle.sdl_ledger.specs.Counts.{IsLedgerOf, Balances, waiting_in}
 use Rattle.sdl_driver.specs.Ended.{HasEnded}
 use Rattle.sdl_run_laws.specs.Echo.{to_e, to_line, routes, plan, idle}
 use Rattle.sdl_run_laws.specs.EchoRun.{ping, pong, instance, final, leaves, rests, ledger}

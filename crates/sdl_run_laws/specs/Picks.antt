@@ -1,16 +1,16 @@
 -- Block K of the system Spawn, for what a pick chooses in it.
 use Rattle.std.specs.Prelude.{ℕ, List, [], ◌∷◌, None, Some, pos}
-use Rattle.sdl_driver.specs.sdl_signal.declared.values.Item.{Item}
-use Rattle.sdl_driver.specs.sdl_signal.declared.values.Pid.TheVariants as pid
-use Rattle.sdl_driver.specs.sdl_signal.declared.values.Value.TheVariants as value
-use Rattle.sdl_driver.specs.sdl_signal.declared.values.EnvLine.{EnvLine}
-use Rattle.sdl_driver.specs.sdl_routes.declared.route.TableRow.{TableRow}
-use Rattle.sdl_driver.specs.sdl_log.declared.event.Event.{Event}
-use Rattle.sdl_driver.specs.sdl_instances.Machine.{State}
-use Rattle.sdl_driver.specs.sdl_instances.Core.{Core}
-use Rattle.sdl_driver.specs.sdl_instances.Spawn.{spawn, block, idle, instance, fresh, waits, state, to_kid}
-use Rattle.sdl_driver.specs.sdl_outcome.declared.environment_output.EnvOut.{EnvOut}
-use Rattle.sdl_driver.specs.sdl_outcome.declared.environment_output.EnvOut.TheVariants as env_out
+use Rattle.sdl_signal.specs.declared.values.Item.{Item}
+use Rattle.sdl_signal.specs.declared.values.Pid.TheVariants as pid
+use Rattle.sdl_signal.specs.declared.values.Value.TheVariants as value
+use Rattle.sdl_signal.specs.declared.values.EnvLine.{EnvLine}
+use Rattle.sdl_routes.specs.declared.route.TableRow.{TableRow}
+use Rattle.sdl_log.specs.declared.event.Event.{Event}
+use Rattle.sdl_instances.specs.Machine.{State}
+use Rattle.sdl_instances.specs.Core.{Core}
+use Rattle.sdl_instances.specs.Spawn.{spawn, block, idle, instance, fresh, waits, state, to_kid}
+use Rattle.sdl_outcome.specs.declared.environment_output.EnvOut.{EnvOut}
+use Rattle.sdl_outcome.specs.declared.environment_output.EnvOut.TheVariants as env_out
 
 -- a signal from the environment, for any Kid
 abbrev pub ask : Item

@@ -1,11 +1,11 @@
 //! What a pick chooses, written out: which instance of Spawn a signal enters and which makes a turn, which route a line takes, and
 //! which workers of Echo a schedule names. These functions do nothing: they carry the proofs.
 ghost use Rattle.std.specs.Prelude.{◌≡◌, [], ◌∷◌};
-ghost use Rattle.sdl_driver.specs.sdl_log.declared.event.Event.TheVariants as event;
-ghost use Rattle.sdl_driver.specs.sdl_instances.Machine.{State};
-ghost use Rattle.sdl_driver.specs.sdl_instances.Spawn.{spawn, spawn_may, boss, kid, all_started, at_first, starts};
-ghost use Rattle.sdl_driver.specs.sdl_block.Picks.{ArrivesAt, TurnsAt};
-ghost use Rattle.sdl_driver.specs.sdl_environment.EnvPicks.{IsRoutedAt};
+ghost use Rattle.sdl_log.specs.declared.event.Event.TheVariants as event;
+ghost use Rattle.sdl_instances.specs.Machine.{State};
+ghost use Rattle.sdl_instances.specs.Spawn.{spawn, spawn_may, boss, kid, all_started, at_first, starts};
+ghost use Rattle.sdl_block.specs.Picks.{ArrivesAt, TurnsAt};
+ghost use Rattle.sdl_environment.specs.EnvPicks.{IsRoutedAt};
 ghost use Rattle.sdl_driver.specs.Runs.{scheduled};
 ghost use Rattle.sdl_run_laws.specs.Echo.{plan};
 ghost use Rattle.sdl_run_laws.specs.Picks.{ask, in_state, second_has_it, third_started, two_ways, line, along};
@@ -28,7 +28,8 @@ pub fn lines_take_their_pick()
     ensures not_the_first { IsRoutedAt two_ways 3 line (along 0) → ⊥ }
 {}
 
-/// Echo has six workers. The number 13 of a schedule names worker 1 at pick 2, 0 names worker 0 at pick 0, and 8 worker 2 at pick 1.
+/// Echo has six workers. The number 13 of a schedule names worker 1 at pick 2. 0 names worker 0 at pick 0, and 8 worker 2 at pick
+/// 1.
 pub fn schedules_name_workers_and_picks()
     ensures { scheduled plan (13 ∷ 0 ∷ 8 ∷ []) ≡ (1, 2) ∷ (0, 0) ∷ (2, 1) ∷ [] }
 {}

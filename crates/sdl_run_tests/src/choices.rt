@@ -10,7 +10,7 @@ use std::alloc::Global;
 use std::process::Abort;
 use std::test::Fail;
 
-/// Echo with three instances of E, and two ways for each signal: `ping` comes by way of `c1` or `c2`, and `pong` goes by way of
+/// Echo with three instances of E, and two ways for each signal: `ping` comes by way of `c1` or `c2`. `pong` goes by way of
 /// `c1` to the gate `line`, or by way of `d1` to the gate `other`.
 const TWO_WAYS: &str = "version = 1
 system = 'TwoWays'
@@ -51,7 +51,7 @@ fn number(worker: u32, pick: u32) -> u32 {
     pick.wrapping_mul(WORKERS).wrapping_add(worker)
 }
 
-/// Starts the three instances, reads a line with one pick, moves it to the block, and lets the block make a step with the other
+/// Starts the three instances, reads a line with one pick and moves it to the block. The block then makes a step with the other
 /// pick.
 fn run(alloc: Global, reading: u32, arriving: u32) -> Result<Left, Stop> {
     let schedule = [0, 0, 0, number(1, reading), 2, 5, 7, number(0, arriving)];

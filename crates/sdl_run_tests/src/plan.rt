@@ -2,8 +2,8 @@
 ghost use Rattle.std.specs.Prelude.{◌≤◌, IfErr};
 ghost use Rattle.std.specs.List.{AllByRecursion};
 ghost use Rattle.sdl_transition.specs.Bound.{IsBound};
-ghost use Rattle.sdl_transition.specs.Transitions.{IsAllowedBehaviour};
-ghost use Rattle.sdl_run.specs.Serial.{IsBackIn};
+ghost use Rattle.sdl_behaviour.specs.Transitions.{IsAllowedBehaviour};
+ghost use Rattle.sdl_serial_run.specs.Serial.{IsBackIn};
 
 use sdl_agents::Runner;
 use sdl_hand::Hand;

@@ -3,10 +3,10 @@ use Rattle.std.proofs.Common.{ℕ, suc, ◌+◌, ◌<◌, ◌≤◌, true, false
 use Rattle.std.proofs.lemmas.Bool.{cond-true, cond-false}
 use Rattle.std.proofs.lemmas.List.{append-nil}
 use Rattle.std.proofs.lemmas.List.{drop_all}
-use Rattle.sdl_driver.specs.sdl_parts.declared.parts.Channel.{Channel}
-use Rattle.sdl_driver.specs.sdl_routes.declared.route.Hop.{Hop}
-use Rattle.sdl_driver.specs.sdl_forward.Forwards.{Forwarding}
-use Rattle.sdl_driver.specs.sdl_outcome.Plan.{path_line, lines_from}
+use Rattle.sdl_parts.specs.declared.parts.Channel.{Channel}
+use Rattle.sdl_routes.specs.declared.route.Hop.{Hop}
+use Rattle.sdl_forward.specs.Forwards.{Forwarding}
+use Rattle.sdl_outcome.specs.Plan.{path_line, lines_from}
 use Rattle.sdl_serial_run.specs.Starting.{idle_at}
 
 map_append : {X Y : Type 0} (f : X → Y) (xs ys : List X) → map f (xs ++ ys) ≡ map f xs ++ map f ys

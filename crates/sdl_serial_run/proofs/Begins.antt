@@ -2,21 +2,21 @@
 use Rattle.std.proofs.Common.{ℕ, suc, ◌+◌, ◌≤◌, List, [], ◌∷◌, ◌++◌, length, map, All, Vec, vec_len, vec_capacity, ◌≡◌, refl, ap, sym, ◌∙◌, subst, arith, append_assoc}
 use Rattle.std.proofs.lemmas.List.{append-nil}
 use Rattle.std.specs.List.{AllByRecursion}
-use Rattle.sdl_driver.specs.sdl_parts.Structure.{Structure}
-use Rattle.sdl_driver.specs.sdl_routes.declared.route.TableRow.{TableRow}
-use Rattle.sdl_driver.specs.sdl_behaviour.declared.step.Frame.{Frame}
-use Rattle.sdl_driver.specs.sdl_behaviour.declared.step.Step.{Step}
-use Rattle.sdl_driver.specs.sdl_transition.declared.block_parts.BlockParts.{BlockParts}
-use Rattle.sdl_driver.specs.sdl_transition.Rules.{block_rules}
-use Rattle.sdl_driver.specs.sdl_instances.declared.block.BlockCore.{BlockCore}
-use Rattle.sdl_driver.specs.sdl_instances.Core.{Core, IsSound, system_of}
-use Rattle.sdl_driver.specs.sdl_instances.CoreOf.{core_of, parts_of, system_in}
-use Rattle.sdl_driver.specs.sdl_block.declared.worker.BlockWorker.{BlockWorker}
-use Rattle.sdl_driver.specs.sdl_hand.Work.{Working, with_core}
-use Rattle.sdl_driver.specs.sdl_block.Workers.{worker_of, behaviours_of}
+use Rattle.sdl_parts.specs.Structure.{Structure}
+use Rattle.sdl_routes.specs.declared.route.TableRow.{TableRow}
+use Rattle.sdl_behaviour.specs.declared.step.Frame.{Frame}
+use Rattle.sdl_behaviour.specs.declared.step.Step.{Step}
+use Rattle.sdl_transition.specs.declared.block_parts.BlockParts.{BlockParts}
+use Rattle.sdl_transition.specs.Rules.{block_rules}
+use Rattle.sdl_instances.specs.declared.block.BlockCore.{BlockCore}
+use Rattle.sdl_instances.specs.Core.{Core, IsSound, system_of}
+use Rattle.sdl_instances.specs.CoreOf.{core_of, parts_of, system_in}
+use Rattle.sdl_block.specs.declared.worker.BlockWorker.{BlockWorker}
+use Rattle.sdl_hand.specs.Work.{Working, with_core}
+use Rattle.sdl_block.specs.Workers.{worker_of, behaviours_of}
 use Rattle.sdl_serial_run.specs.Serial.{IsNew, first_core}
 use Rattle.sdl_driver.proofs.Rooms.{map_push}
-use Rattle.sdl_driver.proofs.outcome.Lists.{all_append}
+use Rattle.sdl_outcome.proofs.Lists.{all_append}
 
 pub one_over : {X : Type 0} (done later all : List X) (x : X) (rest fewer : List X) → rest ≡ x ∷ fewer → later ≡ done ++ x ∷ [] → done ++ rest ≡ all → later ++ fewer ≡ all
 one_over done later all x rest fewer e h before =

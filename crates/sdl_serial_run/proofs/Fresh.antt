@@ -3,47 +3,47 @@ use Rattle.std.proofs.Common.{ℕ, zero, suc, ◌+◌, ◌<◌, List, [], ◌∷
 use Rattle.std.proofs.lemmas.List.{length-map, length-append}
 use Rattle.std.proofs.lemmas.Option.{none-some, same_Some}
 use Rattle.std.specs.List.{AllByRecursion}
-use Rattle.sdl_driver.specs.sdl_parts.Structure.{Structure, IsStructure}
-use Rattle.sdl_driver.specs.sdl_routes.declared.route.Hop.{Hop}
-use Rattle.sdl_driver.specs.sdl_routes.declared.route.TableRow.{TableRow}
-use Rattle.sdl_driver.specs.sdl_routes.declared.route.Station.{Station}
-use Rattle.sdl_driver.specs.sdl_routes.Table.{IsTable}
-use Rattle.sdl_driver.specs.sdl_behaviour.declared.step.Frame.{Frame}
-use Rattle.sdl_driver.specs.sdl_behaviour.declared.step.Step.{Step}
-use Rattle.sdl_driver.specs.sdl_transition.declared.block_parts.BlockParts.{BlockParts}
-use Rattle.sdl_driver.specs.sdl_transition.declared.binding.Bound.{Bound}
-use Rattle.sdl_driver.specs.sdl_transition.Bound.{AreOneSystem, structure_of, routes_of, blocks_of}
-use Rattle.sdl_driver.specs.sdl_transition.Index.{IsIndexed}
-use Rattle.sdl_driver.specs.sdl_transition.Transitions.{IsAllowedBehaviour}
-use Rattle.sdl_driver.specs.sdl_transition.Rules.{Rules, block_rules}
-use Rattle.sdl_driver.specs.sdl_instances.Core.{IsSound}
-use Rattle.sdl_driver.specs.sdl_forward.Forwards.{Forwarding}
-use Rattle.sdl_driver.specs.sdl_forward.Boards.{waiting, IsBoardOf}
-use Rattle.sdl_driver.specs.sdl_block.declared.worker.BlockWorker.{BlockWorker}
-use Rattle.sdl_driver.specs.sdl_hand.Work.{Working}
-use Rattle.sdl_driver.specs.sdl_block.Workers.{worker_of, behaviours_of, system_around}
+use Rattle.sdl_parts.specs.Structure.{Structure, IsStructure}
+use Rattle.sdl_routes.specs.declared.route.Hop.{Hop}
+use Rattle.sdl_routes.specs.declared.route.TableRow.{TableRow}
+use Rattle.sdl_routes.specs.declared.route.Station.{Station}
+use Rattle.sdl_routes.specs.Table.{IsTable}
+use Rattle.sdl_behaviour.specs.declared.step.Frame.{Frame}
+use Rattle.sdl_behaviour.specs.declared.step.Step.{Step}
+use Rattle.sdl_transition.specs.declared.block_parts.BlockParts.{BlockParts}
+use Rattle.sdl_transition.specs.declared.binding.Bound.{Bound}
+use Rattle.sdl_transition.specs.Bound.{AreOneSystem, structure_of, routes_of, blocks_of}
+use Rattle.sdl_transition.specs.Index.{IsIndexed}
+use Rattle.sdl_behaviour.specs.Transitions.{IsAllowedBehaviour}
+use Rattle.sdl_transition.specs.Rules.{Rules, block_rules}
+use Rattle.sdl_instances.specs.Core.{IsSound}
+use Rattle.sdl_forward.specs.Forwards.{Forwarding}
+use Rattle.sdl_forward.specs.Boards.{waiting, IsBoardOf}
+use Rattle.sdl_block.specs.declared.worker.BlockWorker.{BlockWorker}
+use Rattle.sdl_hand.specs.Work.{Working}
+use Rattle.sdl_block.specs.Workers.{worker_of, behaviours_of, system_around}
 use Rattle.sdl_driver.specs.declared.driver.Driver.{Driver}
-use Rattle.sdl_driver.specs.sdl_outcome.declared.end.RunEnd.{RunEnd}
+use Rattle.sdl_outcome.specs.declared.end.RunEnd.{RunEnd}
 use Rattle.sdl_driver.specs.declared.closing.Room.{Room}
-use Rattle.sdl_driver.specs.sdl_log.declared.event.Event.{Event}
+use Rattle.sdl_log.specs.declared.event.Event.{Event}
 use Rattle.sdl_driver.specs.Closings.{HasRoom, HasReadIn, HasWrittenIn, IsRunOf, plan_of_bound}
 use Rattle.sdl_driver.specs.declared.closing.Closing.{Closing}
-use Rattle.sdl_driver.specs.sdl_outcome.EnvironmentWork.{EnvWorking, HasReadSoFar, HasWrittenSoFar, IsEnvFresh}
-use Rattle.sdl_driver.specs.sdl_outcome.Outcome.{Outcome}
-use Rattle.sdl_driver.specs.sdl_ledger.declared.ledger.Ledger.{Ledger}
+use Rattle.sdl_outcome.specs.EnvironmentWork.{EnvWorking, HasReadSoFar, HasWrittenSoFar, IsEnvFresh}
+use Rattle.sdl_outcome.specs.Outcome.{Outcome}
+use Rattle.sdl_ledger.specs.declared.ledger.Ledger.{Ledger}
 use Rattle.sdl_driver.specs.Ended.{HasEnded}
-use Rattle.sdl_driver.specs.sdl_outcome.Plan.{Plan, blocks_in, lines_from, system_at}
-use Rattle.sdl_driver.specs.sdl_order.Driver.{IsCoreAt, IsFresh}
+use Rattle.sdl_outcome.specs.Plan.{Plan, blocks_in, lines_from, system_at}
+use Rattle.sdl_order.specs.Driver.{IsCoreAt, IsFresh}
 use Rattle.sdl_driver.specs.Drivers.{site_of, plan_of, IsDriving, IsSameSystem, ReadsOver, WritesOver}
 use Rattle.sdl_serial_run.specs.Starting.{idle_at}
 use Rattle.sdl_serial_run.specs.Serial.{IsNew, plan_of_parts}
-use Rattle.sdl_driver.proofs.outcome.Lists.{all_at}
-use Rattle.sdl_driver.proofs.order.Between.{starts_in_order}
+use Rattle.sdl_outcome.proofs.Lists.{all_at}
+use Rattle.sdl_order.proofs.Between.{starts_in_order}
 use Rattle.sdl_driver.proofs.Drives.{map_map, same_plan}
 use Rattle.sdl_driver.proofs.Driving.{system_is}
 use Rattle.sdl_driver.proofs.Readings.{reads_none, writes_none}
 use Rattle.sdl_driver.proofs.Rooms.{room_as}
-use Rattle.sdl_driver.proofs.order.Starts.{block}
+use Rattle.sdl_order.proofs.Starts.{block}
 
 got : {X Y : Type 0} (f : X → Y) (xs : List X) (n : ℕ) (y : Y) → slice_get (map f xs) n ≡ Some y → (x : X) × (slice_get xs n ≡ Some x) × (f x ≡ y)
 got f [] n y e = absurd (none-some y e)

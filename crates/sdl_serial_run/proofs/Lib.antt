@@ -1,4 +1,3 @@
-pub use Rattle.sdl_driver.proofs as driving
 pub mod Beginning
 pub mod Begins
 pub mod Fresh

@@ -1,14 +1,14 @@
 -- What holds of a closing holds of it with its logs as lists.
 use Rattle.std.proofs.Common.{◌≡◌, ℕ, List, Option, Vec, Global, sym, ◌∙◌, subst}
-use Rattle.sdl_driver.specs.sdl_parts.Structure.{lexicon_of}
-use Rattle.sdl_driver.specs.sdl_signal.declared.values.Item.{Item}
-use Rattle.sdl_driver.specs.sdl_signal.declared.ends.OutputEnd.{OutputEnd}
-use Rattle.sdl_driver.specs.sdl_behaviour.declared.step.Frame.{Frame}
-use Rattle.sdl_driver.specs.sdl_behaviour.declared.step.Step.{Step}
-use Rattle.sdl_driver.specs.sdl_log.declared.event.Event.{Event}
-use Rattle.sdl_driver.specs.sdl_outcome.declared.end.RunEnd.{RunEnd}
-use Rattle.sdl_driver.specs.sdl_outcome.Plan.{Plan}
-use Rattle.sdl_driver.specs.sdl_outcome.EnvironmentWork.{HasWritten, received_text}
+use Rattle.sdl_parts.specs.Structure.{lexicon_of}
+use Rattle.sdl_signal.specs.declared.values.Item.{Item}
+use Rattle.sdl_signal.specs.declared.ends.OutputEnd.{OutputEnd}
+use Rattle.sdl_behaviour.specs.declared.step.Frame.{Frame}
+use Rattle.sdl_behaviour.specs.declared.step.Step.{Step}
+use Rattle.sdl_log.specs.declared.event.Event.{Event}
+use Rattle.sdl_outcome.specs.declared.end.RunEnd.{RunEnd}
+use Rattle.sdl_outcome.specs.Plan.{Plan}
+use Rattle.sdl_outcome.specs.EnvironmentWork.{HasWritten, received_text}
 use Rattle.sdl_driver.specs.declared.closing.Closing.{Closing}
 use Rattle.sdl_driver.specs.Closings.{HasWrittenIn, IsRunOf, NamesRefused, outcome_in}
 

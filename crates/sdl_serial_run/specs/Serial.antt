@@ -1,26 +1,26 @@
 -- What stands before the first step of a run, and what comes back where it did not start.
 use Rattle.std.specs.Prelude.{◌≡◌, ℕ, ◌+◌, ◌≤◌, List, [], map, length, vec_len, vec_capacity}
-use Rattle.sdl_driver.specs.sdl_parts.Structure.{Structure}
-use Rattle.sdl_driver.specs.sdl_routes.declared.route.TableRow.{TableRow}
-use Rattle.sdl_driver.specs.sdl_routes.declared.route.Station.{Station}
-use Rattle.sdl_driver.specs.sdl_behaviour.declared.step.Frame.{Frame}
-use Rattle.sdl_driver.specs.sdl_behaviour.declared.step.Step.{Step}
-use Rattle.sdl_driver.specs.sdl_transition.declared.block_parts.BlockParts.{BlockParts}
-use Rattle.sdl_driver.specs.sdl_transition.declared.binding.Bound.{Bound}
-use Rattle.sdl_driver.specs.sdl_transition.Bound.{structure_of, routes_of, blocks_of, IsBound}
-use Rattle.sdl_driver.specs.sdl_transition.Rules.{block_rules}
-use Rattle.sdl_driver.specs.sdl_instances.Core.{Core, IsSound, signals_of, sets_of}
-use Rattle.sdl_driver.specs.sdl_instances.Run.{initial}
-use Rattle.sdl_driver.specs.sdl_forward.Boards.{waiting, IsBoardOf}
-use Rattle.sdl_driver.specs.sdl_block.declared.worker.BlockWorker.{BlockWorker}
-use Rattle.sdl_driver.specs.sdl_hand.Work.{with_core}
-use Rattle.sdl_driver.specs.sdl_block.Workers.{worker_of, behaviours_of, system_around}
+use Rattle.sdl_parts.specs.Structure.{Structure}
+use Rattle.sdl_routes.specs.declared.route.TableRow.{TableRow}
+use Rattle.sdl_routes.specs.declared.route.Station.{Station}
+use Rattle.sdl_behaviour.specs.declared.step.Frame.{Frame}
+use Rattle.sdl_behaviour.specs.declared.step.Step.{Step}
+use Rattle.sdl_transition.specs.declared.block_parts.BlockParts.{BlockParts}
+use Rattle.sdl_transition.specs.declared.binding.Bound.{Bound}
+use Rattle.sdl_transition.specs.Bound.{structure_of, routes_of, blocks_of, IsBound}
+use Rattle.sdl_transition.specs.Rules.{block_rules}
+use Rattle.sdl_instances.specs.Core.{Core, IsSound, signals_of, sets_of}
+use Rattle.sdl_instances.specs.Run.{initial}
+use Rattle.sdl_forward.specs.Boards.{waiting, IsBoardOf}
+use Rattle.sdl_block.specs.declared.worker.BlockWorker.{BlockWorker}
+use Rattle.sdl_hand.specs.Work.{with_core}
+use Rattle.sdl_block.specs.Workers.{worker_of, behaviours_of, system_around}
 use Rattle.sdl_driver.specs.declared.closing.StartFault.{StartFault}
 use Rattle.sdl_driver.specs.declared.closing.StartFault.TheVariants as fault
 use Rattle.sdl_serial_run.specs.declared.start.StartRoom.{StartRoom}
 use Rattle.sdl_driver.specs.Closings.{IsSameBound, HasRoom}
-use Rattle.sdl_driver.specs.sdl_outcome.Plan.{Plan, lines_from}
-use Rattle.sdl_driver.specs.sdl_outcome.EnvironmentWork.{IsEnvFresh}
+use Rattle.sdl_outcome.specs.Plan.{Plan, lines_from}
+use Rattle.sdl_outcome.specs.EnvironmentWork.{IsEnvFresh}
 use Rattle.sdl_serial_run.specs.Starting.{idle_at}
 
 -- the first core of a block with these parts

@@ -1,7 +1,7 @@
 -- What stands at the start of a run.
 use Rattle.std.specs.Prelude.{None}
-use Rattle.sdl_driver.specs.sdl_routes.declared.route.Hop.{Hop}
-use Rattle.sdl_driver.specs.sdl_forward.Forwards.{Forwarding}
+use Rattle.sdl_routes.specs.declared.route.Hop.{Hop}
+use Rattle.sdl_forward.specs.Forwards.{Forwarding}
 
 -- the forwarder of the path, which holds nothing
 abbrev pub idle_at : Hop → Forwarding

@@ -1,17 +1,17 @@
 //! The blocks of a run, started and given back.
 ghost use Rattle.std.specs.Prelude.{◌≡◌, ℕ, ◌+◌, ◌≤◌, ◌++◌, ◌∷◌, [], All, map, length, vec_len, vec_capacity, IfOk, IfErr};
 ghost use Rattle.std.specs.List.{AllByRecursion};
-ghost use Rattle.sdl_driver.specs.sdl_transition.Rules.{block_rules};
-ghost use Rattle.sdl_driver.specs.sdl_instances.Core.{IsBoundIn, signals_of, sets_of};
-ghost use Rattle.sdl_driver.specs.sdl_block.Workers.{behaviours_of};
+ghost use Rattle.sdl_transition.specs.Rules.{block_rules};
+ghost use Rattle.sdl_instances.specs.Core.{IsBoundIn, signals_of, sets_of};
+ghost use Rattle.sdl_block.specs.Workers.{behaviours_of};
 ghost use Rattle.sdl_serial_run.specs.Serial.{IsNew};
 
+use sdl_block::BlockWorker;
 use sdl_driver::closing::take_first;
-use sdl_driver::sdl_block::BlockWorker;
-use sdl_driver::sdl_instances::BlockCore;
-use sdl_driver::sdl_log::Keeps;
-use sdl_driver::sdl_parts::Checked;
-use sdl_driver::sdl_transition::{Agents, BlockParts};
+use sdl_instances::BlockCore;
+use sdl_log::Keeps;
+use sdl_parts::Checked;
+use sdl_transition::{Agents, BlockParts};
 use std::alloc::Global;
 
 /// Puts an element behind the others of a list that has room for it.

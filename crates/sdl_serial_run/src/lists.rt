@@ -1,12 +1,12 @@
 //! Logs that were kept in places filled ahead, as lists.
 ghost use Rattle.std.specs.Prelude.{◌≡◌, ◌+◌, ◌≤◌, ◌++◌, [], length, map, vec_capacity, IfOk};
-ghost use Rattle.sdl_driver.specs.sdl_transition.Bound.{structure_of};
+ghost use Rattle.sdl_transition.specs.Bound.{structure_of};
 ghost use Rattle.sdl_driver.specs.Closings.{outcome_in};
-ghost use Rattle.sdl_driver.specs.sdl_outcome.Lists.{items_in};
+ghost use Rattle.sdl_outcome.specs.Lists.{items_in};
 
 use sdl_driver::closing::{Closing, take_first};
-use sdl_driver::sdl_log::{Event, FilledAhead};
-use sdl_driver::sdl_transition::Bound;
+use sdl_log::{Event, FilledAhead};
+use sdl_transition::Bound;
 use std::alloc::{AllocError, Global};
 
 /// An empty list, with room for a log of each block.

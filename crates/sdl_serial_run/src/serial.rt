@@ -1,12 +1,12 @@
 //! A whole run on one thread.
 ghost use Rattle.std.specs.Prelude.{◌≡◌, ◌+◌, ◌≤◌, [], map, length, IfOk, IfErr};
-ghost use Rattle.sdl_driver.specs.sdl_transition.Bound.{AreOneSystem, IsBound};
-ghost use Rattle.sdl_driver.specs.sdl_block.Workers.{behaviours_of};
+ghost use Rattle.sdl_transition.specs.Bound.{AreOneSystem, IsBound};
+ghost use Rattle.sdl_block.specs.Workers.{behaviours_of};
 ghost use Rattle.sdl_driver.specs.Closings.{HasRoom, HasReadIn, HasWrittenIn, StopsByMemory, IsRunOf, IsSameBound, IsSystemOf, outcome_in, plan_of_bound};
 ghost use Rattle.sdl_driver.specs.Drivers.{site_of, plan_of, IsDriving};
 ghost use Rattle.sdl_driver.specs.Ended.{HasEnded};
-ghost use Rattle.sdl_driver.specs.sdl_order.Driver.{IsFresh};
-ghost use Rattle.sdl_driver.specs.sdl_outcome.Lists.{items_in};
+ghost use Rattle.sdl_order.specs.Driver.{IsFresh};
+ghost use Rattle.sdl_outcome.specs.Lists.{items_in};
 ghost use Rattle.sdl_serial_run.specs.Serial.{IsStartRoom, IsBoundOf, IsBackIn, plan_of_parts};
 
 use crate::blocks::{gather, start_blocks};
@@ -14,11 +14,11 @@ use crate::lists::{in_lists, room_for_lists};
 use crate::start::{StartRoom, make_start_room};
 use sdl_driver::Driver;
 use sdl_driver::closing::{Closing, Room, StartFault};
-use sdl_driver::sdl_instances::bounds::parts_are_bound;
-use sdl_driver::sdl_log::{FilledAhead, Keeps};
-use sdl_driver::sdl_parts::Checked;
-use sdl_driver::sdl_routes::Routes;
-use sdl_driver::sdl_transition::{Agents, BlockParts, Bound};
+use sdl_instances::bounds::parts_are_bound;
+use sdl_log::{FilledAhead, Keeps};
+use sdl_parts::Checked;
+use sdl_routes::Routes;
+use sdl_transition::{Agents, BlockParts, Bound};
 use std::alloc::Global;
 use std::io::{Read, Write};
 

@@ -1,19 +1,19 @@
 //! What stands at the start of a run, beside its blocks.
 ghost use Rattle.std.specs.Prelude.{◌≡◌, ◌++◌, ◌≤◌, [], map, length, OnOk, IfOk};
 ghost use Rattle.sdl_driver.specs.Closings.{HasRoom};
-ghost use Rattle.sdl_driver.specs.sdl_outcome.Plan.{path_line, lines_from};
+ghost use Rattle.sdl_outcome.specs.Plan.{path_line, lines_from};
 ghost use Rattle.sdl_serial_run.specs.Serial.{IsStartRoom};
 ghost use Rattle.sdl_serial_run.specs.Starting.{idle_at};
 
+use sdl_block::BlockWorker;
 use sdl_driver::closing::Room;
-use sdl_driver::sdl_block::BlockWorker;
-use sdl_driver::sdl_environment::EnvWorker;
-use sdl_driver::sdl_forward::{Board, Forwarder};
-use sdl_driver::sdl_log::{Event, Keeps};
-use sdl_driver::sdl_parts::{Channel, Checked};
-use sdl_driver::sdl_routes::{Hop, Routes};
-use sdl_driver::sdl_signal::{ChannelId, SignalId};
-use sdl_driver::sdl_transition::Agents;
+use sdl_environment::EnvWorker;
+use sdl_forward::{Board, Forwarder};
+use sdl_log::{Event, Keeps};
+use sdl_parts::{Channel, Checked};
+use sdl_routes::{Hop, Routes};
+use sdl_signal::{ChannelId, SignalId};
+use sdl_transition::Agents;
 use std::alloc::{AllocError, Global};
 
 /// What a run takes before its blocks: the board, the forwarders, the environment, the lists of its closing, and room for the blocks.

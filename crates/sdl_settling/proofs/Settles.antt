@@ -1,26 +1,26 @@
 -- What a driver that goes on reads and writes, and the system that it hands back.
 use Rattle.std.proofs.Common.{ℕ, List, Option, map, ◌≡◌, sym, ◌∙◌, subst}
-use Rattle.sdl_serial_run.specs.sdl_signal.declared.values.Item.{Item}
-use Rattle.sdl_serial_run.specs.sdl_routes.declared.route.Station.{Station}
-use Rattle.sdl_serial_run.specs.sdl_routes.Routes.{EachOnce}
-use Rattle.sdl_serial_run.specs.sdl_driver.sdl_queue.declared.rest.Rest.{Rest}
-use Rattle.sdl_serial_run.specs.sdl_driver.sdl_queue.Rest.{left_in}
-use Rattle.sdl_serial_run.specs.sdl_behaviour.declared.step.Frame.{Frame}
-use Rattle.sdl_serial_run.specs.sdl_behaviour.declared.step.Step.{Step}
-use Rattle.sdl_serial_run.specs.sdl_driver.sdl_forward.Boards.{stations_of, lists_of}
-use Rattle.sdl_serial_run.specs.sdl_block.Workers.{worker_of}
-use Rattle.sdl_serial_run.proofs.driving.opening.Opened.{order_once}
-use Rattle.sdl_serial_run.specs.sdl_transition.declared.binding.Bound.{Bound}
-use Rattle.sdl_serial_run.specs.sdl_outcome.Plan.{Plan, blocks_in}
-use Rattle.sdl_serial_run.specs.sdl_outcome.EnvironmentWork.{HasReadSoFar, HasWrittenSoFar}
-use Rattle.sdl_serial_run.specs.sdl_driver.declared.closing.Closing.{Closing}
-use Rattle.sdl_serial_run.specs.sdl_driver.declared.driver.Driver.{Driver}
-use Rattle.sdl_serial_run.specs.sdl_driver.Closings.{HasReadIn, HasWrittenIn, IsSystemOf}
-use Rattle.sdl_serial_run.specs.sdl_driver.Drivers.{plan_of, IsSameSystem, ReadsOver, WritesOver}
-use Rattle.sdl_serial_run.specs.sdl_driver.Drivers.{IsBetweenSteps}
-use Rattle.sdl_serial_run.specs.sdl_driver.declared.parked.Parked.{Parked}
-use Rattle.sdl_serial_run.specs.sdl_driver.Stopped.{plan_of_parked, IsParked}
-use Rattle.sdl_serial_run.proofs.driving.Drives.{same_plan, map_map}
+use Rattle.sdl_signal.specs.declared.values.Item.{Item}
+use Rattle.sdl_routes.specs.declared.route.Station.{Station}
+use Rattle.sdl_routes.specs.Routes.{EachOnce}
+use Rattle.sdl_queue.specs.declared.rest.Rest.{Rest}
+use Rattle.sdl_queue.specs.Rest.{left_in}
+use Rattle.sdl_behaviour.specs.declared.step.Frame.{Frame}
+use Rattle.sdl_behaviour.specs.declared.step.Step.{Step}
+use Rattle.sdl_forward.specs.Boards.{stations_of, lists_of}
+use Rattle.sdl_block.specs.Workers.{worker_of}
+use Rattle.sdl_opening.proofs.Opened.{order_once}
+use Rattle.sdl_transition.specs.declared.binding.Bound.{Bound}
+use Rattle.sdl_outcome.specs.Plan.{Plan, blocks_in}
+use Rattle.sdl_outcome.specs.EnvironmentWork.{HasReadSoFar, HasWrittenSoFar}
+use Rattle.sdl_driver.specs.declared.closing.Closing.{Closing}
+use Rattle.sdl_driver.specs.declared.driver.Driver.{Driver}
+use Rattle.sdl_driver.specs.Closings.{HasReadIn, HasWrittenIn, IsSystemOf}
+use Rattle.sdl_driver.specs.Drivers.{plan_of, IsSameSystem, ReadsOver, WritesOver}
+use Rattle.sdl_driver.specs.Drivers.{IsBetweenSteps}
+use Rattle.sdl_driver.specs.declared.parked.Parked.{Parked}
+use Rattle.sdl_driver.specs.Stopped.{plan_of_parked, IsParked}
+use Rattle.sdl_driver.proofs.Drives.{same_plan, map_map}
 
 module _ {S K I : Type 0} {F : I → Type 0} {g : _} (old new : Driver S K I F g) (same : IsSameSystem old new) where
   pub bound_over : (b : Bound S I F g) → IsSystemOf new b → IsSystemOf old b

@@ -4,13 +4,13 @@ ghost use Rattle.std.specs.List.{AllByRecursion};
 ghost use Rattle.sdl_threads.specs.Back.{worker_in};
 ghost use Rattle.sdl_settling.specs.Coming.{block_if, forwarder_if, blocks_back, forwarders_back, HasRun, CameAs, IsFirstFrom, IsFirstRefused, NamesFirst};
 
+use sdl_block::BlockWorker;
 use sdl_ends::Ends;
+use sdl_forward::Forwarder;
+use sdl_log::Keeps;
 use sdl_serial_run::blocks::put_last;
-use sdl_serial_run::sdl_block::BlockWorker;
-use sdl_serial_run::sdl_driver::sdl_forward::Forwarder;
-use sdl_serial_run::sdl_log::Keeps;
-use sdl_serial_run::sdl_transition::Agents;
 use sdl_threads::{AtWork, BlockThread, ForwarderThread, Kind, Returned};
+use sdl_transition::Agents;
 use std::collections::VecDeque;
 
 /// The worker, and how it came back.

@@ -1,21 +1,21 @@
 //! The workers that came back are taken apart, and the queues put together again.
 ghost use Rattle.std.specs.Prelude.{◌≡◌, ◌+◌, ◌≤◌, length, map};
 ghost use Rattle.std.specs.List.{AllByRecursion};
-ghost use Rattle.sdl_serial_run.specs.sdl_routes.Routes.{EachOnce};
+ghost use Rattle.sdl_routes.specs.Routes.{EachOnce};
 ghost use Rattle.sdl_ends.specs.Ends.{column, AreAllEndsOf, AreRejoined};
 ghost use Rattle.sdl_settling.specs.Coming.{blocks_back, forwarders_back, ends_back};
 ghost use Rattle.sdl_settling.specs.Room.{HasApartRoom};
 
 use crate::back::{part, take_blocks, take_forwarders};
+use sdl_block::BlockWorker;
 use sdl_ends::{Ends, Shelf, ends_rejoin};
+use sdl_forward::Forwarder;
+use sdl_log::{Event, Keeps};
+use sdl_queue::Rest;
+use sdl_routes::Station;
 use sdl_serial_run::blocks::put_last;
-use sdl_serial_run::sdl_block::BlockWorker;
-use sdl_serial_run::sdl_driver::sdl_forward::Forwarder;
-use sdl_serial_run::sdl_driver::sdl_queue::Rest;
-use sdl_serial_run::sdl_log::{Event, Keeps};
-use sdl_serial_run::sdl_routes::Station;
-use sdl_serial_run::sdl_transition::Agents;
 use sdl_threads::{AtWork, BlockThread, ForwarderThread, Returned};
+use sdl_transition::Agents;
 use std::sync::Wait;
 
 /// Room for workers as they are taken apart.

@@ -1,21 +1,21 @@
 //! What joined workers leave is settled on one thread, and the run is closed.
 ghost use Rattle.std.specs.Prelude.{◌≡◌, ℕ, List, Option, Some, ◌+◌, ◌<◌, [], length, map, MatchOption, ⊤};
-ghost use Rattle.sdl_serial_run.specs.sdl_transition.Bound.{AreOneSystem};
-ghost use Rattle.sdl_serial_run.specs.sdl_block.Workers.{behaviours_of};
-ghost use Rattle.sdl_serial_run.specs.sdl_outcome.Plan.{blocks_in, workers_of};
-ghost use Rattle.sdl_serial_run.specs.sdl_outcome.EnvironmentWork.{HasReadSoFar, HasWrittenSoFar};
-ghost use Rattle.sdl_serial_run.specs.sdl_driver.Closings.{HasRoom, HasReadIn, HasWrittenIn, StopsByMemory, NamesRefused, IsSystemOf, outcome_in};
-ghost use Rattle.sdl_serial_run.specs.sdl_driver.Drivers.{plan_of, IsDriving};
-ghost use Rattle.sdl_serial_run.specs.sdl_driver.Ended.{HasEnded};
-ghost use Rattle.sdl_serial_run.specs.sdl_driver.Stopped.{plan_of_parked, IsParked, IsSystemOfParked};
+ghost use Rattle.sdl_transition.specs.Bound.{AreOneSystem};
+ghost use Rattle.sdl_block.specs.Workers.{behaviours_of};
+ghost use Rattle.sdl_outcome.specs.Plan.{blocks_in, workers_of};
+ghost use Rattle.sdl_outcome.specs.EnvironmentWork.{HasReadSoFar, HasWrittenSoFar};
+ghost use Rattle.sdl_driver.specs.Closings.{HasRoom, HasReadIn, HasWrittenIn, StopsByMemory, NamesRefused, IsSystemOf, outcome_in};
+ghost use Rattle.sdl_driver.specs.Drivers.{plan_of, IsDriving};
+ghost use Rattle.sdl_driver.specs.Ended.{HasEnded};
+ghost use Rattle.sdl_driver.specs.Stopped.{plan_of_parked, IsParked, IsSystemOfParked};
 
-use sdl_serial_run::sdl_driver::closing::{Closing, Room};
-use sdl_serial_run::sdl_driver::sdl_forward::{Board, Forwarder};
-use sdl_serial_run::sdl_driver::{Driver, Parked};
-use sdl_serial_run::sdl_log::{Event, Keeps};
-use sdl_serial_run::sdl_routes::Station;
-use sdl_serial_run::sdl_transition::Agents;
+use sdl_driver::closing::{Closing, Room};
+use sdl_driver::{Driver, Parked};
+use sdl_forward::{Board, Forwarder};
+use sdl_log::{Event, Keeps};
+use sdl_routes::Station;
 use sdl_threads::{AtWork, Returned};
+use sdl_transition::Agents;
 use std::io::{Read, Write};
 use std::snapshot::Snapshot;
 use std::sync::Wait;

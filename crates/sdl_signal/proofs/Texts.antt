@@ -162,7 +162,8 @@ colon_is_at names set serial t l h =
     ∙ position_of_colon h.name (decimal serial) 0 (set_has_no_colon names set h.name l h.at).no_colon
     ∙ ap Some (omega arith)
 
--- what has the text of a Pid, and isn't `null` or `env`, has that of an instance, whose name and number stand beside the first colon
+-- what has the text of a Pid, and isn't `null` or `env`, has that of an instance. Its name and number stand beside the first
+-- colon
 inst_of_pid_text : {P : Type 0} (names : Lexicon) (t : List ℕ) → t ≢ codes "null" → t ≢ codes "env" → ((set : SetId) (serial : ℕ) → serial < 2 ^ 32 → IsInstText names set.0 serial t → P) → IsPidText names t → P
 inst_of_pid_text names t n e then (pid.Null, fits, is) = absurd (n (sym (same_Some (codes "null") t is)))
 inst_of_pid_text names t n e then (pid.Env, fits, is) = absurd (e (sym (same_Some (codes "env") t is)))

@@ -63,7 +63,7 @@ impl EnvReader {
         self.source.is_ready()
     }
 
-    /// Whether a part of a line waits behind which more is to be had at once, as far as can be told: the reader gave as many bytes
+    /// Whether a part of a line waits after which more is to be had at once, as far as can be told: the reader gave as many bytes
     /// as it was asked for, and they end within a line. It is asked where the next answer is not ready.
     pub fn breaks_off(&self) -> bool
         ensures { result ≡ true → (self.now.source.ended ≡ None) × (0 < length self.now.source.ahead) }

@@ -78,8 +78,8 @@ fn read_to(names: &Names, to: Option<&[u8]>) -> Option<Option<Pid>>
     Some(Some(pid))
 }
 
-/// The fields of a line that keeps the rules up to L3, at most nine of them, or the first of those rules that it
-/// breaks.
+/// The fields of a line that keeps the rules up to L3, at most nine of them; else the first of those rules that
+/// it breaks.
 fn cut_by_rules(line: &[u8]) -> Result<ArrayVec<&[u8], MANY>, LineFault>
     ensures cut { IfOk result (λ found. map (λ f. f.now) found.items ≡ take 9 (rule.fields line.now)) }
     ensures two { IfOk result (λ found. 2 ≤ length found.items) }

@@ -1,4 +1,4 @@
-//! The text of `agents.rt`: for each set a start, and for each signal that the set may receive an offer and a step, which are
+//! The text of `agents.rt`: for each set a start, and for each signal that the set may receive an offer and a step. They are
 //! a row once it is taken out of its comment in the list of rows.
 use crate::names::{Constant, Part};
 use sdl_parts::{Owner, Structure};

@@ -9,4 +9,3 @@ pub mod numbers;
 pub use agents::write_agents;
 pub use fixed::{MAIN, RUNNING};
 pub use numbers::write_numbers;
-pub use sdl_parts;

@@ -5,7 +5,7 @@
 
 mod program;
 
-use sdl_file_commands::sdl_command::status::REFUSED;
+use sdl_command::status::REFUSED;
 use sdl_file_commands::streams::{Output, shared_buffer};
 use std::process::ExitCode;
 

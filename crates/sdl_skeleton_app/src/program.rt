@@ -1,13 +1,13 @@
 //! What the program does, over any writers, and its exit statuses.
+use sdl_command::errors::{without_memory, write_error};
+use sdl_command::status::{REFUSED, WRONG_ARGUMENTS};
 use sdl_file_commands::commands::{checked_file, written};
 use sdl_file_commands::files::{FileRead, read_file};
-use sdl_file_commands::sdl_command::errors::{without_memory, write_error};
-use sdl_file_commands::sdl_command::status::{REFUSED, WRONG_ARGUMENTS};
-use sdl_file_commands::sdl_structure::FileFault;
 use sdl_file_commands::words::{words_behind_the_name, words_of};
+use sdl_parts::Structure;
 use sdl_skeleton::agents::write_lines;
-use sdl_skeleton::sdl_parts::Structure;
 use sdl_skeleton::{MAIN, RUNNING, write_agents, write_numbers};
+use sdl_structure::FileFault;
 use std::alloc::{AllocError, Global};
 use std::io::{Result as Written, Write};
 use std::rt::{Env, Files};

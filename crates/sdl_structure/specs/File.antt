@@ -60,7 +60,8 @@ IsAgent blocks sets (scope.Block b) agent owner.System = ⊥
 IsAgent blocks sets (scope.Block b) agent (owner.Block c) = (c.0 ≡ b.0) × (agent ≡ codes "env")
 IsAgent blocks sets (scope.Block b) agent (owner.Set t) = IsSomeAnd (slice_get sets t.0) (λ x. (x.block.0 ≡ b.0) × (x.name.bytes ≡ agent))
 
--- a channel ends at the inner side of a gate of the agent that it lies in, and at the outer side of any other gate
+-- a channel ends at the inner side of a gate of the agent that it lies in. At any other gate it ends at the outer
+-- side
 abbrev pub side_in : Scope → Owner → Side
 side_in scope.System owner.System = Inner
 side_in (scope.Block b) (owner.Block c) = Inner

@@ -7,8 +7,8 @@ ghost use Rattle.sdl_structure.specs.File.{IsFileOf};
 
 use sdl_tables::{FileFault, Place};
 
-/// In a file that names a structure, each table has the keys that it must have, what they hold is of their types, and there
-/// is no other key.
+/// In a file that names a structure, each table has the keys that it must have, and no other key. What they hold is of
+/// their types.
 pub fn tables_have_their_keys()
     ensures missing { (root : Members) (s : Structure) (p : Place) → IsFileOf root s → ¬ IsBroken root (FileFault.MissingKey p) }
     ensures wrong { (root : Members) (s : Structure) (p : Place) → IsFileOf root s → ¬ IsBroken root (FileFault.WrongType p) }

@@ -1,6 +1,6 @@
 //! A checker of what went along the routes of Relay, by loops.
+use sdl_log::{Done, Event};
 use sdl_run::EnvOut;
-use sdl_run::sdl_log::{Done, Event};
 use sdl_signal::{Item, RouteId};
 use std::alloc::{AllocError, Global};
 

@@ -76,8 +76,8 @@ impl Gate for Holding {
     }
 }
 
-/// In Relay, the first step of the forwarder of `sa`, which leads from the gate `left` to L, waits until the environment was about
-/// to make so many steps.
+/// In Relay, `sa` leads from the gate `left` to L. The first step of its forwarder waits until the environment was about to make
+/// so many steps.
 #[derive(Drop)]
 pub struct HeldPath {
     steps: u64,

@@ -1,10 +1,10 @@
 //! What a run left, and what the checkers say of its logs.
 use crate::along::{FROM_A, FROM_C, ROUTES, Traffic, carried};
 use crate::logs::is_run;
-use sdl_run::sdl_driver::sdl_hand::Hand;
-use sdl_run::sdl_driver::sdl_queue::Rest;
-use sdl_run::sdl_log::Keeps;
-use sdl_run::sdl_routes::Station;
+use sdl_hand::Hand;
+use sdl_log::Keeps;
+use sdl_queue::Rest;
+use sdl_routes::Station;
 use sdl_run::{Closing, EnvOut, Ledger, RunEnd};
 use sdl_signal::{InputEnd, Item, OutputEnd};
 use sdl_test_systems::Stop;

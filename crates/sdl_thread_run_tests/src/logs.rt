@@ -1,6 +1,6 @@
 //! A checker of a block's log, by a loop: each instance starts first and once, and then consumes what entered its port, in order;
 //! and the block numbers its outputs from 0.
-use sdl_run::sdl_log::{Done, Event, Trigger};
+use sdl_log::{Done, Event, Trigger};
 use sdl_signal::{Item, Origin, Pid};
 use std::alloc::{AllocError, Global};
 

@@ -25,7 +25,8 @@ fn run<T: Threads + Wait + Sync>(
     counted::run(rt, alloc, &calls, input, gate, Logs::Stored)
 }
 
-/// All of so many came, by one route in the order in which B sent them, and the numbers of each side in the order of the lines.
+/// All of so many came. Those of one route came in the order in which B sent them, and the numbers of each side in the order of
+/// the lines.
 fn are_in_order(rt: &impl Abort, received: &[Item], count: u32) {
     let mut next = [0, 1];
     for (place, item) in received.iter().enumerate() {
@@ -117,7 +118,7 @@ fn sum(counts: &[u64]) -> u64 {
     total
 }
 
-/// Each log is a run of its block and of no other, what A sent is not what came from C, and there are as many events as in turns.
+/// Each log is a run of its block and of no other. What A sent is not what came from C. There are as many events as in turns.
 fn logs_look_like(rt: &impl Abort, left: &Left, serial: &Left) {
     match (&left.logs, &serial.logs) {
         (Some(logs), Some(others)) => {

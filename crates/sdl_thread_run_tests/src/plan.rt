@@ -1,10 +1,10 @@
 //! Runs of a system in threads or in turns.
 ghost use Rattle.std.specs.List.{AllByRecursion};
 ghost use Rattle.sdl_transition.specs.Bound.{IsBound};
-ghost use Rattle.sdl_transition.specs.Transitions.{IsAllowedBehaviour};
+ghost use Rattle.sdl_behaviour.specs.Transitions.{IsAllowedBehaviour};
 
 use crate::left::{Left, left_by, left_with_logs};
-use sdl_run::sdl_log::Unstored;
+use sdl_log::Unstored;
 use sdl_run::{Closing, Gate, StartFault, run_serial, run_threads, run_threads_keeping};
 use sdl_test_systems::{Stop, bind_to};
 use sdl_transition::{Agents, Behaviour, Bound};

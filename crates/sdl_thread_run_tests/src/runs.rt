@@ -57,8 +57,8 @@ fn threads_carry_signals_and_make_turns(rt: HostRuntime) -> Result<(), Fail> {
     Ok(())
 }
 
-/// Runs Relay on so many lines to the left, of which each is to come in its order, while the forwarder of the first path is held
-/// until the environment has read them all.
+/// Runs Relay on so many lines to the left, of which each is to come in its order. The forwarder of the first path is held
+/// meanwhile, until the environment has read them all.
 fn come_behind_a_held_forwarder<T: Threads + Wait + Sync + Abort>(
     rt: &T,
     alloc: Global,

@@ -33,11 +33,11 @@ use Rattle.sdl_behaviour.specs.contracts.transition.Transition as Transition
 use Rattle.sdl_signal.proofs.ids.BlockId.TheSendSync as block_id
 use Rattle.sdl_transition.proofs.index.Index.TheSendSync as index
 use Rattle.sdl_transition.specs.contracts.block_parts.BlockParts as Parts
-use Rattle.sdl_block.proofs.instances.table.Table.TheSendSync as table
-use Rattle.sdl_block.specs.sdl_instances.contracts.block.BlockCore
-use Rattle.sdl_block.proofs.hand.hand.Hand.TheSendSync as hand
+use Rattle.sdl_instances.proofs.table.Table.TheSendSync as table
+use Rattle.sdl_instances.specs.contracts.block.BlockCore
+use Rattle.sdl_hand.proofs.hand.Hand.TheSendSync as hand
 use Rattle.sdl_block.specs.contracts.worker.BlockWorker
-use Rattle.sdl_block.proofs.ends.ends.Ends.TheSendSync as ends
+use Rattle.sdl_ends.proofs.ends.Ends.TheSendSync as ends
 use Rattle.sdl_threads.proofs.workers.ForwarderThread.TheSendSync as forwarder
 use Rattle.sdl_threads.specs.contracts.workers.BlockThread
 use Rattle.sdl_threads.specs.contracts.workers.ForwarderThread

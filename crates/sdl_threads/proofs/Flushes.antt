@@ -4,13 +4,13 @@ use Rattle.sdl_routes.specs.declared.route.Station.{Station}
 use Rattle.sdl_routes.specs.declared.route.TableRow.{TableRow}
 use Rattle.sdl_behaviour.specs.declared.step.Frame.{Frame}
 use Rattle.sdl_behaviour.specs.declared.step.Step.{Step}
-use Rattle.sdl_block.specs.sdl_instances.Machine.{System}
-use Rattle.sdl_block.specs.sdl_ends.Ends.{WorkerEnds, IsSameEnds, put_at, taken_by}
-use Rattle.sdl_block.specs.sdl_forward.Forwards.{Forwarding}
-use Rattle.sdl_block.specs.sdl_forward.HandsOn.{IsHandingOn}
-use Rattle.sdl_block.specs.sdl_hand.Work.{Working}
-use Rattle.sdl_block.specs.sdl_hand.Apart.{IsPuttingOut}
-use Rattle.sdl_block.proofs.hand.FrontsApart.{has_feed_still}
+use Rattle.sdl_instances.specs.Machine.{System}
+use Rattle.sdl_ends.specs.Ends.{WorkerEnds, IsSameEnds, put_at, taken_by}
+use Rattle.sdl_forward.specs.Forwards.{Forwarding}
+use Rattle.sdl_forward.specs.HandsOn.{IsHandingOn}
+use Rattle.sdl_hand.specs.Work.{Working}
+use Rattle.sdl_hand.specs.Apart.{IsPuttingOut}
+use Rattle.sdl_hand.proofs.FrontsApart.{has_feed_still}
 
 pub taken_same : (old new : WorkerEnds) → new.tap ≡ old.tap → taken_by new ≡ taken_by old
 taken_same old new tap = ap (λ o. taken_by (record { tap = o; feeds = [] })) tap

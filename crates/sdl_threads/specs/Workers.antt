@@ -1,8 +1,8 @@
 -- Which worker with its ends it is, whatever its steps did. (This project's own.)
 use Rattle.std.specs.Prelude.{◌≡◌, refl}
 use Rattle.std.proofs.Common.{◌∙◌}
-use Rattle.sdl_block.specs.sdl_instances.Calls.{KeepsRest}
-use Rattle.sdl_block.specs.sdl_ends.Ends.{IsSameEnds}
+use Rattle.sdl_instances.specs.Calls.{KeepsRest}
+use Rattle.sdl_ends.specs.Ends.{IsSameEnds}
 use Rattle.sdl_block.specs.Workers.{behaviours_of, worker_of}
 use Rattle.sdl_threads.specs.declared.workers.ForwarderThread.{ForwarderThread}
 use Rattle.sdl_threads.specs.declared.workers.BlockThread.{BlockThread}

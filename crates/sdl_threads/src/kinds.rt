@@ -1,6 +1,6 @@
 //! Workers of two kinds in one list.
 use crate::work::{Stepped, Work};
-use sdl_block::sdl_ends::Marks;
+use sdl_ends::Marks;
 use sdl_parts::Structure;
 use sdl_routes::Routes;
 use std::sync::Wait;

@@ -1,6 +1,6 @@
 //! How far a worker is ahead of those that take what it puts.
 use crate::told::Told;
-use sdl_block::sdl_ends::Marks;
+use sdl_ends::Marks;
 
 /// How many items a worker may be ahead, before it lets those that take what it put catch up: they want for a processor, and
 /// what waits for them should stand in a cache still when they take it.

@@ -12,6 +12,6 @@ mod workers;
 pub use kinds::Kind;
 pub use pace::{Gate, OpenGate};
 pub use scope::{Team, run_all};
-pub use sdl_block::sdl_ends::Marks;
+pub use sdl_ends::Marks;
 pub use work::{Returned, Stepped, Work};
 pub use workers::{AtWork, BlockThread, ForwarderThread, run_workers};

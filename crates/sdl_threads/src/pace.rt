@@ -3,7 +3,7 @@ use crate::lead::Lead;
 use crate::told::{ASLEEP, LISTENING, Told};
 use crate::work::{Stepped, Work};
 use crossbeam_utils::Backoff;
-use sdl_block::sdl_ends::{FREE_MARK, Marks};
+use sdl_ends::Marks;
 use sdl_parts::Structure;
 use sdl_routes::Routes;
 use std::hint::spin_loop;
@@ -45,8 +45,8 @@ const MOST_ROOM: u32 = 32;
 /// After how many steps that did something a worker shows how many they are, unless it has nothing to do before.
 const SHOWN_STEPS: u64 = 16;
 
-/// After how many sleeps in a row that ended by themselves a worker asks outside the system although the others are not at rest, where
-/// they made many steps meanwhile: some systems never rest. So many take 80 ms.
+/// After how many sleeps in a row that ended by themselves a worker asks outside the system. The others are not at rest then, and
+/// made many steps meanwhile: some systems never rest. So many take 80 ms.
 const FEW_NAPS: u32 = 10;
 
 /// How many steps these are, for each of its own before that did something when it might ask, and for one more: what comes of the
@@ -422,8 +422,9 @@ impl Idling {
         }
     }
 
-    /// How long it is to sleep at rest, in sleeps. Before it sleeps deeply it says so, and looks once more at what there is to do:
-    /// whoever puts something for it after that wakes it at once, or after one step more, where he did not see yet that it said so.
+    /// How long it is to sleep at rest, in sleeps. Before it sleeps deeply it says so, and looks once more at what there is to
+    /// do: whoever puts something for it after that wakes it at once. Where the other did not see yet that it said so, that is
+    /// one step later.
     fn naps_at_rest(&mut self, told: &Told) -> u64 {
         self.rests = self.rests.saturating_add(1);
         let said_so = self.is_deep;
@@ -450,7 +451,7 @@ impl Idling {
     }
 
     /// Spins, and then yields, unless it did so often enough or the processors are crowded. There a yield takes as long as others
-    /// like, and who sleeps has his turn as soon as he is woken.
+    /// like, and who sleeps has its turn as soon as it is woken.
     fn pauses_on(&mut self, told: &Told) -> bool {
         let naps = told.naps();
         if told.is_crowded(naps) {
@@ -508,7 +509,7 @@ fn mark_of_worker(station: Option<u32>, number: u32) -> u32 {
     }
 }
 
-/// Lets the worker of this number make steps until all are told to stop, and at least one, and says whether memory was refused to
+/// Lets the worker of this number make steps until all are told to stop, and at least one. It says whether memory was refused to
 /// the last. All are told to stop where it is, and where the worker has made as many turns as it may.
 pub(crate) fn drive<W: Work, G: Gate, R: Wait>(
     rt: &R,

@@ -204,9 +204,9 @@ fn run_rest<
     (done, last)
 }
 
-/// Lets each of the workers make its steps in a thread of its own, and the environment's in this one, until all are told to
-/// stop. Each makes at least one step, but where its thread can't start; then all are told to stop. They come back in the order of
-/// the list.
+/// Lets each of the workers make its steps in a thread of its own, and the environment's in this one. All go on until they are
+/// told to stop. Each makes at least one step, but where its thread can't start; then all are told to stop. They come back in the
+/// order of the list.
 pub fn run_all<
     B: Work + Send + Drop,
     F: Work + Send + Drop,

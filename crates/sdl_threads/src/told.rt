@@ -1,6 +1,6 @@
 //! What the threads tell each other.
 use crossbeam_utils::CachePadded;
-use sdl_block::sdl_ends::{MARKS, Marks};
+use sdl_ends::{MARKS, Marks};
 use std::array::from_fn;
 use std::sync::Wait;
 use std::sync::atomic::AtomicU64;
@@ -35,9 +35,9 @@ const CROWDED_NAPS: u64 = 24;
 /// what its steps keep.
 ///
 /// A worker that finds nothing to do says in its word that it is about to sleep, looks once more, and sleeps: it is at rest.
-/// Whoever put something where it takes wakes it, at once where he has nothing more to do, and else after some steps, so that
-/// there is more to do for one sleep. So once all are at rest, each looked at its queue after whatever was last put there, and
-/// none has anything to do: then all are to stop.
+/// Whoever put something where it takes wakes it, at once where it has nothing more to do. Else it does so after some steps,
+/// so that there is more to do for one sleep. So once all are at rest, each looked at its queue after whatever was last put
+/// there, and none has anything to do: then all are to stop.
 ///
 /// A worker that waits for room at a ring says so to who takes there, and sleeps; it is woken once there is some.
 #[derive(Drop)]
@@ -126,7 +126,7 @@ impl Told {
         }
     }
 
-    /// The worker with this mark has something to do. Whatever it put before is seen by whoever says after this that he is
+    /// The worker with this mark has something to do. Whatever it put before is seen by whoever says after this that it is
     /// about to sleep.
     pub(crate) fn gets_up(&self, mark: u32) {
         if self.word(mark).swap(AWAKE as u64, SeqCst) == ASLEEP as u64 {
@@ -141,7 +141,7 @@ impl Told {
     }
 
     /// The worker with this mark, which was about to sleep, comes to rest, unless somebody woke it. All are told to stop where it
-    /// is the last, and the one that listens is woken where it is the last but him.
+    /// is the last, and the one that listens is woken where it is the last but one.
     pub(crate) fn falls_asleep(&self, mark: u32) {
         if !self.moves(mark, DROWSY, ASLEEP) {
             return;

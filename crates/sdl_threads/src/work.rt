@@ -1,6 +1,6 @@
 //! What a thread knows of its worker, and how the worker comes back.
-use sdl_block::sdl_ends::Marks;
-pub use sdl_block::sdl_hand::Stepped;
+use sdl_ends::Marks;
+pub use sdl_hand::Stepped;
 use sdl_parts::Structure;
 use sdl_routes::Routes;
 use std::sync::Wait;
@@ -36,7 +36,7 @@ pub trait Work {
         ensures keeps { keeps structure.now routes.now self.new }
         ensures same { same self.old self.new };
 
-    /// Whether its next step would ask somebody outside the system, and could wait for him long. It is a hint.
+    /// Whether its next step would ask somebody outside the system, and could wait long for an answer. It is a hint.
     fn asks_outside(&self) -> bool;
 
     /// The mark of the station where it takes. It is a hint, by which it is woken.

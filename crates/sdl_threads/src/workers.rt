@@ -8,8 +8,8 @@ use crate::pace::Gate;
 use crate::scope::{Team, run_all};
 use crate::work::{Returned, Stepped, Work};
 use sdl_block::BlockWorker;
-use sdl_block::sdl_ends::{Ends, Marks};
-use sdl_block::sdl_forward::{Forwarded, Forwarder};
+use sdl_ends::{Ends, Marks};
+use sdl_forward::{Forwarded, Forwarder};
 use sdl_log::{Event, Keeps};
 use sdl_parts::Structure;
 use sdl_routes::Routes;
@@ -25,7 +25,7 @@ pub struct ForwarderThread {
 }
 
 impl Work for ForwarderThread {
-    ghost use Rattle.sdl_block.specs.sdl_forward.HandsOn.{IsHandingOn};
+    ghost use Rattle.sdl_forward.specs.HandsOn.{IsHandingOn};
     ghost use Rattle.sdl_threads.specs.Workers.{IsSameForwarder, IsSameForwarder-refl, IsSameForwarder-trans};
 
     ghost keeps = { λ s rows w. IsHandingOn rows w.forwarder w.ends };
@@ -86,9 +86,9 @@ pub struct BlockThread<S, K: Keeps = Vec<Event>> {
 
 impl<S: Agents, K: Keeps> Work for BlockThread<S, K> {
     ghost use Rattle.std.specs.Prelude.{◌≡◌};
-    ghost use Rattle.sdl_block.specs.sdl_instances.CoreOf.{CanFire};
+    ghost use Rattle.sdl_instances.specs.CoreOf.{CanFire};
     ghost use Rattle.sdl_block.specs.Workers.{behaviours_of, worker_of, system_around};
-    ghost use Rattle.sdl_block.specs.sdl_hand.Apart.{IsPuttingOut};
+    ghost use Rattle.sdl_hand.specs.Apart.{IsPuttingOut};
     ghost use Rattle.sdl_threads.specs.Workers.{IsSameBlock, IsSameBlock-refl, IsSameBlock-trans};
 
     ghost keeps = { λ s rows w. CanFire S.may (behaviours_of w.block) × IsPuttingOut S.may (system_around w.block rows) (worker_of w.block) w.ends };
@@ -138,8 +138,8 @@ impl<S: Agents, K: Keeps> Work for BlockThread<S, K> {
 /// A block or a forwarder, with its ends.
 pub type AtWork<S, K> = Kind<BlockThread<S, K>, ForwarderThread>;
 
-/// Lets each block and each forwarder of a system make its steps in a thread of its own, and the environment in this one, until
-/// all are told to stop: `run_all` of these workers.
+/// Lets each block and each forwarder of a system make its steps in a thread of its own. The environment makes its own in this
+/// one. All go on until they are told to stop. `run_all` of these workers.
 pub fn run_workers<
     S: Agents + Send,
     K: Keeps + Send,

@@ -33,7 +33,7 @@ abbrev pub HasTwoBehaviours : List DeclaredBehaviour → SetId → Type 0
 HasTwoBehaviours [] set = ⊥
 HasTwoBehaviours (b ∷ behaviours) set = ((b.set ≡ set) × HasBehaviour behaviours set) ⊎ HasTwoBehaviours behaviours set
 
--- B3: a use whose number has another name or is not there, a number of the behaviour that is in no use, or an offer
+-- B3: a use whose number has another name or is not there; a number of the behaviour that is in no use; an offer
 -- with another number of sets than the structure
 abbrev pub name_at : Structure → Kind → ℕ → Option (List ℕ)
 name_at s kind.Signal number = option_map (λ (x : SignalDecl). x.name.bytes) (slice_get s.signals number)

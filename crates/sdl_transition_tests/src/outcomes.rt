@@ -20,8 +20,8 @@ pub struct Outcome {
     pub found: Option<Found>,
 }
 
-/// The numbers of the start and of the rows in idle for the signals 0 and 1, and for a state and a signal that are not
-/// there, and how many variables there are.
+/// The numbers of the start and of the rows in idle for the signals 0 and 1. Those for a state and a signal that are
+/// not there. and how many variables there are.
 #[derive(Clone, Copy, PartialEq, Eq)]
 pub struct Found {
     pub start: u32,

@@ -10,19 +10,19 @@ use Rattle.sdl_routes.specs.declared.route.Source.TheVariants as source
 use Rattle.sdl_routes.specs.declared.route.Station.{Station}
 use Rattle.sdl_routes.specs.declared.route.Station.TheVariants.{Line}
 use Rattle.sdl_routes.specs.declared.route.TableRow.{TableRow}
-use Rattle.sdl_hand.specs.sdl_instances.declared.process_set.ProcessSet.{ProcessSet}
-use Rattle.sdl_hand.specs.sdl_instances.Core.{numbers_of, sets_of}
-use Rattle.sdl_hand.specs.sdl_instances.Machine.{System}
-use Rattle.sdl_hand.specs.sdl_ends.Stations.{station_behind}
-use Rattle.sdl_hand.specs.sdl_ends.Ends.{WorkerEnds, IsSameEnds, AreFresh, HasFeed}
-use Rattle.sdl_hand.specs.sdl_ends.Ways.{HasGateWays}
-use Rattle.sdl_hand.specs.sdl_forward.Carries.{HasWaysOn}
+use Rattle.sdl_instances.specs.declared.process_set.ProcessSet.{ProcessSet}
+use Rattle.sdl_instances.specs.Core.{numbers_of, sets_of}
+use Rattle.sdl_instances.specs.Machine.{System}
+use Rattle.sdl_ends.specs.Stations.{station_behind}
+use Rattle.sdl_ends.specs.Ends.{WorkerEnds, IsSameEnds, AreFresh, HasFeed}
+use Rattle.sdl_ends.specs.Ways.{HasGateWays}
+use Rattle.sdl_forward.specs.Carries.{HasWaysOn}
 use Rattle.sdl_hand.specs.Apart.{StartsIn, HasOwnWays}
 use Rattle.sdl_hand.proofs.FrontsApart.{has_feed_still}
-use Rattle.sdl_hand.specs.sdl_opening.declared.worker.Worker.{Worker}
-use Rattle.sdl_hand.specs.sdl_opening.declared.worker.Worker.TheVariants.{Block, Environment, Forwarder}
-use Rattle.sdl_hand.specs.sdl_opening.Workers.{first, starter, workers_in, ways_in}
-use Rattle.sdl_hand.specs.sdl_opening.Opens.{AreOpen, ends_of}
+use Rattle.sdl_opening.specs.declared.worker.Worker.{Worker}
+use Rattle.sdl_opening.specs.declared.worker.Worker.TheVariants.{Block, Environment, Forwarder}
+use Rattle.sdl_opening.specs.Workers.{first, starter, workers_in, ways_in}
+use Rattle.sdl_opening.specs.Opens.{AreOpen, ends_of}
 
 -- a set by its numbers
 set_found : (xs : List Set) (k : ℕ) (d : ProcessSet) → slice_get (map numbers_of xs) k ≡ Some d → (t : Set) × (slice_get xs k ≡ Some t) × (numbers_of t ≡ d)

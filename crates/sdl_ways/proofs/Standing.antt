@@ -8,12 +8,12 @@ use Rattle.sdl_parts.specs.declared.parts.Channel.{Channel}
 use Rattle.sdl_parts.specs.Structure.{Structure}
 use Rattle.sdl_routes.specs.declared.route.Hop.{Hop}
 use Rattle.sdl_routes.specs.Routes.{EachOnce, hop_number}
-use Rattle.sdl_hand.specs.sdl_ends.Ends.{WorkerEnds}
-use Rattle.sdl_hand.specs.sdl_opening.declared.worker.Worker.{Worker}
-use Rattle.sdl_hand.specs.sdl_opening.declared.worker.Worker.TheVariants.{Block, Environment, Forwarder}
-use Rattle.sdl_hand.specs.sdl_opening.Workers.{same_worker, blocks_from, path_line, lines_from, workers_in}
-use Rattle.sdl_hand.specs.sdl_opening.Opens.{ends_of}
-use Rattle.sdl_hand.proofs.opening.Bringing.{same_worker_is, same_worker_itself, all_at}
+use Rattle.sdl_ends.specs.Ends.{WorkerEnds}
+use Rattle.sdl_opening.specs.declared.worker.Worker.{Worker}
+use Rattle.sdl_opening.specs.declared.worker.Worker.TheVariants.{Block, Environment, Forwarder}
+use Rattle.sdl_opening.specs.Workers.{same_worker, blocks_from, path_line, lines_from, workers_in}
+use Rattle.sdl_opening.specs.Opens.{ends_of}
+use Rattle.sdl_opening.proofs.Bringing.{same_worker_is, same_worker_itself, all_at}
 
 -- a number for each worker, where there are so many blocks: those of the blocks, then that of the environment, then two for
 -- each channel

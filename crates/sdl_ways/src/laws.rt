@@ -5,16 +5,16 @@ ghost use Rattle.sdl_parts.specs.Structure.{Structure};
 ghost use Rattle.sdl_routes.specs.declared.route.Hop.{Hop};
 ghost use Rattle.sdl_routes.specs.declared.route.Station.{Station};
 ghost use Rattle.sdl_routes.specs.declared.route.TableRow.{TableRow};
-ghost use Rattle.sdl_hand.specs.sdl_instances.Core.{sets_of};
-ghost use Rattle.sdl_hand.specs.sdl_instances.Machine.{System};
-ghost use Rattle.sdl_hand.specs.sdl_ends.Ends.{WorkerEnds, IsSameEnds, AreFresh};
-ghost use Rattle.sdl_hand.specs.sdl_ends.Ways.{HasGateWays};
-ghost use Rattle.sdl_hand.specs.sdl_forward.Carries.{HasWaysOn};
+ghost use Rattle.sdl_instances.specs.Core.{sets_of};
+ghost use Rattle.sdl_instances.specs.Machine.{System};
+ghost use Rattle.sdl_ends.specs.Ends.{WorkerEnds, IsSameEnds, AreFresh};
+ghost use Rattle.sdl_ends.specs.Ways.{HasGateWays};
+ghost use Rattle.sdl_forward.specs.Carries.{HasWaysOn};
 ghost use Rattle.sdl_hand.specs.Apart.{HasOwnWays};
-ghost use Rattle.sdl_hand.specs.sdl_opening.declared.worker.Worker.{Worker};
-ghost use Rattle.sdl_hand.specs.sdl_opening.declared.worker.Worker.TheVariants.{Block, Environment, Forwarder};
-ghost use Rattle.sdl_hand.specs.sdl_opening.Workers.{workers_in};
-ghost use Rattle.sdl_hand.specs.sdl_opening.Opens.{AreOpen, ends_of};
+ghost use Rattle.sdl_opening.specs.declared.worker.Worker.{Worker};
+ghost use Rattle.sdl_opening.specs.declared.worker.Worker.TheVariants.{Block, Environment, Forwarder};
+ghost use Rattle.sdl_opening.specs.Workers.{workers_in};
+ghost use Rattle.sdl_opening.specs.Opens.{AreOpen, ends_of};
 
 /// The ends of each block have a feed at the first station of each route that starts at one of its sets.
 pub fn blocks_have_their_ways()

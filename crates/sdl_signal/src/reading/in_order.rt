@@ -33,7 +33,7 @@ fn behind_space(text: &[u8]) -> Option<&[u8]>
     Some(&text[1..])
 }
 
-/// Reads the values of these sorts behind one another, each with a space before it, and answers what follows. `None` where one
+/// Reads the values of these sorts one after another, each with a space before it, and answers what follows. `None` where one
 /// is none of its sort.
 #[inline(always)]
 fn read_spaced<'a>(
@@ -63,7 +63,7 @@ fn read_spaced<'a>(
     Some(rest)
 }
 
-/// Reads a TO part, where the text has one, each of its fields with a space before it, and says whether the text is that or empty.
+/// Reads a TO part, where the text has one, each of its fields with a space before it. It says whether the text is that or empty.
 #[inline(always)]
 fn read_to_part(names: &Names, text: &[u8], to: &mut Option<Pid>) -> bool
     requires { to.old ≡ None }

@@ -1,6 +1,6 @@
 use Rattle.std.proofs.Common.{◌≡◌, ◌+◌, map, length, arith}
 use Rattle.sdl_block.specs.Workers.{worker_of, behaviours_of}
-use Rattle.sdl_order.specs.sdl_outcome.Lists.{held_in}
+use Rattle.sdl_outcome.specs.Lists.{held_in}
 use Rattle.sdl_order.specs.Driver.{block_hand}
 use Rattle.sdl_driver.proofs.Rooms.{come_over, fewer_by_one, room_as}
 use Rattle.sdl_driver.proofs.closing.take_blocks.Goals as goal

@@ -1,7 +1,7 @@
 use Rattle.std.proofs.Common.{◌≡◌, ℕ, ◌+◌, ◌++◌, map, length}
 use Rattle.sdl_block.specs.Workers.{worker_of, behaviours_of}
 use Rattle.sdl_driver.specs.Closings.{HasRoom, AreLogsCounted}
-use Rattle.sdl_order.specs.sdl_outcome.Lists.{held_in}
+use Rattle.sdl_outcome.specs.Lists.{held_in}
 use Rattle.sdl_order.specs.Driver.{block_hand}
 use Rattle.sdl_driver.proofs.closing.take_blocks.Given as goal
 

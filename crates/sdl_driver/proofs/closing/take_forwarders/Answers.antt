@@ -1,7 +1,7 @@
 use Rattle.std.proofs.Common.{◌≡◌, [], ◌∷◌, ◌++◌, map, length, refl, ap, ◌∙◌, ◌+◌}
-use Rattle.sdl_order.specs.sdl_outcome.Lists.{held_in}
+use Rattle.sdl_outcome.specs.Lists.{held_in}
 use Rattle.sdl_order.specs.Driver.{forwarder_hand}
-use Rattle.sdl_order.specs.sdl_outcome.Outcome.{WorkerHand}
+use Rattle.sdl_outcome.specs.Outcome.{WorkerHand}
 use Rattle.sdl_driver.proofs.Rooms.{come_over, fewer_by_one, map_push, room_as, forwarder_left}
 use Rattle.sdl_driver.proofs.closing.take_forwarders.Goals as goal
 

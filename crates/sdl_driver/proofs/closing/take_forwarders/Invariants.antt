@@ -1,6 +1,6 @@
 use Rattle.std.proofs.Common.{◌≡◌, ◌++◌, map, length}
 use Rattle.sdl_driver.specs.Closings.{HasRoom}
-use Rattle.sdl_order.specs.sdl_outcome.Lists.{held_in}
+use Rattle.sdl_outcome.specs.Lists.{held_in}
 use Rattle.sdl_order.specs.Driver.{forwarder_hand}
 use Rattle.sdl_driver.proofs.closing.take_forwarders.Given as goal
 

@@ -1,6 +1,6 @@
 use Rattle.std.proofs.Common.{ap, arith}
 use Rattle.sdl_routes.specs.declared.route.Hop.{Hop}
-use Rattle.sdl_order.specs.sdl_forward.Forwards.{Forwarding}
+use Rattle.sdl_forward.specs.Forwards.{Forwarding}
 use Rattle.sdl_driver.proofs.PassedOver.{before_last}
 use Rattle.sdl_driver.proofs.places.next_of.Goals as goal
 

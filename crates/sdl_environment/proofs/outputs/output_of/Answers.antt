@@ -3,8 +3,8 @@ use Rattle.sdl_routes.specs.declared.route.Goal.{Goal}
 use Rattle.sdl_routes.specs.declared.route.Source.TheVariants as source
 use Rattle.sdl_routes.specs.declared.route.Via.TheVariants as via
 use Rattle.sdl_routes.specs.Routes.{IsChoice}
-use Rattle.sdl_outcome.proofs.instances.Choosing.{none_fits}
-use Rattle.sdl_outcome.proofs.instances.Takes.{at_pick_fits}
+use Rattle.sdl_instances.proofs.Choosing.{none_fits}
+use Rattle.sdl_instances.proofs.Takes.{at_pick_fits}
 use Rattle.sdl_outcome.specs.EnvironmentWork.{wish_for}
 use Rattle.sdl_environment.proofs.outputs.output_of.Goals as goal
 

@@ -1,7 +1,7 @@
 use Rattle.std.proofs.Common.{rules, inr, map}
-use Rattle.sdl_run.specs.sdl_transition.Rules.{block_rules}
-use Rattle.sdl_run.specs.sdl_transition.Bound.{structure_of, routes_of, blocks_of}
-use Rattle.sdl_run.specs.sdl_driver.Closings.{outcome_in}
+use Rattle.sdl_transition.specs.Rules.{block_rules}
+use Rattle.sdl_transition.specs.Bound.{structure_of, routes_of, blocks_of}
+use Rattle.sdl_driver.specs.Closings.{outcome_in}
 use Rattle.sdl_file_commands.proofs.Told.{run_told, was_run, not_refused}
 use Rattle.sdl_file_commands.proofs.running.run_with.Goals as goal
 

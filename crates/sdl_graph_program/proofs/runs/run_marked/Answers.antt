@@ -1,6 +1,6 @@
 use Rattle.std.proofs.Common.{inl, inr, map}
-use Rattle.sdl_graph_binding.specs.sdl_transition.Bound.{blocks_of}
-use Rattle.sdl_graph_binding.specs.sdl_transition.Rules.{block_rules}
+use Rattle.sdl_transition.specs.Bound.{blocks_of}
+use Rattle.sdl_transition.specs.Rules.{block_rules}
 use Rattle.sdl_graph_program.proofs.runs.run_marked.Goals as goal
 
 pub returns-clause-run : goal.returns-clause-run

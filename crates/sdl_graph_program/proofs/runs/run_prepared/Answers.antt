@@ -1,7 +1,7 @@
 use Rattle.std.proofs.Common.{sym, subst, List}
-use Rattle.sdl_graph_binding.specs.sdl_parts.Structure.{Structure}
-use Rattle.sdl_graph_binding.specs.sdl_routes.declared.route.TableRow.{TableRow}
-use Rattle.sdl_graph_binding.specs.sdl_transition.Bound.{structure_of}
+use Rattle.sdl_parts.specs.Structure.{Structure}
+use Rattle.sdl_routes.specs.declared.route.TableRow.{TableRow}
+use Rattle.sdl_transition.specs.Bound.{structure_of}
 use Rattle.sdl_file_commands.specs.Running.{CanRun, HasBudget}
 use Rattle.sdl_graph_program.specs.Outcomes.{HasRunGraphOrNot}
 use Rattle.sdl_graph_program.proofs.runs.run_prepared.Goals as goal

@@ -1,5 +1,5 @@
-use Rattle.sdl_order.specs.sdl_outcome.Plan.{workers_of}
-use Rattle.sdl_order.specs.sdl_opening.Opens.{ends_of}
+use Rattle.sdl_outcome.specs.Plan.{workers_of}
+use Rattle.sdl_opening.specs.Opens.{ends_of}
 use Rattle.sdl_join.specs.Lanes.{account_at}
 use Rattle.sdl_join.proofs.Stands.{at_work, none_astray}
 use Rattle.sdl_join.proofs.Comes.{all_joined}

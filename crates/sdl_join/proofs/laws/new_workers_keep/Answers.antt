@@ -1,6 +1,6 @@
 use Rattle.std.proofs.Common.{ℕ, map}
 use Rattle.sdl_routes.specs.declared.route.Station.{Station}
-use Rattle.sdl_order.proofs.opening.Using.{unused}
+use Rattle.sdl_opening.proofs.Using.{unused}
 use Rattle.sdl_join.proofs.Begun.{all_begun}
 use Rattle.sdl_join.proofs.Unused.{rejoined_all}
 use Rattle.sdl_join.proofs.laws.new_workers_keep.Goals as goal

@@ -1,5 +1,5 @@
-use Rattle.sdl_order.specs.sdl_outcome.Plan.{MayTravel, ways_of}
-use Rattle.sdl_order.proofs.outcome.Ways.{ways_are}
+use Rattle.sdl_outcome.specs.Plan.{MayTravel, ways_of}
+use Rattle.sdl_outcome.proofs.Ways.{ways_are}
 use Rattle.sdl_join.proofs.Legal.{standing_all}
 use Rattle.sdl_join.proofs.laws.stays_legal.Goals as goal
 

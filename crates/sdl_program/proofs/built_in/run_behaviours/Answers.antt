@@ -1,9 +1,9 @@
 use Rattle.std.proofs.Common.{sym, subst, inl, inr, map, List}
 use Rattle.std.proofs.lemmas.List.Elements.{All-from_recursion}
-use Rattle.sdl_file_commands.specs.sdl_run.sdl_parts.Structure.{Structure}
-use Rattle.sdl_file_commands.specs.sdl_run.sdl_routes.declared.route.TableRow.{TableRow}
-use Rattle.sdl_file_commands.specs.sdl_run.sdl_transition.Bound.{structure_of, blocks_of}
-use Rattle.sdl_file_commands.specs.sdl_run.sdl_transition.Rules.{block_rules}
+use Rattle.sdl_parts.specs.Structure.{Structure}
+use Rattle.sdl_routes.specs.declared.route.TableRow.{TableRow}
+use Rattle.sdl_transition.specs.Bound.{structure_of, blocks_of}
+use Rattle.sdl_transition.specs.Rules.{block_rules}
 use Rattle.sdl_file_commands.specs.Running.{CanRun, HasBudget}
 use Rattle.sdl_file_commands.specs.Outcomes.{HasRunBy}
 use Rattle.sdl_program.proofs.built_in.run_behaviours.Goals as goal

@@ -1,6 +1,6 @@
 use Rattle.std.proofs.Common.{arith, length}
-use Rattle.sdl_settling.proofs.serial_run.Fresh.{env_fresh}
-use Rattle.sdl_settling.proofs.serial_run.driving.Rooms.{room_as}
+use Rattle.sdl_serial_run.proofs.Fresh.{env_fresh}
+use Rattle.sdl_driver.proofs.Rooms.{room_as}
 use Rattle.sdl_run.proofs.room.make_thread_room.Goals as goal
 
 pub returns : goal.returns

@@ -1,9 +1,9 @@
 use Rattle.std.proofs.Common.{List, ap, subst, sym, ◌∙◌, map, length, arith}
-use Rattle.sdl_settling.specs.sdl_parts.declared.parts.Channel.{Channel}
-use Rattle.sdl_settling.specs.sdl_parts.Structure.{Structure}
-use Rattle.sdl_settling.specs.sdl_opening.Opens.{AreOpen}
-use Rattle.sdl_settling.specs.sdl_serial_run.sdl_outcome.Plan.{lines_from}
-use Rattle.sdl_settling.specs.sdl_serial_run.Starting.{idle_at}
+use Rattle.sdl_parts.specs.declared.parts.Channel.{Channel}
+use Rattle.sdl_parts.specs.Structure.{Structure}
+use Rattle.sdl_opening.specs.Opens.{AreOpen}
+use Rattle.sdl_outcome.specs.Plan.{lines_from}
+use Rattle.sdl_serial_run.specs.Starting.{idle_at}
 use Rattle.sdl_settling.proofs.Rooms.{room_of}
 use Rattle.sdl_run.proofs.room.open_all.Goals as goal
 

@@ -1,11 +1,11 @@
 use Rattle.std.proofs.Common.{◌+◌, map, length, sym, ◌∙◌, arith, rules}
-use Rattle.sdl_settling.specs.sdl_transition.Rules.{block_rules}
-use Rattle.sdl_settling.specs.sdl_instances.Core.{IsBoundIn, signals_of, sets_of}
-use Rattle.sdl_settling.specs.sdl_serial_run.sdl_block.Workers.{behaviours_of}
-use Rattle.sdl_settling.specs.sdl_serial_run.sdl_driver.Closings.{outcome_in}
-use Rattle.sdl_settling.proofs.serial_run.driving.Closes.{system_kept}
-use Rattle.sdl_settling.proofs.serial_run.Begins.{room_for}
-use Rattle.sdl_settling.proofs.serial_run.Fresh.{all_same, parts_count}
+use Rattle.sdl_transition.specs.Rules.{block_rules}
+use Rattle.sdl_instances.specs.Core.{IsBoundIn, signals_of, sets_of}
+use Rattle.sdl_block.specs.Workers.{behaviours_of}
+use Rattle.sdl_driver.specs.Closings.{outcome_in}
+use Rattle.sdl_driver.proofs.Closes.{system_kept}
+use Rattle.sdl_serial_run.proofs.Begins.{room_for}
+use Rattle.sdl_serial_run.proofs.Fresh.{all_same, parts_count}
 use Rattle.sdl_run.proofs.Whole.{can_fire, system_parked, room_parked, ended_parked, bound_parked, reading_parked, writing_parked}
 use Rattle.sdl_run.proofs.threads.run_in.Goals as goal
 

@@ -1,5 +1,5 @@
-use Rattle.sdl_settling.specs.sdl_serial_run.sdl_driver.Closings.{outcome_in}
-use Rattle.sdl_settling.proofs.serial_run.Fresh.{ended_bound, reading_bound, writing_bound}
+use Rattle.sdl_driver.specs.Closings.{outcome_in}
+use Rattle.sdl_serial_run.proofs.Fresh.{ended_bound, reading_bound, writing_bound}
 use Rattle.sdl_run.proofs.Whole.{system_taken}
 use Rattle.sdl_run.proofs.threads.run_threads_keeping.Goals as goal
 

@@ -1,5 +1,5 @@
 use Rattle.std.proofs.Common.{◌+◌, ◌++◌, ◌∷◌, [], length, ap, ◌∙◌, arith}
-use Rattle.sdl_driver.specs.sdl_block.Workers.{behaviours_of}
+use Rattle.sdl_block.specs.Workers.{behaviours_of}
 use Rattle.sdl_driver.proofs.Rooms.{come_over, fewer_by_one}
 use Rattle.sdl_serial_run.proofs.Begins.{room_for, none_left_of}
 use Rattle.sdl_serial_run.proofs.blocks.regain.Goals as goal

@@ -1,5 +1,5 @@
 use Rattle.std.proofs.Common.{◌≡◌, ℕ, ◌+◌, ◌≤◌, ◌++◌, map, length, vec_len, vec_capacity}
-use Rattle.sdl_driver.specs.sdl_block.Workers.{behaviours_of}
+use Rattle.sdl_block.specs.Workers.{behaviours_of}
 use Rattle.sdl_serial_run.proofs.blocks.regain.Given as goal
 
 abbrev pub invariant-loop-rest : goal.invariant-loop-rest

@@ -1,8 +1,8 @@
 use Rattle.std.proofs.Common.{◌≡◌, ◌+◌, ◌≤◌, ◌++◌, All, map, length, vec_len, vec_capacity}
 use Rattle.std.specs.List.{AllByRecursion}
-use Rattle.sdl_driver.specs.sdl_transition.Rules.{block_rules}
-use Rattle.sdl_driver.specs.sdl_instances.Core.{IsBoundIn, signals_of, sets_of}
-use Rattle.sdl_driver.specs.sdl_block.Workers.{behaviours_of}
+use Rattle.sdl_transition.specs.Rules.{block_rules}
+use Rattle.sdl_instances.specs.Core.{IsBoundIn, signals_of, sets_of}
+use Rattle.sdl_block.specs.Workers.{behaviours_of}
 use Rattle.sdl_serial_run.specs.Serial.{IsNew}
 use Rattle.sdl_serial_run.proofs.blocks.start_blocks.Given as goal
 

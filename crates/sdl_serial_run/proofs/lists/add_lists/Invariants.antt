@@ -1,5 +1,5 @@
 use Rattle.std.proofs.Common.{◌≡◌, ◌+◌, ◌≤◌, ◌++◌, map, length, vec_capacity}
-use Rattle.sdl_driver.specs.sdl_outcome.Lists.{items_in}
+use Rattle.sdl_outcome.specs.Lists.{items_in}
 use Rattle.sdl_serial_run.proofs.lists.add_lists.Given as goal
 
 abbrev pub invariant-loop-rest : goal.invariant-loop-rest

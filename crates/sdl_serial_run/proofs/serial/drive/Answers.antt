@@ -1,6 +1,6 @@
 use Rattle.std.proofs.Common.{sym, subst, MatchOption, ◌<◌, length}
-use Rattle.sdl_driver.specs.sdl_outcome.Plan.{Plan, workers_of}
-use Rattle.sdl_driver.specs.sdl_order.Driver.{IsIdle}
+use Rattle.sdl_outcome.specs.Plan.{Plan, workers_of}
+use Rattle.sdl_order.specs.Driver.{IsIdle}
 use Rattle.sdl_driver.proofs.Drives.{same_plan}
 use Rattle.sdl_driver.specs.Closings.{outcome_in}
 use Rattle.sdl_driver.specs.Drivers.{site_of}

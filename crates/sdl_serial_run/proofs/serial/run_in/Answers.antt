@@ -1,8 +1,8 @@
 use Rattle.std.proofs.Common.{◌≡◌, ◌+◌, map, length, ap, sym, ◌∙◌, arith}
 use Rattle.std.proofs.lemmas.List.{length-map}
-use Rattle.sdl_driver.specs.sdl_transition.Rules.{block_rules}
-use Rattle.sdl_driver.specs.sdl_instances.Core.{IsBoundIn, signals_of, sets_of}
-use Rattle.sdl_driver.specs.sdl_block.Workers.{behaviours_of}
+use Rattle.sdl_transition.specs.Rules.{block_rules}
+use Rattle.sdl_instances.specs.Core.{IsBoundIn, signals_of, sets_of}
+use Rattle.sdl_block.specs.Workers.{behaviours_of}
 use Rattle.sdl_driver.specs.Closings.{outcome_in}
 use Rattle.sdl_serial_run.proofs.Begins.{room_for}
 use Rattle.sdl_driver.proofs.Closes.{system_kept}

@@ -1,4 +1,4 @@
-use Rattle.sdl_driver.specs.sdl_outcome.Lists.{items_in}
+use Rattle.sdl_outcome.specs.Lists.{items_in}
 use Rattle.sdl_driver.specs.Closings.{plan_of_bound}
 use Rattle.sdl_serial_run.proofs.Listed.{run_listed, writing_listed}
 use Rattle.sdl_serial_run.proofs.serial.run_serial.Goals as goal

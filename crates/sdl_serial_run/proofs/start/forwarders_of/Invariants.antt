@@ -1,5 +1,5 @@
 use Rattle.std.proofs.Common.{◌≡◌, ◌++◌, map, drop}
-use Rattle.sdl_driver.specs.sdl_outcome.Plan.{lines_from}
+use Rattle.sdl_outcome.specs.Plan.{lines_from}
 use Rattle.sdl_serial_run.specs.Starting.{idle_at}
 use Rattle.sdl_serial_run.proofs.start.forwarders_of.Given as goal
 

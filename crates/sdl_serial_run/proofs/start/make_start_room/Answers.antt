@@ -1,8 +1,8 @@
 use Rattle.std.proofs.Common.{refl, arith, ap, ◌∙◌, ◌+◌, length, List, map}
-use Rattle.sdl_driver.specs.sdl_parts.declared.parts.Channel.{Channel}
-use Rattle.sdl_driver.specs.sdl_parts.Structure.{Structure}
+use Rattle.sdl_parts.specs.declared.parts.Channel.{Channel}
+use Rattle.sdl_parts.specs.Structure.{Structure}
 use Rattle.sdl_driver.proofs.Rooms.{room_as}
-use Rattle.sdl_driver.specs.sdl_outcome.Plan.{lines_from}
+use Rattle.sdl_outcome.specs.Plan.{lines_from}
 use Rattle.sdl_serial_run.specs.Starting.{idle_at}
 use Rattle.sdl_serial_run.proofs.start.make_start_room.Goals as goal
 

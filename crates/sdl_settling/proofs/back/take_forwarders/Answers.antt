@@ -1,5 +1,5 @@
 use Rattle.std.proofs.Common.{◌+◌, length, arith}
-use Rattle.sdl_serial_run.proofs.driving.Rooms.{come_over, fewer_by_one}
+use Rattle.sdl_driver.proofs.Rooms.{come_over, fewer_by_one}
 use Rattle.sdl_serial_run.proofs.Begins.{room_for}
 use Rattle.sdl_settling.proofs.back.take_forwarders.Goals as goal
 

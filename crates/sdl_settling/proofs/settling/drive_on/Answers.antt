@@ -1,9 +1,9 @@
 use Rattle.std.proofs.Common.{sym, subst, MatchOption, ◌<◌, length}
-use Rattle.sdl_serial_run.specs.sdl_outcome.Plan.{Plan, workers_of}
-use Rattle.sdl_serial_run.specs.sdl_order.Driver.{IsIdle}
-use Rattle.sdl_serial_run.proofs.driving.Drives.{same_plan}
-use Rattle.sdl_serial_run.specs.sdl_driver.Closings.{outcome_in}
-use Rattle.sdl_serial_run.specs.sdl_driver.Drivers.{site_of}
+use Rattle.sdl_outcome.specs.Plan.{Plan, workers_of}
+use Rattle.sdl_order.specs.Driver.{IsIdle}
+use Rattle.sdl_driver.proofs.Drives.{same_plan}
+use Rattle.sdl_driver.specs.Closings.{outcome_in}
+use Rattle.sdl_driver.specs.Drivers.{site_of}
 use Rattle.sdl_serial_run.proofs.Fresh.{system_same, room_same, ended_same}
 use Rattle.sdl_settling.proofs.Settles.{reading_over, writing_over, bound_over}
 use Rattle.sdl_settling.proofs.settling.drive_on.Goals as goal

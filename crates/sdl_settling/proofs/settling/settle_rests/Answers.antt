@@ -1,9 +1,9 @@
 use Rattle.std.proofs.Common.{length, ap, arith}
 use Rattle.std.proofs.lemmas.List.{length-map}
-use Rattle.sdl_serial_run.specs.sdl_block.Workers.{worker_of}
-use Rattle.sdl_serial_run.proofs.driving.Drives.{workers_count, workers_few}
-use Rattle.sdl_serial_run.specs.sdl_driver.Stopped.{plan_of_parked, site_of_parked}
-use Rattle.sdl_serial_run.specs.sdl_driver.sdl_forward.Boards.{lists_of}
+use Rattle.sdl_block.specs.Workers.{worker_of}
+use Rattle.sdl_driver.proofs.Drives.{workers_count, workers_few}
+use Rattle.sdl_driver.specs.Stopped.{plan_of_parked, site_of_parked}
+use Rattle.sdl_forward.specs.Boards.{lists_of}
 use Rattle.sdl_settling.proofs.Settles.{left_once, on_board}
 use Rattle.sdl_settling.proofs.settling.settle_rests.Goals as goal
 

@@ -1,8 +1,8 @@
 use Rattle.std.proofs.Common.{ap, subst}
 use Rattle.std.proofs.lemmas.Bool.{false≢true}
 use Rattle.sdl_transition.specs.Rules.{block_rules}
-use Rattle.sdl_hand.specs.sdl_instances.Machine.{System}
-use Rattle.sdl_hand.proofs.instances.Systems.{same_core, sound_there}
+use Rattle.sdl_instances.specs.Machine.{System}
+use Rattle.sdl_instances.proofs.Systems.{same_core, sound_there}
 use Rattle.sdl_block.specs.Phases.{ArrivesOrStays}
 use Rattle.sdl_block.specs.Workers.{worker_of, system_around}
 use Rattle.sdl_block.proofs.AtEnds.{lets_from}

@@ -1,7 +1,7 @@
 use Rattle.std.proofs.Common.{Ok, ap, inl, refl, subst, sym}
 use Rattle.sdl_transition.specs.Rules.{block_rules}
-use Rattle.sdl_hand.specs.sdl_instances.Machine.{System}
-use Rattle.sdl_hand.specs.sdl_instances.Core.{IsSound}
+use Rattle.sdl_instances.specs.Machine.{System}
+use Rattle.sdl_instances.specs.Core.{IsSound}
 use Rattle.sdl_block.specs.Phases.{TriesTurn}
 use Rattle.sdl_block.specs.Picks.{TriesTurnAt}
 use Rattle.sdl_block.specs.Workers.{worker_of, system_around}

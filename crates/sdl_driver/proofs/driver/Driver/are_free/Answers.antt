@@ -1,7 +1,7 @@
 use Rattle.std.proofs.Common.{◌≡◌, ◌≤◌, false, Option, None, Some, List, length, slice_get, Bor, is_some, refl, sym, ◌∙◌, subst}
 use Rattle.std.specs.Option.{option_copied}
 use Rattle.std.proofs.lemmas.Bool.{false≢true}
-use Rattle.sdl_order.specs.sdl_forward.Forwards.{Forwarding}
+use Rattle.sdl_forward.specs.Forwards.{Forwarding}
 use Rattle.sdl_driver.proofs.Scans.{read_at, one_further, all_seen}
 use Rattle.sdl_driver.proofs.driver.Driver.are_free.Goals as goal
 

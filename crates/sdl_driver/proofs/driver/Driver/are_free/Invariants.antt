@@ -1,5 +1,5 @@
 use Rattle.std.proofs.Common.{◌≡◌, ℕ, ◌<◌, None, Some, slice_get}
-use Rattle.sdl_order.specs.sdl_forward.Forwards.{Forwarding}
+use Rattle.sdl_forward.specs.Forwards.{Forwarding}
 use Rattle.sdl_driver.proofs.driver.Driver.are_free.Given as goal
 
 abbrev pub invariant-loop-forwarder : goal.invariant-loop-forwarder

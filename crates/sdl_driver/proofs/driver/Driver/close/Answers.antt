@@ -2,7 +2,7 @@ use Rattle.std.proofs.Common.{◌<◌, List, length, map, MatchOption, ap, sym, 
 use Rattle.sdl_signal.specs.declared.values.Item.{Item}
 use Rattle.sdl_routes.specs.declared.route.Station.{Station}
 use Rattle.sdl_block.specs.Workers.{worker_of}
-use Rattle.sdl_order.specs.sdl_outcome.Plan.{workers_of}
+use Rattle.sdl_outcome.specs.Plan.{workers_of}
 use Rattle.sdl_order.specs.Driver.{IsIdle, outcome_of}
 use Rattle.sdl_driver.specs.Drivers.{plan_of, IsBetweenSteps}
 use Rattle.sdl_driver.proofs.driver.Driver.close.Goals as goal

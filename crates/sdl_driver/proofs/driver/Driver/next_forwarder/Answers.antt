@@ -1,6 +1,6 @@
 use Rattle.std.proofs.Common.{◌∙◌, List, get_or, slice_get, ap, arith}
 use Rattle.sdl_routes.specs.declared.route.Hop.{Hop}
-use Rattle.sdl_order.specs.sdl_forward.Forwards.{Forwarding}
+use Rattle.sdl_forward.specs.Forwards.{Forwarding}
 use Rattle.sdl_driver.proofs.PassedOver.{no_lower}
 use Rattle.sdl_driver.proofs.driver.Driver.next_forwarder.Goals as goal
 

@@ -1,9 +1,9 @@
 use Rattle.std.proofs.Common.{◌≡◌, ℕ, ◌+◌, None, length, ap, sym, ◌∙◌, subst, arith}
 use Rattle.sdl_driver.proofs.Drives.{same_plan, reads_on, writes_on}
 use Rattle.sdl_driver.proofs.Rounds.{same_still, on_did, on_idle, at_end}
-use Rattle.sdl_order.specs.sdl_hand.declared.hand.Stepped.{Stepped}
-use Rattle.sdl_order.specs.sdl_hand.declared.hand.Stepped.TheVariants.{Did, Idle, Memory}
-use Rattle.sdl_order.specs.sdl_outcome.Plan.{Plan, workers_of}
+use Rattle.sdl_hand.specs.declared.hand.Stepped.{Stepped}
+use Rattle.sdl_hand.specs.declared.hand.Stepped.TheVariants.{Did, Idle, Memory}
+use Rattle.sdl_outcome.specs.Plan.{Plan, workers_of}
 use Rattle.sdl_driver.specs.Drivers.{site_of, plan_of}
 use Rattle.sdl_driver.specs.Runs.{workers_below, WorkerSteps, StepsThrough}
 use Rattle.sdl_driver.proofs.Running.{round_on, round_stops, worker_by}

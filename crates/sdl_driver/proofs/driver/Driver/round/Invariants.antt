@@ -1,6 +1,6 @@
 use Rattle.std.proofs.Common.{◌≡◌, ◌-◌, ◌≤◌, None, true, length}
 use Rattle.sdl_driver.specs.Drivers.{site_of, plan_of, IsDriving, IsSameSystem, ReadsOver, WritesOver, AllFree, HasGone}
-use Rattle.sdl_order.specs.sdl_outcome.Plan.{workers_of}
+use Rattle.sdl_outcome.specs.Plan.{workers_of}
 use Rattle.sdl_driver.specs.Runs.{workers_below, StepsThrough}
 use Rattle.sdl_driver.proofs.driver.Driver.round.Given as goal
 

@@ -1,10 +1,10 @@
 use Rattle.std.proofs.Common.{ℕ, ◌≡◌, ◌≢◌, ◌≤◌, ◌+◌, ◌-◌, inl, inr, length, ap, sym, arith, subst}
 use Rattle.std.proofs.lemmas.List.{length-map}
-use Rattle.sdl_order.specs.sdl_forward.declared.forwarder.Forwarded.{Forwarded}
+use Rattle.sdl_forward.specs.declared.forwarder.Forwarded.{Forwarded}
 use Rattle.sdl_block.specs.Workers.{worker_of}
 use Rattle.sdl_driver.specs.Drivers.{site_of, plan_of, StepAnswers, stepped_by}
 use Rattle.sdl_driver.proofs.Drives.{workers_count, block_answers, block_drives, environment_answers, environment_drives, forwarder_answers, forwarder_drives, reads_still, writes_still}
-use Rattle.sdl_order.specs.sdl_outcome.Plan.{blocks_in}
+use Rattle.sdl_outcome.specs.Plan.{blocks_in}
 use Rattle.sdl_driver.proofs.driver.Driver.step.Goals as goal
 
 place_is : (n b l : ℕ) → l ≡ b → b ≤ n → n ≢ b → n ≡ l + 1 + (n - b - 1)

@@ -1,10 +1,10 @@
 use Rattle.std.proofs.Common.{All, length, sym, subst}
 use Rattle.sdl_parts.specs.Structure.{Structure}
 use Rattle.sdl_routes.specs.declared.route.Station.TheVariants.{Outlet}
-use Rattle.sdl_order.specs.sdl_instances.Legal.{IsLegal}
-use Rattle.sdl_order.specs.sdl_instances.Core.{signals_of, sets_of}
-use Rattle.sdl_order.specs.sdl_forward.Boards.{waiting}
-use Rattle.sdl_order.specs.sdl_outcome.EnvironmentWork.{GoesOut}
+use Rattle.sdl_instances.specs.Legal.{IsLegal}
+use Rattle.sdl_instances.specs.Core.{signals_of, sets_of}
+use Rattle.sdl_forward.specs.Boards.{waiting}
+use Rattle.sdl_outcome.specs.EnvironmentWork.{GoesOut}
 use Rattle.sdl_driver.specs.Drivers.{site_of, plan_of}
 use Rattle.sdl_order.proofs.StepEnvironment.{outlet_goes}
 use Rattle.sdl_driver.proofs.Drives.{reads_by, writes_by}

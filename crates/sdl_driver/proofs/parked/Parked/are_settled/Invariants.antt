@@ -1,5 +1,5 @@
 use Rattle.std.proofs.Common.{◌≡◌, ℕ, ◌<◌, slice_get, Some}
-use Rattle.sdl_order.specs.sdl_hand.Work.{Working}
+use Rattle.sdl_hand.specs.Work.{Working}
 use Rattle.sdl_driver.specs.Stopped.{site_of_parked}
 use Rattle.sdl_driver.specs.Drivers.{AreDone}
 use Rattle.sdl_driver.proofs.parked.Parked.are_settled.Given as goal

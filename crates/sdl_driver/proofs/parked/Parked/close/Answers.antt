@@ -1,11 +1,11 @@
 use Rattle.std.proofs.Common.{ℕ, Bool, true, false, List, MatchBool, ◌≡◌, length, ap, sym, ◌∙◌, subst}
 use Rattle.sdl_routes.specs.declared.route.Station.{Station}
 use Rattle.sdl_queue.specs.declared.rest.Rest.{Rest}
-use Rattle.sdl_order.specs.sdl_outcome.declared.end.RunEnd.{RunEnd}
-use Rattle.sdl_order.specs.sdl_outcome.Outcome.{Outcome}
+use Rattle.sdl_outcome.specs.declared.end.RunEnd.{RunEnd}
+use Rattle.sdl_outcome.specs.Outcome.{Outcome}
 use Rattle.sdl_ledger.specs.Counts.{CountsFit, IsLedgerOf, waiting_in}
 use Rattle.sdl_driver.specs.Ended.{HasEnded}
-use Rattle.sdl_order.specs.sdl_outcome.Plan.{blocks_in}
+use Rattle.sdl_outcome.specs.Plan.{blocks_in}
 use Rattle.sdl_order.specs.Driver.{finals_of}
 use Rattle.sdl_driver.specs.Stopped.{site_of_parked, plan_of_parked}
 use Rattle.sdl_driver.specs.Drivers.{AllDone, SomeUndone, AllLeft, SomeLeft}

@@ -1,6 +1,6 @@
 use Rattle.std.proofs.Common.{◌≡◌, refl, sym, ◌∙◌, arith}
-use Rattle.sdl_order.specs.sdl_instances.Run.{turns}
-use Rattle.sdl_order.specs.sdl_hand.Work.{Working}
+use Rattle.sdl_instances.specs.Run.{turns}
+use Rattle.sdl_hand.specs.Work.{Working}
 use Rattle.sdl_block.specs.Workers.{worker_of}
 use Rattle.sdl_driver.specs.Stopped.{site_of_parked}
 use Rattle.sdl_driver.proofs.Scans.{one_further, all_seen, mapped_in, past_in}

@@ -1,6 +1,6 @@
 use Rattle.std.proofs.Common.{◌≡◌, ℕ, ◌<◌, slice_get, Some}
-use Rattle.sdl_order.specs.sdl_instances.Run.{turns}
-use Rattle.sdl_order.specs.sdl_hand.Work.{Working}
+use Rattle.sdl_instances.specs.Run.{turns}
+use Rattle.sdl_hand.specs.Work.{Working}
 use Rattle.sdl_driver.specs.Stopped.{site_of_parked}
 use Rattle.sdl_driver.proofs.parked.Parked.first_spent.Given as goal
 

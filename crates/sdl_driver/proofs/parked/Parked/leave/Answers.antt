@@ -3,9 +3,9 @@ use Rattle.std.proofs.lemmas.List.{nil_from_length}
 use Rattle.sdl_log.specs.declared.counts.Counts.{Counts}
 use Rattle.sdl_driver.specs.Closings.{AreLogsCounted}
 use Rattle.sdl_block.specs.Workers.{worker_of, behaviours_of}
-use Rattle.sdl_order.specs.sdl_outcome.Outcome.{WorkerHand}
+use Rattle.sdl_outcome.specs.Outcome.{WorkerHand}
 use Rattle.sdl_order.specs.Driver.{block_hand, env_hand, forwarder_hand}
-use Rattle.sdl_order.specs.sdl_outcome.Lists.{held_in}
+use Rattle.sdl_outcome.specs.Lists.{held_in}
 use Rattle.sdl_driver.proofs.Rooms.{hand, hand_is, map_push}
 use Rattle.sdl_driver.proofs.Closes.{same_outcome, filled, joined, system_kept, less_room}
 use Rattle.sdl_driver.proofs.parked.Parked.leave.Goals as goal

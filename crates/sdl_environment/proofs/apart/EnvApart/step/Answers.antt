@@ -1,6 +1,6 @@
 use Rattle.std.proofs.Common.{◌≡◌, None, Option, sym, ◌∙◌, subst, refl, rules}
 use Rattle.sdl_signal.specs.declared.values.Item.{Item}
-use Rattle.sdl_outcome.specs.sdl_hand.Puts.{answer_of}
+use Rattle.sdl_hand.specs.Puts.{answer_of}
 use Rattle.sdl_environment.specs.EnvApart.{EnvStepsApart}
 use Rattle.sdl_environment.proofs.EnvNext.{unrefused}
 use Rattle.sdl_environment.proofs.EnvKeeps.{keeps_step, works_none}

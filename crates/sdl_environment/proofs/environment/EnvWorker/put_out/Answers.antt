@@ -1,5 +1,5 @@
 use Rattle.std.proofs.Common.{ap, sym, subst}
-use Rattle.sdl_outcome.specs.sdl_hand.Puts.{AreRouted}
+use Rattle.sdl_hand.specs.Puts.{AreRouted}
 use Rattle.sdl_outcome.specs.EnvironmentWork.{EnvWorking}
 use Rattle.sdl_environment.proofs.environment.EnvWorker.put_out.Goals as goal
 

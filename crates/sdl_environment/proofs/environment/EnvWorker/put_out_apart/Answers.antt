@@ -1,6 +1,6 @@
 use Rattle.std.proofs.Common.{ap, sym, subst}
-use Rattle.sdl_outcome.specs.sdl_hand.Puts.{AreRouted}
-use Rattle.sdl_outcome.specs.sdl_hand.PutsApart.{HaveWaysOut}
+use Rattle.sdl_hand.specs.Puts.{AreRouted}
+use Rattle.sdl_hand.specs.PutsApart.{HaveWaysOut}
 use Rattle.sdl_outcome.specs.EnvironmentWork.{EnvWorking}
 use Rattle.sdl_environment.proofs.environment.EnvWorker.put_out_apart.Goals as goal
 

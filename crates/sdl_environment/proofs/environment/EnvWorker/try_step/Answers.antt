@@ -2,7 +2,7 @@ use Rattle.std.proofs.Common.{Ok, Err, All, ap, sym, subst, refl}
 use Rattle.sdl_signal.specs.Names.{Lexicon}
 use Rattle.sdl_parts.specs.Structure.{lexicon_of}
 use Rattle.sdl_routes.specs.declared.route.Station.TheVariants.{Outlet}
-use Rattle.sdl_outcome.specs.sdl_forward.Boards.{waiting}
+use Rattle.sdl_forward.specs.Boards.{waiting}
 use Rattle.sdl_outcome.specs.EnvironmentWork.{EnvWorking}
 use Rattle.sdl_environment.specs.EnvPhases.{Reads, IsWritable}
 use Rattle.sdl_environment.proofs.EnvLegal.{all_writable}

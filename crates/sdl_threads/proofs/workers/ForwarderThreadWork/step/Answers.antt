@@ -1,4 +1,4 @@
-use Rattle.sdl_block.proofs.forward.Handing.{stays}
+use Rattle.sdl_forward.proofs.Handing.{stays}
 use Rattle.sdl_threads.proofs.workers.ForwarderThreadWork.step.Goals as goal
 
 pub returns-in-Moved-clause-keeps : goal.returns-in-Moved-clause-keeps
