@@ -19,6 +19,7 @@ use sdl_hand::{Hand, Refused, Stepped, answer_of};
 use sdl_instances::{BlockCore, Event, Keeps, Turn};
 use sdl_log::Counts;
 use sdl_routes::{Routes, Station};
+use sdl_signal::BlockId;
 use sdl_transition::Agents;
 
 /// A block at work: its core, with what it has in hand.
@@ -173,6 +174,13 @@ impl<S: Agents, K: Keeps> BlockWorker<S, K> {
         ensures { IsTrue result ↔ ((p : Pid) → IsReady p (worker_of self.now).core.state → ⊥) }
     {
         self.core.is_settled()
+    }
+
+    /// The number of the block. No memory is taken.
+    pub fn block(&self) -> BlockId
+        ensures { result ≡ (worker_of self.now).core.block }
+    {
+        self.core.block()
     }
 
     /// The number of turns so far. No memory is taken.

@@ -183,16 +183,6 @@ impl Ends {
     pub fn puts(&self) -> u64 {
         self.puts
     }
-
-    /// The mark of the station that the worker takes from.
-    pub fn tap_mark(&self) -> Option<u32>
-        ensures { MatchOption self.now.tap (result ≡ None) (λ t. result ≡ Some (mark t.0)) }
-    {
-        match &self.tap {
-            Some((station, _)) => Some(mark_of(*station)),
-            None => None,
-        }
-    }
 }
 
 /// The marks of the stations of these feeds whose places have a bit.

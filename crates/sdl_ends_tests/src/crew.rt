@@ -17,6 +17,7 @@ use sdl_opening::{Worker, ends_open, workers_of};
 use sdl_parts::Structure;
 use sdl_queue::Rest;
 use sdl_routes::{Routes, Station};
+use sdl_signal::BlockId;
 use sdl_test_systems::{Stop, routes_of};
 use sdl_threads::{ForwarderThread, Kind, OpenGate, Returned, Team, run_all};
 use std::alloc::Global;
@@ -31,6 +32,15 @@ pub trait Plan {
 
 /// A worker in a thread: one with a task, or a forwarder.
 type Crewman = Kind<Agent, ForwarderThread>;
+
+/// Where the worker takes.
+fn station_of(worker: Worker) -> Station {
+    match worker {
+        Worker::Block(block) => Station::Inlet(block),
+        Worker::Environment => Station::Outlet,
+        Worker::Forwarder(path) => Station::Line(path),
+    }
+}
 
 /// The worker with its ends.
 fn crewman<P: Plan>(
@@ -48,7 +58,12 @@ fn crewman<P: Plan>(
         return Err(Stop::Wrong("ends of nobody"));
     };
     if let Some(task) = plan.task_of(alloc, worker)? {
-        return Ok(Kind::Block(Agent { ends, task }));
+        let station = station_of(worker);
+        return Ok(Kind::Block(Agent {
+            station,
+            ends,
+            task,
+        }));
     }
     match worker {
         Worker::Forwarder(path) => Ok(Kind::Forwarder(ForwarderThread {
@@ -56,6 +71,7 @@ fn crewman<P: Plan>(
             ends,
         })),
         _ => Ok(Kind::Block(Agent {
+            station: station_of(worker),
             ends,
             task: Task::rest(alloc),
         })),
@@ -124,6 +140,8 @@ fn run_crew<R: Threads + Wait + Sync>(
         return Err(Stop::Wrong("too many workers"));
     }
     let nobody = Agent {
+        // (Relay has no such block)
+        station: Station::Inlet(BlockId(15)),
         ends: Ends::new(alloc, None, Vec::new(alloc))?,
         task: Task::rest(alloc),
     };

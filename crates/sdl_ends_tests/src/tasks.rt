@@ -2,7 +2,7 @@
 ghost use Rattle.sdl_ends.specs.Ends.{IsSameEnds};
 
 use super::items::{Mark, item_of, line, mark_of, onward};
-use sdl_ends::{Ends, Marks};
+use sdl_ends::{Ends, Marks, mark_of as mark_of_station};
 use sdl_parts::Structure;
 use sdl_routes::{Routes, Station};
 use sdl_signal::{Item, RouteId};
@@ -34,6 +34,8 @@ pub struct Task {
 /// A worker with its ends.
 #[derive(Drop)]
 pub struct Agent {
+    /// Where it takes.
+    pub station: Station,
     pub ends: Ends,
     pub task: Task,
 }
@@ -126,6 +128,8 @@ impl Work for Agent {
 
     ghost same = { λ u v. IsSameEnds u.ends v.ends };
 
+    ghost station = { λ w. w.station };
+
     ghost itself = { λ w. record { feeds = refl; tap = refl } };
 
     ghost and_then = { λ u v w p q. record { feeds = q.feeds ∙ p.feeds; tap = q.tap ∙ p.tap } };
@@ -154,8 +158,8 @@ impl Work for Agent {
         false
     }
 
-    fn mark(&self) -> Option<u32> {
-        self.ends.tap_mark()
+    fn mark(&self) -> u32 {
+        mark_of_station(self.station)
     }
 
     fn touched(&mut self) -> Marks {

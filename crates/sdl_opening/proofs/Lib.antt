@@ -8,3 +8,4 @@ pub mod Bringing
 pub mod Takers
 pub mod Opened
 pub mod Using
+pub mod Marked

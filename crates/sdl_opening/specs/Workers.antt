@@ -13,6 +13,7 @@ use Rattle.sdl_routes.specs.declared.route.EndPoint.{EndPoint}
 use Rattle.sdl_routes.specs.declared.route.EndPoint.TheVariants as ends
 use Rattle.sdl_routes.specs.declared.route.Station.{Station}
 use Rattle.sdl_routes.specs.declared.route.Station.TheVariants.{Line, Inlet, Outlet}
+use Rattle.sdl_ends.specs.Marks.{mark}
 use Rattle.sdl_ends.specs.Stations.{same_hop}
 pub use Rattle.sdl_ends.specs.Stations.{station_behind}
 use Rattle.sdl_opening.specs.declared.worker.Worker.{Worker}
@@ -35,6 +36,10 @@ abbrev pub place : Worker → Station
 place (Block b) = Inlet b
 place Environment = Outlet
 place (Forwarder h) = Line h
+
+-- the mark of a worker: that of the station that it takes from
+abbrev pub mark_at : Worker → ℕ
+mark_at w = mark (place w)
 
 -- a worker that sends and receives: a block or the environment
 abbrev pub IsAgent : Worker → Type 0

@@ -5,4 +5,5 @@ pub mod Site
 pub mod Begin
 pub mod Environments
 pub mod Together
+pub mod Marks
 pub mod Whole

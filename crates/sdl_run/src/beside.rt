@@ -1,7 +1,10 @@
 //! All workers make their steps at once, the environment on this thread.
-ghost use Rattle.std.specs.Prelude.{◌≡◌, ◌<◌, ◌≤◌, ◌^◌, [], vec_len, vec_capacity};
+ghost use Rattle.std.specs.Prelude.{◌≡◌, ◌<◌, ◌≤◌, ◌^◌, [], ◌∷◌, map, vec_len, vec_capacity};
 ghost use Rattle.std.specs.List.{All, AllZip};
+ghost use Rattle.sdl_routes.specs.Routes.{EachOnce};
+ghost use Rattle.sdl_routes.specs.declared.route.Station.TheVariants.{Outlet};
 ghost use Rattle.sdl_ends.specs.Ends.{IsSameEnds};
+ghost use Rattle.sdl_ends.specs.Marks.{mark};
 ghost use Rattle.sdl_threads.specs.Back.{ComesFrom};
 ghost use Rattle.sdl_run.specs.Environment.{KeepsEnvironment};
 
@@ -54,6 +57,7 @@ fn run_until_told<
     requires sound_environment { KeepsEnvironment structure.now routes.now team.environment.environment.now.worker team.environment.environment.now.astray team.environment.ends (R.remaining team.environment.started_input.value) (R.remaining team.environment.input.now) (W.contents team.environment.started_output.value) (W.contents team.environment.output.now) }
     requires empty { team.done.items ≡ [] }
     requires room { vec_len team.workers ≤ vec_capacity team.done }
+    requires marks { EachOnce (map mark (Outlet ∷ map (⟦<AtWork<S, K> as Work>⟧.station) team.workers.items)) }
     ensures workers { AllZip (ComesFrom (⟦<AtWork<S, K> as Work>⟧.keeps structure.now routes.now) ⟦<AtWork<S, K> as Work>⟧.same) team.entry.workers.items result.0.items }
     ensures keeps { KeepsEnvironment structure.now routes.now result.1.environment.now.worker result.1.environment.now.astray result.1.ends (R.remaining result.1.started_input.value) (R.remaining result.1.input.now) (W.contents result.1.started_output.value) (W.contents result.1.output.now) }
     ensures environment { result.1.environment.ghost_name ≡ team.entry.environment.environment.ghost_name }
@@ -91,6 +95,7 @@ pub fn run_beside<
     requires sound_environment { KeepsEnvironment structure.now routes.now team.environment.worker.worker team.environment.worker.astray team.environment.ends (R.remaining input.old) (R.remaining input.old) (W.contents output.old) (W.contents output.old) }
     requires empty { team.done.items ≡ [] }
     requires room { vec_len team.workers ≤ vec_capacity team.done }
+    requires marks { EachOnce (map mark (Outlet ∷ map (⟦<AtWork<S, K> as Work>⟧.station) team.workers.items)) }
     ensures workers { AllZip (ComesFrom (⟦<AtWork<S, K> as Work>⟧.keeps structure.now routes.now) ⟦<AtWork<S, K> as Work>⟧.same) team.workers.items result.0.items }
     ensures keeps { KeepsEnvironment structure.now routes.now result.1.worker result.1.astray result.2 (R.remaining input.old) (R.remaining input.new) (W.contents output.old) (W.contents output.new) }
     ensures ends { IsSameEnds team.environment.ends result.2 }

@@ -2,11 +2,11 @@
 ghost use Rattle.std.specs.Prelude.{◌≡◌};
 ghost use Rattle.std.specs.Io.KnownBytes.{Keeps};
 
-use sdl_ends::{Ends, Marks};
+use sdl_ends::{Ends, Marks, mark_of};
 use sdl_environment::{EnvApart, RoutedStructure};
 use sdl_hand::Stepped;
 use sdl_parts::Structure;
-use sdl_routes::Routes;
+use sdl_routes::{Routes, Station};
 use sdl_threads::Work;
 use std::io::{Read, Write};
 use std::snapshot::Snapshot;
@@ -65,11 +65,14 @@ impl<'e, 'i, 'o, I: Read, O: Write> Work for EnvironmentThread<'e, 'i, 'o, I, O>
     ghost use Rattle.std.proofs.Common.{◌∙◌};
     ghost use Rattle.sdl_run.specs.Environment.{KeepsEnvironment};
     ghost use Rattle.sdl_ends.specs.Ends.{IsSameEnds};
+    ghost use Rattle.sdl_routes.specs.declared.route.Station.TheVariants.{Outlet};
 
     ghost keeps = { λ s rows w. KeepsEnvironment s rows w.environment.now.worker w.environment.now.astray w.ends (I.remaining w.started_input.value) (I.remaining w.input.now) (O.contents w.started_output.value) (O.contents w.output.now) };
 
     // the references are the ones given, and the ends are the same
     ghost same = { λ u v. (v.environment.ghost_name ≡ u.environment.ghost_name) × (v.input.ghost_name ≡ u.input.ghost_name) × (v.output.ghost_name ≡ u.output.ghost_name) × (v.started_input ≡ u.started_input) × (v.started_output ≡ u.started_output) × IsSameEnds u.ends v.ends };
+
+    ghost station = { λ w. Outlet };
 
     ghost itself = { λ w. (refl, refl, refl, refl, refl, record { feeds = refl; tap = refl }) };
 
@@ -110,8 +113,8 @@ impl<'e, 'i, 'o, I: Read, O: Write> Work for EnvironmentThread<'e, 'i, 'o, I, O>
         !self.reads_on()
     }
 
-    fn mark(&self) -> Option<u32> {
-        self.ends.tap_mark()
+    fn mark(&self) -> u32 {
+        mark_of(Station::Outlet)
     }
 
     fn touched(&mut self) -> Marks {

@@ -14,7 +14,7 @@ use sdl_driver::Parked;
 use sdl_environment::{EnvApart, EnvWorker};
 use sdl_join::laws::{joined_workers_stand, new_workers_keep};
 use sdl_log::{Event, Keeps};
-use sdl_opening::laws::used_ends_come_back;
+use sdl_opening::laws::{no_two_workers_have_one_mark, used_ends_come_back};
 use sdl_parts::Checked;
 use sdl_routes::Routes;
 use sdl_settling::back::name_refused;
@@ -81,6 +81,7 @@ pub fn run_apart<
     new_workers_keep::<S>();
     joined_workers_stand::<S>();
     used_ends_come_back();
+    no_two_workers_have_one_mark();
     let number = blocks.len() as u32;
     let (workers, own) = give_out(workers, budget, blocks, forwarders, ends);
     let team = Team {

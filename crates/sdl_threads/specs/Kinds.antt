@@ -1,10 +1,15 @@
 -- Workers of two kinds.
+use Rattle.sdl_routes.specs.declared.route.Station.{Station}
 use Rattle.sdl_threads.specs.declared.kinds.Kind.{Kind}
 use Rattle.sdl_threads.specs.declared.kinds.Kind.TheVariants.{Block, Forwarder}
 
 abbrev pub KeepsOneOf : {B F : Type 0} → (B → Type 0) → (F → Type 0) → Kind B F → Type 0
 KeepsOneOf block forwarder (Block u) = block u
 KeepsOneOf block forwarder (Forwarder u) = forwarder u
+
+abbrev pub station_of_one : {B F : Type 0} → (B → Station) → (F → Station) → Kind B F → Station
+station_of_one block forwarder (Block u) = block u
+station_of_one block forwarder (Forwarder u) = forwarder u
 
 abbrev pub SameOneOf : {B F : Type 0} → (B → B → Type 0) → (F → F → Type 0) → Kind B F → Kind B F → Type 0
 SameOneOf block forwarder (Block u) (Block v) = block u v

@@ -15,11 +15,13 @@ pub enum Kind<B, F> {
 }
 
 impl<B: Work, F: Work> Work for Kind<B, F> {
-    ghost use Rattle.sdl_threads.specs.Kinds.{KeepsOneOf, SameOneOf, SameOneOf-refl, SameOneOf-trans};
+    ghost use Rattle.sdl_threads.specs.Kinds.{KeepsOneOf, SameOneOf, SameOneOf-refl, SameOneOf-trans, station_of_one};
 
     ghost keeps = { λ s r. KeepsOneOf (B.keeps s r) (F.keeps s r) };
 
     ghost same = { SameOneOf B.same F.same };
+
+    ghost station = { station_of_one B.station F.station };
 
     ghost itself = { SameOneOf-refl B.same F.same B.itself F.itself };
 
@@ -53,7 +55,7 @@ impl<B: Work, F: Work> Work for Kind<B, F> {
         }
     }
 
-    fn mark(&self) -> Option<u32> {
+    fn mark(&self) -> u32 {
         match self {
             Kind::Block(block) => block.mark(),
             Kind::Forwarder(forwarder) => forwarder.mark(),

@@ -500,15 +500,6 @@ impl Idling {
     }
 }
 
-/// The mark of the word of the worker of this number, which takes at the station of this mark: one of its own where it takes
-/// at none, as only blocks and the environment do.
-fn mark_of_worker(station: Option<u32>, number: u32) -> u32 {
-    match station {
-        Some(mark) => mark,
-        None => FREE_MARK + number.min(46),
-    }
-}
-
 /// Lets the worker of this number make steps until all are told to stop, and at least one. It says whether memory was refused to
 /// the last. All are told to stop where it is, and where the worker has made as many turns as it may.
 pub(crate) fn drive<W: Work, G: Gate, R: Wait>(
@@ -524,8 +515,7 @@ pub(crate) fn drive<W: Work, G: Gate, R: Wait>(
     ensures keeps { W.keeps structure.now routes.now worker.new }
     ensures same { W.same worker.old worker.new }
 {
-    let mark = mark_of_worker(worker.mark(), number);
-    let mut idling = Idling::new(mark);
+    let mut idling = Idling::new(worker.mark());
     let mut step = 0u64;
     for _ in rt.forever() {
         for _ in 0..STEPS_AT_ONCE {

@@ -6,15 +6,19 @@ use sdl_routes::Routes;
 use std::sync::Wait;
 
 /// Something that makes steps in a system. `keeps` is what each of its steps asks and gives back, in a system of this structure
-/// and these routes. `same` says which worker it is, whatever its steps did.
+/// and these routes. `same` says which worker it is, whatever its steps did. `station` is where it takes.
 pub trait Work {
     ghost use Rattle.std.specs.Prelude.{List};
     ghost use Rattle.sdl_parts.specs.Structure.{Structure};
     ghost use Rattle.sdl_routes.specs.declared.route.TableRow.{TableRow};
+    ghost use Rattle.sdl_routes.specs.declared.route.Station.{Station};
+    ghost use Rattle.sdl_ends.specs.Marks as marks;
 
     ghost keeps: { Structure → List TableRow → Self → Type 0 };
 
     ghost same: { Self → Self → Type 0 };
+
+    ghost station: { Self → Station };
 
     /// Moves on what still waits for room at the rings where it puts, and says whether nothing of it is left. It is called before
     /// each step, and whoever has something left is not at rest. Takes no memory, and waits for nobody.
@@ -39,8 +43,10 @@ pub trait Work {
     /// Whether its next step would ask somebody outside the system, and could wait long for an answer. It is a hint.
     fn asks_outside(&self) -> bool;
 
-    /// The mark of the station where it takes. It is a hint, by which it is woken.
-    fn mark(&self) -> Option<u32>;
+    /// The mark of the station where it takes, whether or not anything comes there. By it the worker is woken, and told apart
+    /// from the others where it comes to rest.
+    fn mark(&self) -> u32
+        ensures { result ≡ marks.mark (station self.now) };
 
     /// The marks of the stations where something came to lie since this was asked last. It is a hint, by which those that take there
     /// are woken.

@@ -1,6 +1,8 @@
 //! The workers of a system, each with its ends, and all of them at once.
-ghost use Rattle.std.specs.Prelude.{◌≡◌, ◌≤◌, ◌<◌, ◌^◌, [], vec_len, vec_capacity};
+ghost use Rattle.std.specs.Prelude.{◌≡◌, ◌≤◌, ◌<◌, ◌^◌, [], ◌∷◌, map, vec_len, vec_capacity};
 ghost use Rattle.std.specs.List.{All, AllZip};
+ghost use Rattle.sdl_routes.specs.Routes.{EachOnce};
+ghost use Rattle.sdl_ends.specs.Marks.{mark};
 ghost use Rattle.sdl_threads.specs.Back.{ComesFrom};
 
 use crate::kinds::Kind;
@@ -8,11 +10,11 @@ use crate::pace::Gate;
 use crate::scope::{Team, run_all};
 use crate::work::{Returned, Stepped, Work};
 use sdl_block::BlockWorker;
-use sdl_ends::{Ends, Marks};
+use sdl_ends::{Ends, Marks, mark_of};
 use sdl_forward::{Forwarded, Forwarder};
 use sdl_log::{Event, Keeps};
 use sdl_parts::Structure;
-use sdl_routes::Routes;
+use sdl_routes::{Routes, Station};
 use sdl_transition::Agents;
 use std::sync::Wait;
 use std::thread::Threads;
@@ -26,11 +28,14 @@ pub struct ForwarderThread {
 
 impl Work for ForwarderThread {
     ghost use Rattle.sdl_forward.specs.HandsOn.{IsHandingOn};
+    ghost use Rattle.sdl_routes.specs.declared.route.Station.TheVariants.{Line};
     ghost use Rattle.sdl_threads.specs.Workers.{IsSameForwarder, IsSameForwarder-refl, IsSameForwarder-trans};
 
     ghost keeps = { λ s rows w. IsHandingOn rows w.forwarder w.ends };
 
     ghost same = { IsSameForwarder };
+
+    ghost station = { λ w. Line w.forwarder.hop };
 
     ghost itself = { IsSameForwarder-refl };
 
@@ -59,8 +64,8 @@ impl Work for ForwarderThread {
         false
     }
 
-    fn mark(&self) -> Option<u32> {
-        self.ends.tap_mark()
+    fn mark(&self) -> u32 {
+        mark_of(Station::Line(self.forwarder.hop()))
     }
 
     fn touched(&mut self) -> Marks {
@@ -89,11 +94,14 @@ impl<S: Agents, K: Keeps> Work for BlockThread<S, K> {
     ghost use Rattle.sdl_instances.specs.CoreOf.{CanFire};
     ghost use Rattle.sdl_block.specs.Workers.{behaviours_of, worker_of, system_around};
     ghost use Rattle.sdl_hand.specs.Apart.{IsPuttingOut};
+    ghost use Rattle.sdl_routes.specs.declared.route.Station.TheVariants.{Inlet};
     ghost use Rattle.sdl_threads.specs.Workers.{IsSameBlock, IsSameBlock-refl, IsSameBlock-trans};
 
     ghost keeps = { λ s rows w. CanFire S.may (behaviours_of w.block) × IsPuttingOut S.may (system_around w.block rows) (worker_of w.block) w.ends };
 
     ghost same = { λ u v. IsSameBlock u v };
+
+    ghost station = { λ w. Inlet (worker_of w.block).core.block };
 
     ghost itself = { λ w. IsSameBlock-refl w };
 
@@ -118,8 +126,8 @@ impl<S: Agents, K: Keeps> Work for BlockThread<S, K> {
         false
     }
 
-    fn mark(&self) -> Option<u32> {
-        self.ends.tap_mark()
+    fn mark(&self) -> u32 {
+        mark_of(Station::Inlet(self.block.block()))
     }
 
     fn touched(&mut self) -> Marks {
@@ -139,7 +147,8 @@ impl<S: Agents, K: Keeps> Work for BlockThread<S, K> {
 pub type AtWork<S, K> = Kind<BlockThread<S, K>, ForwarderThread>;
 
 /// Lets each block and each forwarder of a system make its steps in a thread of its own. The environment makes its own in this
-/// one. All go on until they are told to stop. `run_all` of these workers.
+/// one. All go on until they are told to stop. `run_all` of these workers. No two workers have one mark, so that each is woken by
+/// its own, and all come to rest.
 pub fn run_workers<
     S: Agents + Send,
     K: Keeps + Send,
@@ -158,6 +167,7 @@ pub fn run_workers<
     requires sound_environment { E.keeps structure.now routes.now team.environment }
     requires empty { team.done.items ≡ [] }
     requires room { vec_len team.workers ≤ vec_capacity team.done }
+    requires marks { EachOnce (map mark (E.station team.environment ∷ map (⟦<AtWork<S, K> as Work>⟧.station) team.workers.items)) }
     ensures workers { AllZip (ComesFrom (⟦<AtWork<S, K> as Work>⟧.keeps structure.now routes.now) ⟦<AtWork<S, K> as Work>⟧.same) team.workers.items result.0.items }
     ensures environment { ComesFrom (E.keeps structure.now routes.now) E.same team.environment result.1 }
 {

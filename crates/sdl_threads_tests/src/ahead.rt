@@ -1,9 +1,11 @@
 //! A worker that runs far ahead where nobody takes, and then has nothing more to do.
 ghost use Rattle.std.specs.Prelude.{◌≡◌};
 
+use sdl_ends::mark_of;
 use sdl_examples::ECHO;
 use sdl_parts::Structure;
-use sdl_routes::Routes;
+use sdl_routes::{Routes, Station};
+use sdl_signal::BlockId;
 use sdl_test_systems::routes_of;
 use sdl_threads::{Kind, Marks, OpenGate, Returned, Stepped, Team, Work, run_all};
 use std::sync::Wait;
@@ -19,16 +21,16 @@ const NOWHERE: u32 = 40;
 /// Puts something where nobody takes it, at each of some steps.
 #[derive(Drop)]
 struct Runner {
-    mark: u32,
+    station: Station,
     left: u64,
     put: u64,
     touched: Marks,
 }
 
 impl Runner {
-    fn new(mark: u32, left: u64) -> Runner {
+    fn new(station: Station, left: u64) -> Runner {
         Runner {
-            mark,
+            station,
             left,
             put: 0,
             touched: Marks::none(),
@@ -42,7 +44,9 @@ impl Work for Runner {
 
     ghost keeps = { λ s r w. ⊤ };
 
-    ghost same = { λ u v. v.mark ≡ u.mark };
+    ghost same = { λ u v. v.station ≡ u.station };
+
+    ghost station = { λ w. w.station };
 
     ghost itself = { λ w. refl };
 
@@ -73,8 +77,8 @@ impl Work for Runner {
         false
     }
 
-    fn mark(&self) -> Option<u32> {
-        Some(self.mark)
+    fn mark(&self) -> u32 {
+        mark_of(self.station)
     }
 
     fn touched(&mut self) -> Marks {
@@ -117,8 +121,8 @@ fn one_that_waited_for_others_in_vain_comes_to_rest(rt: HostRuntime) -> Result<(
     let alloc = rt.alloc();
     let (checked, routes) = routes_of(alloc, ECHO)?;
     let team = Team {
-        workers: vec![in alloc; Kind::Block(Runner::new(0, STEPS))]?,
-        environment: Runner::new(1, 0),
+        workers: vec![in alloc; Kind::Block(Runner::new(Station::Inlet(BlockId(0)), STEPS))]?,
+        environment: Runner::new(Station::Outlet, 0),
         number_of_environment: 1,
         done: Vec::with_capacity(alloc, 1)?,
     };

@@ -1,9 +1,12 @@
 //! A token that goes round among workers in threads of their own.
-ghost use Rattle.std.specs.Prelude.{◌≡◌};
+ghost use Rattle.std.specs.Prelude.{◌≡◌, ◌%◌};
+ghost use Rattle.sdl_routes.specs.declared.route.Station.TheVariants.{Inlet};
 
+use sdl_ends::mark_of;
 use sdl_examples::ECHO;
 use sdl_parts::Structure;
-use sdl_routes::Routes;
+use sdl_routes::{Routes, Station};
+use sdl_signal::BlockId;
 use sdl_test_systems::{Stop, routes_of};
 use sdl_threads::{Gate, Kind, Marks, OpenGate, Returned, Stepped, Team, Work, run_all};
 use std::alloc::Global;
@@ -39,6 +42,13 @@ impl Ring {
     }
 }
 
+/// The station at which the worker at this place takes.
+fn station_at(place: usize) -> Station
+    ensures { result ≡ Inlet (record { 0 = place % 16 }) }
+{
+    Station::Inlet(BlockId((place % 16) as u32))
+}
+
 /// Takes the token from its cell and puts it into the next one.
 #[derive(Drop)]
 struct Passer {
@@ -57,12 +67,15 @@ impl Passer {
 }
 
 impl Work for Passer {
-    ghost use Rattle.std.specs.Prelude.{◌≡◌, ⊤, refl};
+    ghost use Rattle.std.specs.Prelude.{◌≡◌, ◌%◌, ⊤, refl};
     ghost use Rattle.std.proofs.Common.{◌∙◌};
+    ghost use Rattle.sdl_routes.specs.declared.route.Station.TheVariants.{Inlet};
 
     ghost keeps = { λ s r w. ⊤ };
 
     ghost same = { λ u v. v.place ≡ u.place };
+
+    ghost station = { λ w. Inlet (record { 0 = w.place % 16 }) };
 
     ghost itself = { λ w. refl };
 
@@ -86,7 +99,7 @@ impl Work for Passer {
         }
         let next = self.next();
         self.ring.put(next, hops - 1);
-        self.touched.add((next % 64) as u32);
+        self.touched.add(mark_of(station_at(next)));
         self.passed = self.passed.saturating_add(1);
         Stepped::Did
     }
@@ -95,8 +108,8 @@ impl Work for Passer {
         false
     }
 
-    fn mark(&self) -> Option<u32> {
-        Some((self.place % 64) as u32)
+    fn mark(&self) -> u32 {
+        mark_of(station_at(self.place))
     }
 
     fn touched(&mut self) -> Marks {

@@ -3,6 +3,7 @@ use Rattle.sdl_environment.specs.EnvApart.{IsEnvPuttingOut}
 use Rattle.sdl_settling.specs.Coming.{ends_back, blocks_back, forwarders_back, NamesFirst}
 use Rattle.sdl_settling.proofs.Rooms.{room_of}
 use Rattle.sdl_run.proofs.Together.{read_on, written_on, named_next, some_none, environment_as, blocks_known, ends_enough, few_workers, workers_keep, environment_keeps, workers_number, done_number, blocks_number, lines_number, used_now, none, behaviours_same, workers_are, parked}
+use Rattle.sdl_run.proofs.Marks.{marks_once}
 use Rattle.sdl_run.proofs.joining.run_apart.Goals as goal
 
 pub give_out-workers-requires-clause-count : goal.give_out-workers-requires-clause-count
@@ -44,6 +45,11 @@ run_beside-done-requires-clause-room g c =
     let d = c.give_out-workers.result.0.ok.0 in
     let e = c.requires.ready.opened.done in
     omega (arith, a, b, d, e)
+
+pub run_beside-done-requires-clause-marks : goal.run_beside-done-requires-clause-marks
+run_beside-done-requires-clause-marks g c =
+    marks_once g.S.Agents.may c.args.system c.args.opened c.requires.ready c.no_two_workers_have_one_mark.ensures
+    c.give_out-workers.result.0.items c.give_out-workers.result.1 c.give_out-workers.ensures
 
 pub name_refused-refused-requires-clause-few : goal.name_refused-refused-requires-clause-few
 name_refused-refused-requires-clause-few g c =
