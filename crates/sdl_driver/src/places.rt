@@ -20,6 +20,7 @@ impl Places {
         let mut first = [0; MOST_CHANNELS + 1];
         for (place, forwarder) in forwarders.iter().enumerate() {
             let next = (forwarder.hop().channel.0 as usize).min(MOST_CHANNELS - 1) + 1;
+            // (there are at most 128 forwarders, two for each channel)
             first[next..].fill((place + 1).min(255) as u8);
         }
         Places { first }

@@ -529,6 +529,7 @@ pub(crate) fn drive<W: Work, G: Gate, R: Wait>(
             if counts {
                 gate.before(number, step);
             }
+            // (after the greatest pick the least one comes again: which picks there are is open)
             let pick = (step % 4_294_967_296) as u32;
             let stepped = worker.step(rt, structure, routes, pick, may_ask);
             if counts {

@@ -56,7 +56,8 @@ pub(crate) struct Told {
     deep: CachePadded<AtomicU64>,
     /// The number of such ends until which no worker pauses, as others want the processors, or as there was no clock yet.
     crowded: CachePadded<AtomicU64>,
-    /// Each worker's word, by the mark of the station where it takes.
+    /// Each worker's word, by the mark of the station where it takes: no two workers have one mark (`run_workers` asks for it). Marks
+    /// are below `MARKS` (`mark_of` says so), so the remainders below change none. They spare a test of each place.
     words: [CachePadded<AtomicU64>; MARKS],
     /// For each mark of a station, the mark of the worker that waits for room there, and one more. 0 where none does.
     rooms: [CachePadded<AtomicU64>; MARKS],
