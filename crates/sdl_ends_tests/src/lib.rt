@@ -1,4 +1,4 @@
-//! The ends of all workers of a system at work: on one thread, and each in a thread of its own.
+//! Workers of a system in threads of their own and on one thread: how they use their ends, and how they come to rest.
 #![tactic(auto)]
 
 #[cfg(test)]
@@ -8,9 +8,13 @@ mod crossing;
 #[cfg(test)]
 mod items;
 #[cfg(test)]
+mod jobs;
+#[cfg(test)]
 mod opened;
 #[cfg(test)]
 mod relay;
+#[cfg(test)]
+mod resting;
 #[cfg(test)]
 mod tasks;
 #[cfg(test)]

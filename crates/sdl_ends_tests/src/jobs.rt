@@ -1,0 +1,157 @@
+//! Workers in threads without ends: they hand a token round, or put where nobody takes.
+ghost use Rattle.std.specs.Prelude.{◌≡◌};
+
+use sdl_ends::mark_of;
+use sdl_parts::Structure;
+use sdl_routes::{Routes, Station};
+use sdl_signal::BlockId;
+use sdl_threads::{Kind, Marks, Returned, Stepped, Work};
+use std::alloc::Global;
+use std::sync::atomic::AtomicU64;
+use std::sync::atomic::Ordering::SeqCst;
+use std::sync::{Arc, Wait};
+
+/// A cell for each of four workers, with how many hops the token in it has yet to make: 0 where it has none.
+#[derive(Drop)]
+pub struct Ring {
+    pub cells: [AtomicU64; 4],
+}
+
+/// What a worker does at each step.
+#[derive(Drop)]
+pub enum Job {
+    /// It takes the token from the cell at its place and puts it into the next one.
+    Pass(Arc<Ring, Global>, usize),
+    /// It puts something where nobody takes it, so often yet.
+    Put(u64),
+}
+
+/// A worker, and how often it has put.
+#[derive(Drop)]
+pub struct Jobber {
+    station: Station,
+    job: Job,
+    put: u64,
+    /// Where it put since that was asked last.
+    touched: Marks,
+}
+
+/// The mark of a station where no worker takes.
+const NOWHERE: u32 = 40;
+
+impl Jobber {
+    pub fn new(station: Station, job: Job) -> Jobber {
+        Jobber {
+            station,
+            job,
+            put: 0,
+            touched: Marks::none(),
+        }
+    }
+}
+
+/// The station at which the worker at this place takes.
+pub fn station_at(place: usize) -> Station {
+    Station::Inlet(BlockId((place % 16) as u32))
+}
+
+/// Moves the token on, where it is in the cell at this place. It says where to.
+fn pass(ring: &Ring, place: usize) -> Option<usize> {
+    let hops = ring.cells.get(place)?.swap(0, SeqCst);
+    if hops == 0 {
+        return None;
+    }
+    let next = if place >= 3 { 0 } else { place + 1 };
+    ring.cells.get(next)?.store(hops - 1, SeqCst);
+    Some(next)
+}
+
+/// Does one step of the job. It says at which mark something was put.
+fn work(job: &mut Job) -> Option<u32> {
+    match job {
+        Job::Pass(ring, place) => pass(ring, *place).map(|next| mark_of(station_at(next))),
+        Job::Put(0) => None,
+        Job::Put(left) => {
+            *left -= 1;
+            Some(NOWHERE)
+        }
+    }
+}
+
+impl Work for Jobber {
+    ghost use Rattle.std.specs.Prelude.{◌≡◌, ⊤, refl};
+    ghost use Rattle.std.proofs.Common.{◌∙◌};
+
+    ghost keeps = { λ s r w. ⊤ };
+
+    ghost same = { λ u v. v.station ≡ u.station };
+
+    ghost station = { λ w. w.station };
+
+    ghost itself = { λ w. refl };
+
+    ghost and_then = { λ u v w p q. q ∙ p };
+
+    fn flush(&mut self) -> bool {
+        true
+    }
+
+    fn step<R: Wait>(
+        &mut self,
+        _rt: &R,
+        _structure: &Structure,
+        _routes: &Routes,
+        _pick: u32,
+        _may_ask: bool,
+    ) -> Stepped {
+        match work(&mut self.job) {
+            Some(mark) => {
+                self.touched.add(mark);
+                self.put = self.put.saturating_add(1);
+                Stepped::Did
+            }
+            None => Stepped::Idle,
+        }
+    }
+
+    fn asks_outside(&self) -> bool {
+        false
+    }
+
+    fn mark(&self) -> u32 {
+        mark_of(self.station)
+    }
+
+    fn touched(&mut self) -> Marks {
+        let touched = self.touched;
+        self.touched = Marks::none();
+        touched
+    }
+
+    fn puts(&self) -> u64 {
+        self.put
+    }
+
+    fn is_spent(&self) -> bool {
+        false
+    }
+}
+
+/// How often the worker put, where it ran until it was told to stop.
+pub fn put_by(worker: &Returned<Jobber>) -> Option<u64> {
+    match worker {
+        Returned::Ran(worker) => Some(worker.put),
+        Returned::Refused(_) => None,
+        Returned::NotStarted(_) => None,
+    }
+}
+
+/// The same of one of the list.
+pub fn put_in_list(worker: &Returned<Kind<Jobber, Jobber>>) -> Option<u64> {
+    match worker {
+        Returned::Ran(Kind::Block(worker)) => Some(worker.put),
+        Returned::Ran(Kind::Forwarder(worker)) => Some(worker.put),
+        Returned::Refused(_) => None,
+        Returned::NotStarted(_) => None,
+    }
+}
