@@ -1,6 +1,9 @@
-//! Tests of the program's parts, over readers and writers in memory and over such as fail.
+//! Tests of the program's parts, over readers and writers in memory and over such as fail; and of the log behind its trace, which is
+//! kept in parts, beside a list of events.
 #![tactic(auto)]
 
+#[cfg(test)]
+mod beside;
 #[cfg(test)]
 mod bytes;
 #[cfg(test)]
@@ -8,10 +11,12 @@ mod errors;
 #[cfg(test)]
 mod interrupted;
 #[cfg(test)]
+mod notes;
+#[cfg(test)]
 mod pipes;
 #[cfg(test)]
 mod runs;
 #[cfg(test)]
-mod trial;
+mod same;
 #[cfg(test)]
-mod words;
+mod trial;

@@ -2,7 +2,7 @@
 use super::bytes::{Bytes, reader_of, writer_of};
 use sdl_program::pipe;
 use sdl_program::program::{FAULTY, WHOLE, pipe_command};
-use sdl_signal::{InputEnd, LineFault, OutputEnd};
+use sdl_signal::{InputEnd, OutputEnd};
 use std::alloc::{AllocError, Global};
 use std::test::Fail;
 
@@ -31,14 +31,6 @@ fn run_pipe(
         ends,
         written: output.taken,
     })
-}
-
-#[test]
-fn pipe_writes_what_it_read(rt: HostRuntime) -> Result<(), Fail> {
-    let it = run_pipe(rt.alloc(), &mut reader_of(TWO_LINES), 100, 0)?;
-    assert!(rt; it.ends == (InputEnd::Whole, OutputEnd::Whole));
-    assert!(rt; it.written.as_slice() == TWO_LINES);
-    Ok(())
 }
 
 /// The lines that stand whole in so many bytes of the two.
@@ -95,25 +87,6 @@ fn pipe_over_interruptions(rt: HostRuntime) -> Result<(), Fail> {
         input.interruptions = reads;
         let it = run_pipe(rt.alloc(), &mut input, 100, writes)?;
         assert!(rt; it.ends == ends);
-    }
-    Ok(())
-}
-
-/// How a pipe of a line of so many letters ends.
-fn ends_of_letters(alloc: Global, letters: usize) -> Result<(InputEnd, OutputEnd), AllocError> {
-    let text = vec![in alloc; b'a'; letters]?;
-    Ok(run_pipe(alloc, &mut reader_of(text.as_slice()), 100, 0)?.ends)
-}
-
-#[test]
-fn pipe_refuses_long_lines(rt: HostRuntime) -> Result<(), Fail> {
-    for (letters, fault) in [
-        (320, LineFault::Missing),
-        (321, LineFault::TooLong),
-        (1_000_000, LineFault::TooLong),
-    ] {
-        let ends = ends_of_letters(rt.alloc(), letters)?;
-        assert!(rt; ends == (InputEnd::BadLine(1, fault), OutputEnd::Whole));
     }
     Ok(())
 }

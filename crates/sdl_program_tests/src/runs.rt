@@ -1,9 +1,7 @@
 //! Runs over readers and writers in memory, and over such as fail.
-use super::bytes::{Bytes, reader_of, writer_of};
-use super::trial::{ECHO_TRIAL, PLENTY, RELAY_TRIAL, Trial, run};
-use sdl_examples::ECHO;
+use super::bytes::{Bytes, reader_of};
+use super::trial::{ECHO_TRIAL, RELAY_TRIAL, Trial, run};
 use sdl_program::program::{FAULTY, REFUSED, WHOLE};
-use sdl_program::{Command, Options, run_file};
 
 const PING: &[u8] = b"line ping 7\n";
 
@@ -22,30 +20,6 @@ B sent pong 1
 const WRITE_FAULT: &[u8] = b"output: write fault\n";
 
 const READ_FAULT: &[u8] = b"input: read fault\n";
-
-#[test]
-fn echo_answers(rt: HostRuntime) {
-    let mut output = writer_of(rt.alloc(), PLENTY);
-    let mut errors = writer_of(rt.alloc(), PLENTY);
-    let options = Options {
-        command: Command::Run,
-        serial: false,
-        ledger: true,
-        trace: true,
-    };
-    let status = run_file(
-        &rt,
-        rt.alloc(),
-        ECHO.as_bytes(),
-        options,
-        &mut reader_of(PING),
-        &mut output,
-        &mut errors,
-    );
-    assert!(rt; status == WHOLE);
-    assert!(rt; output.taken.as_slice() == BOOKS);
-    assert!(rt; errors.taken.is_empty());
-}
 
 /// The order of the lines of two routes is that of the workers' steps.
 #[test]

@@ -1,6 +1,6 @@
 //! Ring, bound: X and Y pass a token round, which counts its steps.
-use crate::left::look;
 use crate::plan::{Plan, Planned};
+use crate::ring_left::look;
 use sdl_agents::ring;
 use sdl_examples::RING;
 use sdl_test_systems::Stop;

@@ -31,19 +31,9 @@ fn numbers(alloc: Global, count: usize) -> Result<Vec<u32>, AllocError> {
 }
 
 #[test]
-fn ring_runs_in_turns(rt: HostRuntime) -> Result<(), Fail> {
+fn ring_runs_in_turns_and_under_schedules(rt: HostRuntime) -> Result<(), Fail> {
     run(&rt, rt.alloc(), &[])?;
-    Ok(())
-}
-
-#[test]
-fn ring_runs_under_a_short_schedule(rt: HostRuntime) -> Result<(), Fail> {
     run(&rt, rt.alloc(), &[1, 0, 5])?;
-    Ok(())
-}
-
-#[test]
-fn ring_runs_under_a_long_schedule(rt: HostRuntime) -> Result<(), Fail> {
     let schedule = numbers(rt.alloc(), 10_000)?;
     run(&rt, rt.alloc(), schedule.as_slice())?;
     Ok(())

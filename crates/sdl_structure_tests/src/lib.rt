@@ -1,11 +1,15 @@
-//! Tests of the structure file's reading, and of the checker of a structure's rules.
+//! Tests of names, of the environment's lines and of where they are read and written, and of a structure's parts.
 #![tactic(auto)]
 
 #[cfg(test)]
-mod checking;
+mod fakes;
 #[cfg(test)]
-mod echo;
+mod lines;
 #[cfg(test)]
-mod echo_parts;
+mod parts;
 #[cfg(test)]
-mod faults;
+mod sinks;
+#[cfg(test)]
+mod sources;
+#[cfg(test)]
+mod texts;

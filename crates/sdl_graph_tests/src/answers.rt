@@ -1,0 +1,75 @@
+//! What marked answers are, and what is marked.
+use super::breaking::{CONFORMING, NUMBERS, breaking_frame, offer, step};
+use sdl_behaviour::{Next, Step};
+use sdl_graph_binding::{Broken, Marks, keep_to_offer};
+use sdl_signal::StateId;
+use std::test::Fail;
+
+/// The answer of this number, kept to its offer.
+fn kept_answer(number: u32, marks: &Marks) -> Step {
+    let frame = breaking_frame();
+    let mut answer = step(number, &frame);
+    keep_to_offer(number, &offer(), &frame, &mut answer, marks);
+    answer
+}
+
+#[test]
+fn a_conforming_answer_stands_unmarked(rt: HostRuntime) -> Result<(), Fail> {
+    let marks = Marks::new(rt.alloc())?;
+    let answer = kept_answer(CONFORMING, &marks);
+    let own = step(CONFORMING, &breaking_frame());
+    assert!(rt; answer.actions.as_slice() == own.actions.as_slice());
+    assert!(rt; answer.actions.len() == 2);
+    assert!(rt; answer.vars.as_slice() == own.vars.as_slice());
+    assert!(rt; answer.next == Next::State(StateId(1)));
+    assert!(rt; marks.broken() == None);
+    Ok(())
+}
+
+/// Each is replaced by the step that does nothing, and marked.
+#[test]
+fn a_broken_answer_does_nothing(rt: HostRuntime) -> Result<(), Fail> {
+    let frame = breaking_frame();
+    for number in 1..NUMBERS {
+        let marks = Marks::new(rt.alloc())?;
+        let answer = kept_answer(number, &marks);
+        assert_eq!(rt; answer.actions.len(), 0, "transition {number}");
+        assert!(rt; answer.vars.as_slice() == frame.vars.as_slice());
+        assert!(rt; answer.next == Next::State(StateId(0)));
+        let wanted = Some(Broken {
+            first: number,
+            count: 1,
+        });
+        assert_eq!(rt; marks.broken(), wanted, "transition {number}");
+    }
+    Ok(())
+}
+
+/// Whichever share the answers have, the first is named, and all are counted.
+#[test]
+fn the_first_is_named_and_all_are_counted(rt: HostRuntime) -> Result<(), Fail> {
+    let marks = Marks::new(rt.alloc())?;
+    let share = marks.share()?;
+    for number in [CONFORMING, 9, 3, CONFORMING, 9, 1] {
+        let own = if number == 3 { &share } else { &marks };
+        let _step = kept_answer(number, own);
+    }
+    let wanted = Some(Broken { first: 9, count: 4 });
+    assert!(rt; marks.broken() == wanted);
+    assert!(rt; share.broken() == wanted);
+    Ok(())
+}
+
+#[test]
+fn the_least_and_the_greatest_number_are_named(rt: HostRuntime) -> Result<(), Fail> {
+    for number in [0, u32::MAX] {
+        let marks = Marks::new(rt.alloc())?;
+        marks.note(number);
+        let wanted = Some(Broken {
+            first: number,
+            count: 1,
+        });
+        assert!(rt; marks.broken() == wanted);
+    }
+    Ok(())
+}

@@ -1,0 +1,146 @@
+//! Echo as a graph, and in it an Echo whose row does not offer its output, and two that put their steps together in place.
+ghost use Rattle.sdl_file_commands.specs.Running.{CanRun};
+
+use super::graphs::{ECHO_FROM, Graphs};
+use sdl_graph_program::{
+    Design, Dest, Frame, Kind, Offer, OfferBuilder, Prepared, Run, SetDesign, SignalId, Sort,
+    StateId, Step, StepBuilder, Stored, Value, Via, in_place, integer_parameter, no_offer, no_step,
+    run_prepared,
+};
+use std::alloc::Global;
+use std::sync::Wait;
+use std::thread::Threads;
+
+const PING: SignalId = SignalId(0);
+
+const PONG: SignalId = SignalId(1);
+
+const IDLE: StateId = StateId(0);
+
+fn ping_offer() -> OfferBuilder {
+    OfferBuilder::start(1, &[]).row(IDLE, PING, &[Sort::Integer])
+}
+
+fn ping_step(frame: &Frame) -> Step {
+    let given = Value::Integer(integer_parameter(frame, 0).unwrap_or(0));
+    StepBuilder::next_state(frame, IDLE)
+        .output(PONG, &[given], Dest::Anywhere, Via::Any)
+        .build()
+}
+
+fn fill_ping(frame: &Frame, id: SignalId, step: &mut Step) {
+    let given = Value::Integer(integer_parameter(frame, 0).unwrap_or(0));
+    in_place::next_state(step, frame, IDLE);
+    in_place::output(step, id, &[given], Dest::Anywhere, Via::Any);
+}
+
+/// The number of the start of Echo, among those of all graphs.
+pub const SOUND: u32 = ECHO_FROM;
+
+/// The number of the start of an Echo whose row does not offer the output that it makes.
+pub const MUTE: u32 = ECHO_FROM + 2;
+
+/// The number of the start of an Echo whose row is put together in place alone.
+pub const FILLED: u32 = ECHO_FROM + 4;
+
+/// The number of the start of an Echo whose row breaks its offer in place, and keeps to it where it is built.
+pub const MENDED: u32 = ECHO_FROM + 6;
+
+/// A number that no transition has.
+pub const ABSENT: u32 = ECHO_FROM + 8;
+
+/// The offers of all of them, from 0 on, each of a start and a row.
+pub fn offer(number: u32) -> Offer {
+    match number {
+        0 | 2 | 4 | 6 => OfferBuilder::start(1, &[]).next_state(IDLE).build(),
+        1 | 5 | 7 => ping_offer()
+            .output(PONG, &[Sort::Integer], Via::Any)
+            .next_state(IDLE)
+            .build(),
+        3 => ping_offer().next_state(IDLE).build(),
+        _ => no_offer(),
+    }
+}
+
+pub fn step(number: u32, frame: &Frame) -> Step {
+    match number {
+        0 | 2 | 4 | 6 => StepBuilder::next_state(frame, IDLE).build(),
+        1 | 3 | 7 => ping_step(frame),
+        _ => no_step(),
+    }
+}
+
+pub fn fill(number: u32, frame: &Frame, step: &mut Step) -> bool {
+    match number {
+        5 => fill_ping(frame, PONG, step),
+        7 => fill_ping(frame, PING, step),
+        _ => return false,
+    }
+    true
+}
+
+pub const SET: SetDesign = SetDesign {
+    name: "E",
+    states: &["idle"],
+    variables: &[],
+    transitions: 2,
+};
+
+pub const DESIGN: Design = Design {
+    uses: &[
+        (Kind::Set, 0, "E"),
+        (Kind::Signal, 0, "ping"),
+        (Kind::Signal, 1, "pong"),
+    ],
+    sets: &[SET],
+};
+
+/// What a run wrote and answered.
+#[derive(Drop)]
+pub struct Ran {
+    pub status: u8,
+    pub output: Vec<u8>,
+    pub errors: Vec<u8>,
+}
+
+/// Runs the Echo whose start has this number.
+pub fn run_echo<T: Threads + Wait + Sync>(
+    rt: &T,
+    alloc: Global,
+    prepared: Prepared,
+    start: u32,
+    lines: &[u8],
+) -> Ran
+    requires { CanRun prepared.checked prepared.routes }
+{
+    let mut stored: Stored<Graphs> = Stored::new(alloc);
+    for place in 0..2 {
+        let number = start.saturating_add(place);
+        let Some(own) = stored.answering(number) else {
+            break;
+        };
+        let offer = own.offer();
+        let run: Run = match Box::new(alloc, move |frame: &Frame| own.answer(frame)) {
+            Ok(run) => run,
+            Err(_) => break,
+        };
+        stored.keep(number, offer, run);
+    }
+    let mut input = lines;
+    let mut output = Vec::new(alloc);
+    let mut errors = Vec::new(alloc);
+    let status = run_prepared(
+        rt,
+        prepared,
+        &DESIGN,
+        stored,
+        &mut input,
+        &mut output,
+        &mut errors,
+    );
+    Ran {
+        status,
+        output,
+        errors,
+    }
+}

@@ -1,0 +1,117 @@
+//! Runs of Echo as a graph, with their statuses.
+ghost use Rattle.std.specs.Prelude.{IfOk};
+ghost use Rattle.sdl_file_commands.specs.Running.{CanRun};
+
+use super::echo::{ABSENT, FILLED, MENDED, MUTE, SOUND, run_echo};
+use sdl_command::arguments::{Command, Options};
+use sdl_examples::ECHO;
+use sdl_graph_program::{BROKEN, Prepared, prepare_file};
+use std::alloc::Global;
+use std::test::Fail;
+
+/// What a run on Echo's file prepares.
+fn prepare_echo(alloc: Global, books: bool) -> Result<Prepared, u8>
+    ensures { IfOk result (λ p. CanRun p.checked p.routes) }
+{
+    let options = Options {
+        command: Command::Run,
+        serial: true,
+        ledger: books,
+        trace: books,
+    };
+    let mut output: Vec<u8> = Vec::new(alloc);
+    let mut errors: Vec<u8> = Vec::new(alloc);
+    prepare_file(alloc, ECHO.as_bytes(), options, &mut output, &mut errors)
+}
+
+const PINGS: &[u8] = b"line ping 7\nline ping -1\n";
+
+const BOOKS: &[u8] = b"line pong 7
+line pong -1
+ledger output 4 noroute 0 entered 4 noinstance 0 gone 0 left 0
+ledger entered 4 fired 2 implicit 0 stopped 0 waiting 0 environment 2
+B start E:1
+B enter ping E:1
+B fire ping E:1
+B sent pong 1
+B enter ping E:1
+B fire ping E:1
+B sent pong 1
+";
+
+/// Which Echo is run on which lines, with the ledger and the trace or without, and what comes of it.
+#[derive(Clone, Copy)]
+struct Trial {
+    start: u32,
+    books: bool,
+    lines: &'static [u8],
+    status: u8,
+    output: &'static [u8],
+    errors: &'static [u8],
+}
+
+const WHOLE: Trial = Trial {
+    start: SOUND,
+    books: true,
+    lines: PINGS,
+    status: 0,
+    output: BOOKS,
+    errors: b"",
+};
+
+const TRIALS: [Trial; 6] = [
+    WHOLE,
+    // A row that is put together in place answers as one that is built.
+    Trial {
+        start: FILLED,
+        ..WHOLE
+    },
+    // Where that breaks its offer, the built one answers.
+    Trial {
+        start: MENDED,
+        ..WHOLE
+    },
+    // The answers that break their offer do nothing. The run goes on, and its status and one line say so.
+    Trial {
+        start: MUTE,
+        books: false,
+        lines: PINGS,
+        status: BROKEN,
+        output: b"",
+        errors: b"broken offer transition 203 answers 2\n",
+    },
+    // A broken offer is told after a fault of the input.
+    Trial {
+        start: MUTE,
+        books: false,
+        lines: b"line ping 7\nline\n",
+        status: 4,
+        output: b"",
+        errors: b"input line 2: L3 Missing\nbroken offer transition 203 answers 1\n",
+    },
+    // A number without an offer is not stored, and nothing is run.
+    Trial {
+        start: ABSENT,
+        books: false,
+        lines: PINGS,
+        status: 1,
+        output: b"",
+        errors: b"G1 NoOffer transition 208\n",
+    },
+];
+
+#[test]
+fn an_echo_runs_as_it_offers(rt: HostRuntime) -> Result<(), Fail> {
+    for trial in TRIALS {
+        match prepare_echo(rt.alloc(), trial.books) {
+            Ok(prepared) => {
+                let ran = run_echo(&rt, rt.alloc(), prepared, trial.start, trial.lines);
+                assert!(rt; ran.status == trial.status);
+                assert!(rt; ran.output.as_slice() == trial.output);
+                assert!(rt; ran.errors.as_slice() == trial.errors);
+            }
+            Err(_) => assert!(rt; false),
+        }
+    }
+    Ok(())
+}
