@@ -28,8 +28,8 @@ pub enum Held {
     /// In Relay, the first step of L, until the environment has read fifty lines; and then the environment's next step, until so many
     /// signals were counted.
     Blocks(Arc<AtomicU64, Global>),
-    /// In Relay, the first step of the forwarder of `sa`, which leads from the gate `left` to L, until the environment was about to
-    /// make so many steps.
+    /// In Relay, the first step of the forwarder of `sa`, which leads from the gate `left` to L. It waits until the environment was
+    /// about to make so many steps.
     Path(u64),
     /// Some steps, at random: they first yield or spin. Few yield, since each of them takes a time slice of other work where there is
     /// some.

@@ -236,8 +236,9 @@ fn a_reader_breaks_off_where_it_gave_all_that_it_was_asked_for(
     assert!(rt; after(&whole, BLOCK, 16_384) == (false, false));
     assert!(rt; after(&whole, BLOCK, 16_385) == (false, false));
     // A block that ends within the last line.
-    let ends = &text[..BLOCK];
-    assert!(rt; after(ends, BLOCK, 13_107) == (false, true));
-    assert!(rt; after(ends, BLOCK, 13_108) == (true, false));
+    let mut ends = b"ten bytes\n".repeat(rt.alloc(), 13_107)?;
+    ends.extend_from_slice(b"te")?;
+    assert!(rt; after(&ends, BLOCK, 13_107) == (false, true));
+    assert!(rt; after(&ends, BLOCK, 13_108) == (true, false));
     Ok(())
 }
