@@ -69,9 +69,14 @@ fn pass(ring: &Ring, place: usize) -> Option<usize> {
 /// Does one step of the job. It says at which mark something was put.
 fn work(job: &mut Job) -> Option<u32> {
     match job {
-        Job::Pass(ring, place) => pass(ring, *place).map(|next| mark_of(station_at(next))),
-        Job::Put(0) => None,
+        Job::Pass(ring, place) => {
+            let next = pass(ring, *place)?;
+            Some(mark_of(station_at(next)))
+        }
         Job::Put(left) => {
+            if *left == 0 {
+                return None;
+            }
             *left -= 1;
             Some(NOWHERE)
         }

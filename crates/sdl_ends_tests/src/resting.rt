@@ -40,11 +40,13 @@ fn run<G: Gate, R: Threads + Wait + Sync>(
     if workers.len() > 3 {
         return Err(Stop::Wrong("too many workers"));
     }
+    let number_of_environment = workers.len() as u32;
+    let done = Vec::with_capacity(alloc, workers.len())?;
     let team = Team {
-        number_of_environment: workers.len() as u32,
-        done: Vec::with_capacity(alloc, workers.len())?,
         workers,
         environment,
+        number_of_environment,
+        done,
     };
     Ok(run_all(rt, team, checked.structure(), &routes, gate))
 }
@@ -66,12 +68,16 @@ fn go_round<G: Gate, R: Threads + Wait + Sync + Abort>(
             ],
         },
     )?;
+    let first = passer_at(&ring, 0)?;
+    let second = passer_at(&ring, 1)?;
+    let third = passer_at(&ring, 2)?;
+    let fourth = passer_at(&ring, 3)?;
     let workers = vec![in alloc;
-        Kind::Block(passer_at(&ring, 0)?),
-        Kind::Forwarder(passer_at(&ring, 1)?),
-        Kind::Block(passer_at(&ring, 2)?),
+        Kind::Block(first),
+        Kind::Forwarder(second),
+        Kind::Block(third),
     ]?;
-    let (workers, fourth) = run(rt, alloc, workers, passer_at(&ring, 3)?, gate)?;
+    let (workers, fourth) = run(rt, alloc, workers, fourth, gate)?;
     assert!(rt; workers.len() == 3);
     for worker in workers.as_slice() {
         assert!(rt; put_in_list(worker) == Some(100));

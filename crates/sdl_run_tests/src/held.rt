@@ -103,26 +103,30 @@ fn run_keeping<T: Threads + Wait + Sync>(
 }
 
 /// The item is of this route, the output of this number of the worker, and carries the number that follows.
-fn is_output(rt: &impl Abort, item: &Item, route: u32, worker: u32, number: usize) {
+fn is_output(rt: &impl Abort, item: &Item, route: u32, worker: u32, number: u32) {
     let origin = Origin {
         worker,
-        number: number as u64,
+        number: u64::from(number),
     };
     assert!(rt; (item.route, item.origin) == (RouteId(route), origin));
-    let wanted = Value::Integer((number as i64).saturating_add(1));
+    let wanted = Value::Integer(i64::from(number) + 1);
     assert!(rt; item.signal.params.as_slice() == [wanted].as_slice());
 }
 
 /// Each line went out from the gate `left`, and each was answered by B, in order.
 fn are_in_order(rt: &impl Abort, left: &LeftInThreads) {
-    for (place, out) in left.env_put.iter().enumerate() {
+    let mut number: u32 = 0;
+    for out in left.env_put.as_slice() {
         match out {
-            EnvOut::Sent(item) => is_output(rt, item, 0, 2, place),
+            EnvOut::Sent(item) => is_output(rt, item, 0, 2, number),
             EnvOut::NoRoute(_, _) => assert!(rt; false),
         }
+        number = number.wrapping_add(1);
     }
-    for (place, item) in left.env_received.iter().enumerate() {
-        is_output(rt, item, 4, 1, place);
+    let mut number: u32 = 0;
+    for item in left.env_received.as_slice() {
+        is_output(rt, item, 4, 1, number);
+        number = number.wrapping_add(1);
     }
 }
 
