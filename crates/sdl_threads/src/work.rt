@@ -8,7 +8,7 @@ use std::sync::Wait;
 /// Something that makes steps in a system. `keeps` is what each of its steps asks and gives back, in a system of this structure
 /// and these routes. `same` says which worker it is, whatever its steps did. `station` is where it takes.
 pub trait Work {
-    ghost use Rattle.std.specs.Prelude.{List};
+    ghost use Rattle.std.specs.Prelude.{◌≡◌, List};
     ghost use Rattle.sdl_parts.specs.Structure.{Structure};
     ghost use Rattle.sdl_routes.specs.declared.route.TableRow.{TableRow};
     ghost use Rattle.sdl_routes.specs.declared.route.Station.{Station};
