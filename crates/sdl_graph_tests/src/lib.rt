@@ -1,5 +1,5 @@
-//! Tests of offers, steps and frames as a designer writes them, and of binding by names, the marks of broken answers and the runs
-//! of graphs.
+//! Tests of offers, steps and frames as a designer writes them. Tests of graphs: binding by names, the marks of broken answers, and
+//! runs.
 #![tactic(auto)]
 
 #[cfg(test)]

@@ -1,5 +1,5 @@
-//! Tests of the program's parts, over readers and writers in memory and over such as fail; and of the log behind its trace, which is
-//! kept in parts, beside a list of events.
+//! Tests of the program's parts, over readers and writers in memory and over such as fail. Its trace comes of a log that is kept in
+//! parts: that log is tried beside a list of events.
 #![tactic(auto)]
 
 #[cfg(test)]

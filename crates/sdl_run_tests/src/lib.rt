@@ -1,5 +1,5 @@
-//! Whole runs: of Ring, and of Echo where a schedule chooses, many signals wait, or the writer fails; of Relay in threads where steps
-//! wait for one another; and the environment of Echo at work through ends of its own.
+//! Whole runs of Ring, and of Echo where a schedule chooses, many signals wait, or the writer fails. Runs of Relay in threads where
+//! steps wait for one another. The environment of Echo at work through ends of its own.
 #![tactic(auto)]
 
 #[cfg(test)]
