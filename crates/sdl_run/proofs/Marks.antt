@@ -69,16 +69,6 @@ module _ {S K I : Type 0} {F : I → Type 0} {g : _} where
       ap (λ block. mark (Inlet block) ∷ map mark (map of_both (map Block (paired (block_thread budget) bs es)))) first
       ∙ ap (λ (ms : List ℕ). mark (Inlet (record { 0 = n })) ∷ ms) rest
 
-  line_marks : (fs : List Forwarding) (es : List WorkerEnds) (hs : List Hop) → length es ≡ length fs → map (λ (f : Forwarding). f.hop) fs ≡ hs
-      → map mark (map of_both (map (Forwarder {B = BlockThread S K I F g}) (paired forwarder_thread fs es))) ≡ map mark_at (map worker.Forwarder hs)
-  line_marks fs es hs long are = by_list fs es long ∙ ap (λ (ks : List Hop). map mark_at (map worker.Forwarder ks)) are
-    where
-      by_list : (gs : List Forwarding) (ds : List WorkerEnds) → length ds ≡ length gs
-          → map mark (map of_both (map (Forwarder {B = BlockThread S K I F g}) (paired forwarder_thread gs ds))) ≡ map mark_at (map worker.Forwarder (map (λ (f : Forwarding). f.hop) gs))
-      by_list [] ds same = refl
-      by_list (f ∷ gs) [] same = absurd (omega (arith, same))
-      by_list (f ∷ gs) (d ∷ ds) same = ap (λ (ms : List ℕ). mark (Line f.hop) ∷ ms) (by_list gs ds (omega (arith, same)))
-
 got_in : {X Y : Type 0} (f : X → Y) (xs : List X) (n : ℕ) (x : X) → slice_get xs n ≡ Some x → slice_get (map f xs) n ≡ Some (f x)
 got_in f [] n x at = absurd (none-some x at)
 got_in f (y ∷ ys) zero x at = ap (λ z. Some (f z)) (same_Some y x at)
@@ -102,7 +92,17 @@ module _ {S K I : Type 0} {F : I → Type 0} {g : _} (may : ℕ → Frame → St
       (λ k b at. subst (λ (m : ℕ). (worker_of b).core.block ≡ record { 0 = m }) (omega arith) ((new.cores k (worker_of b) (got_in worker_of x.blocks.items k b at)).0.block))
       ∙ ap (λ (n : ℕ). map mark_at (blocks_from 0 n)) (blocks_count_in may (started x o) ready.new ready.system ready.environment ready.opened.forwarders)
 
-  of_lines : map mark (map of_both (map (Forwarder {B = BlockThread S K I F g}) fs)) ≡ map mark_at (map worker.Forwarder (lines_from 0 x.checked.channels))
+  line_marks : (fs : List Forwarding) (es : List WorkerEnds) (hs : List Hop) → length es ≡ length fs → map (λ (f : Forwarding). f.hop) fs ≡ hs
+      → map mark (map of_both (map {B = Kind (BlockThread S K I F g) ForwarderThread} Forwarder (paired forwarder_thread fs es))) ≡ map mark_at (map worker.Forwarder hs)
+  line_marks fs es hs long are = by_list fs es long ∙ ap (λ (ks : List Hop). map mark_at (map worker.Forwarder ks)) are
+    where
+      by_list : (gs : List Forwarding) (ds : List WorkerEnds) → length ds ≡ length gs
+          → map mark (map of_both (map {B = Kind (BlockThread S K I F g) ForwarderThread} Forwarder (paired forwarder_thread gs ds))) ≡ map mark_at (map worker.Forwarder (map (λ (f : Forwarding). f.hop) gs))
+      by_list [] ds same = refl
+      by_list (f ∷ gs) [] same = absurd (omega (arith, same))
+      by_list (f ∷ gs) (d ∷ ds) same = ap (λ (ms : List ℕ). mark (Line f.hop) ∷ ms) (by_list gs ds (omega (arith, same)))
+
+  of_lines : map mark (map of_both (map {B = Kind (BlockThread S K I F g) ForwarderThread} Forwarder fs)) ≡ map mark_at (map worker.Forwarder (lines_from 0 x.checked.channels))
   of_lines = line_marks o.forwarders.items given.of_forwarders (lines_from 0 x.checked.channels) given.forwarder_count new.forwarders
 
   of_all : map mark (map of_both ws) ≡ map mark_at (blocks_from 0 (length x.checked.blocks)) ++ map mark_at (map worker.Forwarder (lines_from 0 x.checked.channels))
@@ -110,7 +110,7 @@ module _ {S K I : Type 0} {F : I → Type 0} {g : _} (may : ℕ → Frame → St
       ap (λ (vs : List (Kind (BlockThread S K I F g) ForwarderThread)). map mark (map of_both vs)) given.workers_are
       ∙ ap (map mark) (map-append of_both (map Block bs) (map Forwarder fs))
       ∙ map-append mark (map of_both (map Block bs)) (map of_both (map Forwarder fs))
-      ∙ ap (λ (ms : List ℕ). ms ++ map mark (map of_both (map (Forwarder {B = BlockThread S K I F g}) fs))) of_blocks
+      ∙ ap (λ (ms : List ℕ). ms ++ map mark (map of_both (map {B = Kind (BlockThread S K I F g) ForwarderThread} Forwarder fs))) of_blocks
       ∙ ap (λ (ms : List ℕ). map mark_at (blocks_from 0 (length x.checked.blocks)) ++ ms) of_lines
 
   pub marks_once : EachOnce (map mark (Outlet ∷ map of_both ws))

@@ -47,7 +47,7 @@ run_beside-done-requires-clause-room g c =
     omega (arith, a, b, d, e)
 
 pub run_beside-done-requires-clause-marks : goal.run_beside-done-requires-clause-marks
-run_beside-done-requires-clause-marks g c =
+run_beside-done-requires-clause-marks g c κs outlives =
     marks_once g.S.Agents.may c.args.system c.args.opened c.requires.ready c.no_two_workers_have_one_mark.ensures
     c.give_out-workers.result.0.items c.give_out-workers.result.1 c.give_out-workers.ensures
 
