@@ -62,10 +62,12 @@ copy_cases() {
     done
 }
 
-# The content that a case gives under a name, written whole or as repeated lines.
+# The content that a case gives under a name, written whole, as repeated lines or as so many letters.
 content() {
     if [ -e "$1" ]; then
         cat "$1"
+    elif [ -e "$1-letters" ]; then
+        head -c "$(cat "$1-letters")" /dev/zero | tr '\0' a
     elif [ -e "$1-repeat" ]; then
         awk '{ n = $1; sub(/^[0-9]+ ?/, ""); for (i = 0; i < n; i++) print }' "$1-repeat"
     fi

@@ -1,4 +1,5 @@
--- The tables of small systems: what each of their transitions does. Every set has one state, idle, and no variables.
+-- The tables of small systems: what each of their transitions does. No set has variables, and every set but that of Hold has the
+-- one state idle.
 use Rattle.std.specs.Prelude.{◌≡◌, ℕ, zero, suc, List, [], ◌∷◌, ℤ, pos, ◌+ℤ◌, int_lt, Option, Some, None, if◌then◌else◌}
 use Rattle.sdl_signal.specs.declared.values.Value.{Value}
 use Rattle.sdl_signal.specs.declared.values.Value.TheVariants as value
@@ -107,3 +108,17 @@ RingMay zero frame step = LeadsToIdle (output_integer 0 (pos 0)) step
 RingMay (suc zero) frame step = LeadsToIdle [] step
 RingMay (suc (suc zero)) frame step = LeadsToIdle (passed_on (values_of frame.signal)) step
 RingMay _ frame step = ⊥
+
+-- the step does these actions, and leads to the state
+pub record LeadsTo (state : ℕ) (done : List Action) (step : Step) : Type 0 where
+  pub actions : step.actions.items ≡ done
+  pub vars : step.vars.items ≡ []
+  pub next : step.next ≡ State (record { 0 = state })
+
+-- Hold: the start leads to wait, on `go` to run, on `data(n)` an output of `out(n)` in run, and on `halt` to wait
+abbrev pub HoldMay : ℕ → Frame → Step → Type 0
+HoldMay zero frame step = LeadsTo 0 [] step
+HoldMay (suc zero) frame step = LeadsTo 1 [] step
+HoldMay (suc (suc zero)) frame step = LeadsTo 1 (forwarded 3 frame.signal) step
+HoldMay (suc (suc (suc zero))) frame step = LeadsTo 0 [] step
+HoldMay _ frame step = ⊥

@@ -23,6 +23,11 @@ use Rattle.sdl_log.specs.declared.event.Event.{Event}
 use Rattle.sdl_log.specs.declared.event.Event.TheVariants as event
 use Rattle.sdl_log.specs.declared.event.Trigger.{Trigger}
 use Rattle.sdl_log.specs.declared.event.Trigger.TheVariants as trigger
+use Rattle.sdl_signal.specs.declared.ids.StateId.{StateId}
+use Rattle.sdl_saves.specs.declared.save.Save.{Save}
+use Rattle.sdl_saves.specs.Saves.{saved_by}
+use Rattle.sdl_processes.specs.Ports.{TakesOut}
+use Rattle.sdl_processes.proofs.Ports.{length_taken}
 use Rattle.sdl_processes.specs.Record.{Record}
 use Rattle.sdl_instances.specs.Machine.{State, System, FitsAt, Becomes, Leaves, Does, DoesAll, Finishes, Transits, Turns, IsCreated, created_record, consumed, next_any}
 use Rattle.sdl_instances.specs.Run.{IsRun, Leads, first_instances, initial_of, initial_in, initial_instances, initial, waiting}
@@ -53,8 +58,8 @@ module _ (may : ℕ → Frame → Step → Type 0) (sys : System) where
   created_waits set p q old new b =
       let f : Pid × Record → ℕ = λ e. length e.1.port in
       let written = ap waiting b.living in
-      let both = sum_by-append f old.living ((q, created_record b.rules.vars p) ∷ []) in
-      let one = sum_by-cons f (q, created_record b.rules.vars p) [] in
+      let both = sum_by-append f old.living ((q, created_record b.rules.vars b.rules.saves p) ∷ []) in
+      let one = sum_by-cons f (q, created_record b.rules.vars b.rules.saves p) [] in
       omega (arith, written, both, one)
 
   does_waits : (p : Pid) (old : State) (a : Action) (d : Done) (new : State) → Does may (FitsAt sys.routes) sys p old a d new → waiting new.living ≡ waiting old.living
@@ -92,10 +97,10 @@ module _ (may : ℕ → Frame → Step → Type 0) (sys : System) where
   transits_waits rule p frame step did stopped old new made =
       sym (all_waits p old step.actions.items did made.acted made.actions) ∙ finishes_waits p made.acted step.vars.items step.next stopped new made.finish
 
-  consumed_waits : (p : Pid) (r : Record) (i : Item) (rest : List Item) (old new : State) → r.port ≡ i ∷ rest → Becomes p r (consumed r i rest) old new → waiting old.living ≡ 1 + waiting new.living
-  consumed_waits p r i rest old new port became =
+  consumed_waits : (p : Pid) (r : Record) (q : StateId) (i : Item) (rest : List Item) (old new : State) → TakesOut (saved_by r.saves q) r.port i rest → Becomes p r (consumed r i rest) old new → waiting old.living ≡ 1 + waiting new.living
+  consumed_waits p r q i rest old new port became =
       let b = becomes_waits p r (consumed r i rest) old new became in
-      let long : length r.port ≡ suc (length rest) = ap length port in
+      let long = length_taken (saved_by r.saves q) r.port i rest port in
       omega (arith, b, long)
 
   turns_waits : (p : Pid) (old : State) (t : Trigger) (f : Frame) (s : Option Step) (did : List Done) (stopped : Option ℕ) (new : State) → Turns may (FitsAt sys.routes) sys p old t f s did stopped new
@@ -103,11 +108,11 @@ module _ (may : ℕ → Frame → Step → Type 0) (sys : System) where
   turns_waits p old trigger.Start f (Some step) did stopped new (r, rules, lives, fresh, own, shown, made) =
       let b = transits_waits rules.start p f step did stopped old new made in omega (arith, b)
   turns_waits p old (trigger.Fire i) f (Some step) did stopped new (r, rest, q, rules, rule, mid, state, port, own, row, became, shown, made) =
-      let a = consumed_waits p r i rest old mid port became in
+      let a = consumed_waits p r q i rest old mid port became in
       let b = transits_waits rule p f step did stopped mid new made in
       omega (arith, a, b)
   turns_waits p old (trigger.Implicit i) f None did None new (r, rest, q, rules, state, port, own, row, became, shown, none) =
-      let a = consumed_waits p r i rest old new port became in omega (arith, a)
+      let a = consumed_waits p r q i rest old new port became in omega (arith, a)
   turns_waits p old trigger.Start f None did stopped new made = absurd made
   turns_waits p old (trigger.Fire i) f None did stopped new made = absurd made
   turns_waits p old (trigger.Implicit i) f (Some step) did stopped new made = absurd made
@@ -138,16 +143,16 @@ module _ (may : ℕ → Frame → Step → Type 0) (sys : System) where
 none_of_both : (xs ys : List (Pid × Record)) → waiting xs ≡ 0 → waiting ys ≡ 0 → waiting (xs ++ ys) ≡ 0
 none_of_both xs ys a b = let c = sum_by-append (λ (e : Pid × Record). length e.1.port) xs ys in omega (arith, a, b, c)
 
-first_waits : (set : SetId) (vars : List Value) (n : ℕ) → waiting (first_instances set vars n) ≡ 0
-first_waits set vars zero = refl
-first_waits set vars (suc n) =
-    let one = sum_by-cons (λ (e : Pid × Record). length e.1.port) (pid.Inst set (suc n), created_record vars pid.Null) [] in
-    none_of_both (first_instances set vars n) ((pid.Inst set (suc n), created_record vars pid.Null) ∷ []) (first_waits set vars n) (omega (arith, one))
+first_waits : (set : SetId) (vars : List Value) (saves : List Save) (n : ℕ) → waiting (first_instances set vars saves n) ≡ 0
+first_waits set vars saves zero = refl
+first_waits set vars saves (suc n) =
+    let one = sum_by-cons (λ (e : Pid × Record). length e.1.port) (pid.Inst set (suc n), created_record vars saves pid.Null) [] in
+    none_of_both (first_instances set vars saves n) ((pid.Inst set (suc n), created_record vars saves pid.Null) ∷ []) (first_waits set vars saves n) (omega (arith, one))
 
 of_rules_waits : (block : BlockId) (n : ℕ) (d : ProcessSet) (o : Option Rules)
-    → waiting (elim o as (λ _. List (Pid × Record)) [ None ↦ [] | Some r ↦ first_instances (record { 0 = n }) r.vars (initial_in block d) ]) ≡ 0
+    → waiting (elim o as (λ _. List (Pid × Record)) [ None ↦ [] | Some r ↦ first_instances (record { 0 = n }) r.vars r.saves (initial_in block d) ]) ≡ 0
 of_rules_waits block n d None = refl
-of_rules_waits block n d (Some r) = first_waits (record { 0 = n }) r.vars (initial_in block d)
+of_rules_waits block n d (Some r) = first_waits (record { 0 = n }) r.vars r.saves (initial_in block d)
 
 initial_waits : (block : BlockId) (rules : List Rules) (n : ℕ) (ds : List ProcessSet) → waiting (initial_instances block rules n ds) ≡ 0
 initial_waits block rules n [] = refl

@@ -5,6 +5,7 @@ ghost use Rattle.sdl_behaviour.specs.Transitions.{IsAllowed, IsAllowedBehaviour}
 use crate::agents::Agents;
 use crate::transition::Transition;
 use arrayvec::ArrayVec;
+use sdl_saves::Save;
 use sdl_signal::{Name, SetId, SignalId, StateId, Value};
 use std::alloc::{AllocError, Global};
 
@@ -35,7 +36,8 @@ pub struct Row<S> {
 }
 
 /// What the instances of a set do: the names that are meant, the initial variables, the names of the states, and the
-/// start transition; and a row for each state and signal that it does not leave to the implicit transition.
+/// start transition; a row for each state and signal that it does not leave to the implicit transition; and the signals
+/// that its states save.
 #[derive(Drop)]
 pub struct Behaviour<S> {
     pub set: SetId,
@@ -44,10 +46,11 @@ pub struct Behaviour<S> {
     pub states: ArrayVec<Name, 16>,
     pub start: Transition<S>,
     pub rows: Vec<Row<S>>,
+    pub saves: Vec<Save>,
 }
 
 impl<S: Agents> Behaviour<S> {
-    /// A behaviour with neither uses nor rows. No memory is taken.
+    /// A behaviour with neither uses, rows nor saves. No memory is taken.
     pub fn new(
         alloc: Global,
         set: SetId,
@@ -62,6 +65,7 @@ impl<S: Agents> Behaviour<S> {
         ensures start { result.start ≡ start }
         ensures uses { result.uses.items ≡ [] }
         ensures rows { result.rows.items ≡ [] }
+        ensures saves { result.saves.items ≡ [] }
         ensures allowed { IsAllowedBehaviour S.may result }
     {
         Behaviour {
@@ -71,6 +75,7 @@ impl<S: Agents> Behaviour<S> {
             states,
             start,
             rows: Vec::new(alloc),
+            saves: Vec::new(alloc),
         }
     }
 
@@ -100,6 +105,23 @@ impl<S: Agents> Behaviour<S> {
         match self.rows.push(row) {
             Ok(()) => Ok(()),
             Err(failed) => Err((failed.value, AllocError)),
+        }
+    }
+
+    /// Adds that the state saves the signal (Z.101, save), or hands both back for want of memory. Then nothing changes.
+    pub fn add_save(
+        &mut self,
+        state: StateId,
+        signal: SignalId,
+    ) -> Result<(), (StateId, SignalId, AllocError)>
+        requires { vec_len self.old.saves < 256 }
+        ensures saves { self.new.saves.items ≡ (if is_ok result then self.old.saves.items ++ record { state = state; signal = signal } ∷ [] else self.old.saves.items) }
+        ensures returned { IfErr result (λ e. (e.0 ≡ state) × (e.1 ≡ signal)) }
+        ensures same { self.new ≡ record self.old { saves = self.new.saves } }
+    {
+        match self.saves.push(Save { state, signal }) {
+            Ok(()) => Ok(()),
+            Err(_) => Err((state, signal, AllocError)),
         }
     }
 }

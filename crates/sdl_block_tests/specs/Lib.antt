@@ -1,1 +1,2 @@
 pub mod AtWork
+pub mod Ways

@@ -1,5 +1,5 @@
-//! A block at work: steps of the block P of Ring, over a board and through its own ends, and a hand put out over the board of
-//! Ring.
+//! A block at work, with refused memory and through ends of its own: its core, its steps over a board, and what it has in hand;
+//! and forwarders, and the ends of all workers.
 #![tactic(auto)]
 
 #[cfg(test)]
@@ -7,7 +7,13 @@ mod acts;
 #[cfg(test)]
 mod apart;
 #[cfg(test)]
+mod cores;
+#[cfg(test)]
+mod forwarding;
+#[cfg(test)]
 mod hands;
+#[cfg(test)]
+mod opening;
 #[cfg(test)]
 mod plan;
 #[cfg(test)]

@@ -65,41 +65,6 @@ fn pass_three(rt: &impl Abort, alloc: Global) -> Result<(), Stop> {
     run(rt, alloc, &plan)
 }
 
-#[test]
-fn a_block_passes_on_until_its_budget_is_used(rt: HostRuntime) -> Result<(), Fail> {
-    pass_three(&rt, rt.alloc())?;
-    Ok(())
-}
-
-// An item that the inlet of P should not have had: its route leads to the other block.
-#[test]
-fn an_item_that_may_not_arrive_is_kept(rt: HostRuntime) -> Result<(), Fail> {
-    let lost = Token {
-        route: THERE,
-        ..back(0)
-    };
-    let acts = [
-        Act::Step(0, Stepped::Did),
-        leaves(0),
-        Act::Comes(lost),
-        Act::Comes(back(1)),
-        Act::Step(0, Stepped::Memory),
-        Act::Step(0, Stepped::Memory),
-        Act::Counts(1, 0, true),
-        Act::Finds(out_of_p(), None),
-        Act::Finds(inlet_of_p(), Some(back(1))),
-        Act::Finds(inlet_of_p(), None),
-        Act::Step(0, Stepped::Memory),
-    ];
-    let plan = Plan {
-        budget: 2,
-        acts: &acts,
-        keeps: Some(lost),
-    };
-    run(&rt, rt.alloc(), &plan)?;
-    Ok(())
-}
-
 // Run it with each allocation refused in turn: a refused step that is made again gives what it would have, and a refused put
 // hands back its item. Refusals before there is a block are met by beginning again.
 #[test]

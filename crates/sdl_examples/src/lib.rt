@@ -1,4 +1,4 @@
-//! The structure files of four small systems, as texts: those of the folder `examples`, in a shorter layout.
+//! The structure files of five small systems, as texts: those of the folder `examples`, in a shorter layout.
 #![tactic(auto)]
 
 pub const ECHO: &str = "version = 1
@@ -103,4 +103,17 @@ name = 'Q'
 gate = [{ name = 'g', inward = ['tok'], outward = ['tok'] }]
 set = [{ name = 'Y', gate = [{ name = 'g', inward = ['tok'], outward = ['tok'] }] }]
 channel = [{ name = 'q', ends = ['env.g', 'Y.g'], forth = ['tok'], back = ['tok'] }]
+";
+
+pub const HOLD: &str = "version = 1
+system = 'Hold'
+signal = [{ name = 'data', sorts = ['Integer'] }, { name = 'go' }, { name = 'halt' }, { name = 'out', sorts = ['Integer'] }]
+gate = [{ name = 'line', inward = ['data', 'go', 'halt'], outward = ['out'] }]
+channel = [{ name = 'c0', ends = ['env.line', 'B.g'], forth = ['data', 'go', 'halt'], back = ['out'] }]
+
+[[block]]
+name = 'B'
+gate = [{ name = 'g', inward = ['data', 'go', 'halt'], outward = ['out'] }]
+set = [{ name = 'H', gate = [{ name = 'p', inward = ['data', 'go', 'halt'], outward = ['out'] }] }]
+channel = [{ name = 'c1', ends = ['env.g', 'H.p'], forth = ['data', 'go', 'halt'], back = ['out'] }]
 ";

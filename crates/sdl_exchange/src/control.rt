@@ -32,6 +32,7 @@ pub const SWITCH: SetDesign = SetDesign {
     name: "Switch",
     states: &["ready"],
     variables: &[],
+    saves: &[],
     transitions: SWITCH_TRANSITIONS as usize,
 };
 
@@ -42,6 +43,7 @@ pub const CALLS: SetDesign = SetDesign {
     name: "Call",
     states: &["waiting", "alerting", "ringing", "connected"],
     variables: &[Value::Pid(Pid::Null), Value::Pid(Pid::Null)],
+    saves: &[],
     transitions: CALL_TRANSITIONS as usize,
 };
 

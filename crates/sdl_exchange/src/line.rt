@@ -37,6 +37,7 @@ pub const LINE_A: SetDesign = SetDesign {
     name: "LineA",
     states: &STATES,
     variables: &VARIABLES,
+    saves: &[],
     transitions: TRANSITIONS as usize,
 };
 

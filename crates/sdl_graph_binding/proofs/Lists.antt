@@ -44,6 +44,12 @@ pub uses_on : {A B C : Type 0} (f : A → C) (g : B → C) (all more made : List
 uses_on f g all more made b uses rest next last first =
     next ∙ ap (λ l. l ++ map g rest) last ∙ append_assoc (map f made) (g b ∷ []) (map g rest) ∙ ap (λ l. map f made ++ map g l) (sym first)
 
+-- what the states of a design save, one after the other
+pub saves_on : {A C : Type 0} (f : A → C) (all more made : List A) (save : C) (saves rest : List C)
+    → map f all ≡ map f more ++ rest → map f more ≡ map f made ++ save ∷ [] → saves ≡ save ∷ rest → map f all ≡ map f made ++ saves
+saves_on f all more made save saves rest next last first =
+    next ∙ ap (λ l. l ++ rest) last ∙ append_assoc (map f made) (save ∷ []) rest ∙ ap (λ l. map f made ++ l) (sym first)
+
 module _ {S I : Type 0} {F : I → Type 0} {g : _} where
   -- a behaviour behind the others
   pub transitions_last : (made : List (Behaviour S I F g)) (b : Behaviour S I F g) → all_transitions (made ++ b ∷ []) ≡ all_transitions made ++ transitions_in b

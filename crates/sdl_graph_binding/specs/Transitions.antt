@@ -2,7 +2,10 @@
 use Rattle.std.specs.Prelude.{◌≡◌, ℕ, ◌+◌, List, [], ◌∷◌, ◌++◌, length, map, Option, Some, option_map, slice_get, ◌⊎◌}
 use Rattle.std.specs.Borrow.{Bor}
 use Rattle.sdl_parts.specs.Structure.{Structure}
+use Rattle.sdl_signal.specs.declared.ids.StateId.{StateId}
+use Rattle.sdl_signal.specs.declared.ids.SignalId.{SignalId}
 use Rattle.sdl_signal.specs.declared.values.Value.{Value}
+use Rattle.sdl_saves.specs.declared.save.Save.{Save}
 use Rattle.sdl_behaviour.specs.declared.offer.Offer.{Offer}
 use Rattle.sdl_behaviour.specs.declared.transition.Transition.{Transition}
 use Rattle.sdl_behaviour.specs.declared.behaviour.Kind.{Kind}
@@ -48,12 +51,17 @@ use_meant u = record { kind = u.0; number = u.1; name = u.2.now }
 abbrev pub use_made : Named → UseParts
 use_made n = record { kind = n.kind; number = n.number; name = n.name.bytes }
 
--- What the designer says of a set: its name, the names of its states, its variables, and how many transitions it has. The
--- numbers that the graph uses are those of all its sets.
+-- such a save of a behaviour
+abbrev pub save_made : Save → StateId × SignalId
+save_made s = (s.state, s.signal)
+
+-- What the designer says of a set: its name, the names of its states, its variables, what its states save, and how many
+-- transitions it has. The numbers that the graph uses are those of all its sets.
 pub record SetParts : Type 0 where
   pub name : Option (List ℕ)
   pub states : List (List ℕ)
   pub variables : List Value
+  pub saves : List (StateId × SignalId)
   pub transitions : ℕ
   pub uses : List UseParts
 
@@ -62,6 +70,7 @@ meant uses d = record {
   name = Some d.name.now;
   states = map (λ t. t.now) d.states.now;
   variables = d.variables.now;
+  saves = d.saves.now;
   transitions = d.transitions;
   uses = map use_meant uses;
 }
@@ -72,6 +81,7 @@ made_as s b = record {
   name = option_map (λ t. t.name.bytes) (slice_get s.sets b.set.0);
   states = map (λ n. n.bytes) b.states.items;
   variables = b.vars.items;
+  saves = map save_made b.saves.items;
   transitions = length b.rows.items + 1;
   uses = map use_made b.uses.items;
 }

@@ -9,7 +9,7 @@ ghost use Rattle.sdl_graph_binding.specs.Transitions.{transitions_in, all_transi
 
 use crate::agents::GraphAgents;
 use crate::faults::GraphFault;
-use crate::set_behaviour::{set_named, take_first, with_rows, with_states, with_uses};
+use crate::set_behaviour::{set_named, take_first, with_rows, with_saves, with_states, with_uses};
 use crate::sets::{Design, SetDesign, Use};
 use arrayvec::ArrayVec;
 use sdl_behaviour::{Behaviour, Transition};
@@ -62,7 +62,8 @@ fn behaviour_of<G: Graph>(
     }
     let start = take_first(left);
     let behaviour = Behaviour::new(alloc, id, variables, states, start);
-    with_rows(with_uses(behaviour, uses)?, left, set.transitions - 1)
+    let behaviour = with_saves(with_uses(behaviour, uses)?, set.saves)?;
+    with_rows(behaviour, left, set.transitions - 1)
 }
 
 /// The behaviours with one more.

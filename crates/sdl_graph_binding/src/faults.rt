@@ -24,6 +24,8 @@ pub enum GraphFault {
     FewTransitions(SetId),
     /// The design says that the set has over 256 rows.
     ManyRows(SetId),
+    /// The design says that the set has over 256 saves.
+    ManySaves(SetId),
     /// The graph has more transitions than the sets of the design.
     ManyTransitions,
     /// A fault of binding.

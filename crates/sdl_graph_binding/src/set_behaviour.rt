@@ -3,7 +3,7 @@ ghost use Rattle.std.specs.Prelude.{◌≡◌, ◌+◌, ◌<◌, ◌≤◌, [], 
 ghost use Rattle.std.specs.List.{AllByRecursion};
 ghost use Rattle.sdl_signal.specs.Reading.{IsNamedAt, IsNowhere};
 ghost use Rattle.sdl_behaviour.specs.Transitions.{IsAllowedBehaviour};
-ghost use Rattle.sdl_graph_binding.specs.Transitions.{IsByOffer, transitions_in, use_meant, use_made};
+ghost use Rattle.sdl_graph_binding.specs.Transitions.{IsByOffer, transitions_in, use_meant, use_made, save_made};
 
 use crate::agents::GraphAgents;
 use crate::faults::GraphFault;
@@ -13,7 +13,8 @@ use sdl_behaviour::{Behaviour, Named, Row, Transition};
 use sdl_graph::Graph;
 use sdl_parts::Set;
 use sdl_parts::limits::{MOST_ROWS, MOST_USES};
-use sdl_signal::{Name, name};
+use sdl_saves::MOST_SAVES;
+use sdl_signal::{Name, SignalId, StateId, name};
 
 /// The place of the first set whose name is `text`.
 fn place_of_set(sets: &[Set], text: &str) -> Option<usize>
@@ -87,6 +88,42 @@ pub fn with_uses<G: Graph>(
     match uses {
         [] => Ok(behaviour),
         [one, rest @ ..] => with_uses(with_use(behaviour, *one)?, rest),
+    }
+}
+
+fn with_save<G: Graph>(
+    behaviour: Behaviour<GraphAgents<G>>,
+    save: (StateId, SignalId),
+) -> Result<Behaviour<GraphAgents<G>>, GraphFault>
+    requires { IsAllowedBehaviour (λ _ _ _. Unit {0}) behaviour }
+    ensures allowed { IfOk result (IsAllowedBehaviour (λ _ _ _. Unit {0})) }
+    ensures added { IfOk result (λ b. map save_made b.saves.items ≡ map save_made behaviour.saves.items ++ save ∷ []) }
+    ensures same { IfOk result (λ b. b ≡ record behaviour { saves = b.saves }) }
+{
+    let mut behaviour = behaviour;
+    if behaviour.saves.len() >= MOST_SAVES {
+        return Err(GraphFault::ManySaves(behaviour.set));
+    }
+    let (state, signal) = save;
+    match behaviour.add_save(state, signal) {
+        Ok(()) => Ok(behaviour),
+        Err(_) => Err(GraphFault::Memory),
+    }
+}
+
+/// The behaviour with these saves too.
+pub fn with_saves<G: Graph>(
+    behaviour: Behaviour<GraphAgents<G>>,
+    saves: &[(StateId, SignalId)],
+) -> Result<Behaviour<GraphAgents<G>>, GraphFault>
+    requires { IsAllowedBehaviour (λ _ _ _. Unit {0}) behaviour }
+    ensures allowed { IfOk result (IsAllowedBehaviour (λ _ _ _. Unit {0})) }
+    ensures saves { IfOk result (λ b. map save_made b.saves.items ≡ map save_made behaviour.saves.items ++ saves.now) }
+    ensures same { IfOk result (λ b. b ≡ record behaviour { saves = b.saves }) }
+{
+    match saves {
+        [] => Ok(behaviour),
+        [one, rest @ ..] => with_saves(with_save(behaviour, *one)?, rest),
     }
 }
 

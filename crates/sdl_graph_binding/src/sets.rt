@@ -1,17 +1,18 @@
 //! What a designer says of the sets of a graph.
 use sdl_behaviour::Kind;
-use sdl_signal::Value;
+use sdl_signal::{SignalId, StateId, Value};
 
 /// A number that the graph uses, with the name that it means by it.
 pub type Use<'a> = (Kind, u32, &'a str);
 
 /// A set of process instances: its name in the structure, the names of its states by number, and its initial variables;
-/// how many transitions it has, the start and then its rows.
+/// which signals its states save; how many transitions it has, the start and then its rows.
 #[derive(Clone, Copy)]
 pub struct SetDesign<'a> {
     pub name: &'a str,
     pub states: &'a [&'a str],
     pub variables: &'a [Value],
+    pub saves: &'a [(StateId, SignalId)],
     pub transitions: usize,
 }
 

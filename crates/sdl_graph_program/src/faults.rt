@@ -39,6 +39,9 @@ pub fn write_graph_fault<E: Write>(errors: &mut E, design: &Design, fault: Graph
         GraphFault::ManyRows(set) => {
             write_error(errors, format_args!("G9 ManyRows set {}", set.0))
         }
+        GraphFault::ManySaves(set) => {
+            write_error(errors, format_args!("G11 ManySaves set {}", set.0))
+        }
         GraphFault::ManyTransitions => write_error(errors, "G10 ManyTransitions"),
         GraphFault::Bind(fault) => write_bind_fault(errors, fault),
         GraphFault::Memory => without_memory(errors),

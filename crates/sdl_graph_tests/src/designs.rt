@@ -3,7 +3,7 @@ use super::pair::{ASKER, DESIGN, PAIR, TELLER};
 use super::storing::{BoundSet, Unfit, bind_pair};
 use sdl_behaviour::Kind;
 use sdl_graph_binding::{Design, GraphFault, SetDesign};
-use sdl_signal::{SetId, Value};
+use sdl_signal::{SetId, SignalId, StateId, Value};
 use sdl_transition::BindFault;
 use std::alloc::Global;
 use std::test::Fail;
@@ -18,13 +18,13 @@ fn sets_go_by_their_names(rt: HostRuntime) -> Result<(), Fail> {
         set: 1,
         start: 0,
         row: Some(1),
-        counts: (1, 2, 1),
+        counts: (1, 2, 1, 0),
     };
     let asker = BoundSet {
         set: 0,
         start: 2,
         row: Some(3),
-        counts: (1, 1, 0),
+        counts: (1, 1, 0, 0),
     };
     assert!(rt; sets.len() == 2);
     assert!(rt; sets.as_slice().contains(&teller));
@@ -107,6 +107,62 @@ fn nine_variables_are_too_many(rt: HostRuntime) -> Result<(), Fail> {
     };
     let fault = fault_of_sets(rt.alloc(), &[nine, ASKER], NUMBERS.as_slice());
     assert!(rt; fault == Some(GraphFault::ManyVariables(0)));
+    Ok(())
+}
+
+/// The fault of an asker with these saves.
+fn fault_of_saves(alloc: Global, saves: &[(StateId, SignalId)]) -> Option<GraphFault> {
+    let asker = SetDesign { saves, ..ASKER };
+    fault_of_sets(alloc, &[TELLER, asker], NUMBERS.as_slice())
+}
+
+/// The asker is set 0. It has a row for `ask` in its one state.
+#[test]
+fn saves_that_do_not_fit_are_named(rt: HostRuntime) -> Result<(), Fail> {
+    let many = [(StateId(0), SignalId(1)); 257];
+    let fault = fault_of_saves(rt.alloc(), many.as_slice());
+    assert!(rt; fault == Some(GraphFault::ManySaves(SetId(0))));
+    for (saves, wanted) in [
+        (&many[..256], Some(BindFault::TwoRows(SetId(0)))),
+        (
+            &[(StateId(0), SignalId(0))],
+            Some(BindFault::TwoRows(SetId(0))),
+        ),
+        (
+            &[(StateId(0), SignalId(2))],
+            Some(BindFault::WrongName(SetId(0))),
+        ),
+        (
+            &[(StateId(1), SignalId(1))],
+            Some(BindFault::UnknownState(SetId(0))),
+        ),
+        (&many[..1], None),
+    ] {
+        let fault = fault_of_saves(rt.alloc(), saves);
+        assert!(rt; fault == wanted.map(|fault| GraphFault::Bind(fault)));
+    }
+    Ok(())
+}
+
+/// What is saved is bound with its set.
+#[test]
+fn saves_are_bound(rt: HostRuntime) -> Result<(), Fail> {
+    let teller = SetDesign {
+        saves: &[(StateId(1), SignalId(0)), (StateId(0), SignalId(1))],
+        ..TELLER
+    };
+    let design = Design {
+        sets: &[teller, ASKER],
+        ..DESIGN
+    };
+    let sets = bind_pair(rt.alloc(), PAIR, &design, NUMBERS.as_slice())?;
+    let saving = BoundSet {
+        set: 1,
+        start: 0,
+        row: Some(1),
+        counts: (1, 2, 1, 2),
+    };
+    assert!(rt; sets.as_slice().contains(&saving));
     Ok(())
 }
 

@@ -1,15 +1,9 @@
 //! Echo as a graph, and in it an Echo whose row does not offer its output, and two that put their steps together in place.
-ghost use Rattle.sdl_file_commands.specs.Running.{CanRun};
-
-use super::graphs::{ECHO_FROM, Graphs};
+use super::graphs::ECHO_FROM;
 use sdl_graph_program::{
-    Design, Dest, Frame, Kind, Offer, OfferBuilder, Prepared, Run, SetDesign, SignalId, Sort,
-    StateId, Step, StepBuilder, Stored, Value, Via, in_place, integer_parameter, no_offer, no_step,
-    run_prepared,
+    Design, Dest, Frame, Kind, Offer, OfferBuilder, SetDesign, SignalId, Sort, StateId, Step,
+    StepBuilder, Value, Via, in_place, integer_parameter, no_offer, no_step,
 };
-use std::alloc::Global;
-use std::sync::Wait;
-use std::thread::Threads;
 
 const PING: SignalId = SignalId(0);
 
@@ -83,6 +77,7 @@ pub const SET: SetDesign = SetDesign {
     name: "E",
     states: &["idle"],
     variables: &[],
+    saves: &[],
     transitions: 2,
 };
 
@@ -94,53 +89,3 @@ pub const DESIGN: Design = Design {
     ],
     sets: &[SET],
 };
-
-/// What a run wrote and answered.
-#[derive(Drop)]
-pub struct Ran {
-    pub status: u8,
-    pub output: Vec<u8>,
-    pub errors: Vec<u8>,
-}
-
-/// Runs the Echo whose start has this number.
-pub fn run_echo<T: Threads + Wait + Sync>(
-    rt: &T,
-    alloc: Global,
-    prepared: Prepared,
-    start: u32,
-    lines: &[u8],
-) -> Ran
-    requires { CanRun prepared.checked prepared.routes }
-{
-    let mut stored: Stored<Graphs> = Stored::new(alloc);
-    for place in 0..2 {
-        let number = start.saturating_add(place);
-        let Some(own) = stored.answering(number) else {
-            break;
-        };
-        let offer = own.offer();
-        let run: Run = match Box::new(alloc, move |frame: &Frame| own.answer(frame)) {
-            Ok(run) => run,
-            Err(_) => break,
-        };
-        stored.keep(number, offer, run);
-    }
-    let mut input = lines;
-    let mut output = Vec::new(alloc);
-    let mut errors = Vec::new(alloc);
-    let status = run_prepared(
-        rt,
-        prepared,
-        &DESIGN,
-        stored,
-        &mut input,
-        &mut output,
-        &mut errors,
-    );
-    Ran {
-        status,
-        output,
-        errors,
-    }
-}

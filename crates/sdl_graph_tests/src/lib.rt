@@ -21,15 +21,21 @@ mod graphs;
 #[cfg(test)]
 mod light;
 #[cfg(test)]
+mod office;
+#[cfg(test)]
 mod pair;
 #[cfg(test)]
 mod programs;
 #[cfg(test)]
 mod reading;
 #[cfg(test)]
+mod running;
+#[cfg(test)]
 mod runs;
 #[cfg(test)]
 mod sample;
+#[cfg(test)]
+mod saving;
 #[cfg(test)]
 mod storing;
 #[cfg(test)]

@@ -124,6 +124,7 @@ pub const TELLER: SetDesign = SetDesign {
     name: "Teller",
     states: &["idle", "done"],
     variables: &[Value::Integer(0)],
+    saves: &[],
     transitions: 2,
 };
 
@@ -131,6 +132,7 @@ pub const ASKER: SetDesign = SetDesign {
     name: "Asker",
     states: &["idle"],
     variables: &[],
+    saves: &[],
     transitions: 2,
 };
 

@@ -1,28 +1,9 @@
 //! Runs of Echo as a graph, with their statuses.
-ghost use Rattle.std.specs.Prelude.{IfOk};
-ghost use Rattle.sdl_file_commands.specs.Running.{CanRun};
-
-use super::echo::{ABSENT, FILLED, MENDED, MUTE, SOUND, run_echo};
-use sdl_command::arguments::{Command, Options};
+use super::echo::{ABSENT, DESIGN, FILLED, MENDED, MUTE, SOUND};
+use super::running::{How, prepare_text, run_design};
 use sdl_examples::ECHO;
-use sdl_graph_program::{BROKEN, Prepared, prepare_file};
-use std::alloc::Global;
+use sdl_graph_program::BROKEN;
 use std::test::Fail;
-
-/// What a run on Echo's file prepares.
-fn prepare_echo(alloc: Global, books: bool) -> Result<Prepared, u8>
-    ensures { IfOk result (λ p. CanRun p.checked p.routes) }
-{
-    let options = Options {
-        command: Command::Run,
-        serial: true,
-        ledger: books,
-        trace: books,
-    };
-    let mut output: Vec<u8> = Vec::new(alloc);
-    let mut errors: Vec<u8> = Vec::new(alloc);
-    prepare_file(alloc, ECHO.as_bytes(), options, &mut output, &mut errors)
-}
 
 const PINGS: &[u8] = b"line ping 7\nline ping -1\n";
 
@@ -103,9 +84,14 @@ const TRIALS: [Trial; 6] = [
 #[test]
 fn an_echo_runs_as_it_offers(rt: HostRuntime) -> Result<(), Fail> {
     for trial in TRIALS {
-        match prepare_echo(rt.alloc(), trial.books) {
+        let how = How {
+            serial: true,
+            ledger: trial.books,
+            trace: trial.books,
+        };
+        match prepare_text(rt.alloc(), ECHO, how) {
             Ok(prepared) => {
-                let ran = run_echo(&rt, rt.alloc(), prepared, trial.start, trial.lines);
+                let ran = run_design(&rt, prepared, &DESIGN, trial.start, 2, trial.lines);
                 assert!(rt; ran.status == trial.status);
                 assert!(rt; ran.output.as_slice() == trial.output);
                 assert!(rt; ran.errors.as_slice() == trial.errors);

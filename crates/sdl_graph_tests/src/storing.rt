@@ -6,14 +6,14 @@ use sdl_test_systems::{Stop, routes_of};
 use std::alloc::{AllocError, AllocFailed, Global};
 use std::test::Fail;
 
-/// A set of a bound system: its number, the numbers of its start transition and of its first row, and how many rows,
-/// states and variables it has.
+/// A set of a bound system: its number, the numbers of its start transition and of its first row, and how many rows, states,
+/// variables and saves it has.
 #[derive(Clone, Copy, Debug, PartialEq, Eq)]
 pub struct BoundSet {
     pub set: u32,
     pub start: u32,
     pub row: Option<u32>,
-    pub counts: (usize, usize, usize),
+    pub counts: (usize, usize, usize, usize),
 }
 
 /// Why nothing was bound.
@@ -60,6 +60,7 @@ fn bound_set(behaviour: &Behaviour<GraphAgents<Graphs>>) -> BoundSet {
             behaviour.rows.len(),
             behaviour.states.len(),
             behaviour.vars.len(),
+            behaviour.saves.len(),
         ),
     }
 }

@@ -9,6 +9,7 @@ const NO_TRANSITION: SetDesign = SetDesign {
     name: "F",
     states: &[],
     variables: &[],
+    saves: &[],
     transitions: 0,
 };
 
@@ -16,6 +17,7 @@ const THREE_TRANSITIONS: SetDesign = SetDesign {
     name: "Flash",
     states: &[],
     variables: &[],
+    saves: &[],
     transitions: 3,
 };
 
@@ -76,6 +78,7 @@ fn each_fault_has_its_text(rt: HostRuntime) -> Result<(), Fail> {
         ),
         (GraphFault::ManyRows(SetId(1)), "G9 ManyRows set 1\n"),
         (GraphFault::ManyTransitions, "G10 ManyTransitions\n"),
+        (GraphFault::ManySaves(SetId(1)), "G11 ManySaves set 1\n"),
         (
             GraphFault::Bind(BindFault::WrongName(SetId(0))),
             "B3 WrongName set 0\n",

@@ -198,6 +198,7 @@ pub const DESIGN: Design = Design {
             "p14", "p15",
         ],
         variables: &[Value::Integer(0)],
+        saves: &[],
         transitions: 50,
     }],
 };

@@ -23,7 +23,9 @@ use Rattle.sdl_log.specs.declared.event.Event.{Event}
 use Rattle.sdl_log.specs.declared.event.Event.TheVariants as event
 use Rattle.sdl_log.specs.declared.event.Arrival.{Arrival}
 use Rattle.sdl_log.specs.declared.event.Arrival.TheVariants as arrival
-use Rattle.sdl_processes.specs.Record.{Record}
+use Rattle.sdl_saves.specs.Saves.{IsInRange}
+use Rattle.sdl_processes.specs.Ports.{AllSaved}
+use Rattle.sdl_processes.specs.Record.{Record, saved_now}
 use Rattle.sdl_transition.specs.Rules.{Rules, RowRule, rules_for}
 use Rattle.sdl_instances.specs.Legal.{IsLegal}
 use Rattle.sdl_processes.specs.Places.{is_of}
@@ -51,9 +53,9 @@ abbrev pub arrival_event : Item → Arrival → Event
 arrival_event i (arrival.Entered p) = event.Entered i p
 arrival_event i (arrival.Discarded c) = event.Discarded i c
 
--- an instance is ready: it has not started, or its port is not empty
+-- an instance is ready: it has not started, or not all signals of its port are saved in its state
 abbrev pub IsReady : Pid → State → Type 0
-IsReady p s = (r : Record) × LivesAs s p r × ((r.state ≡ None) ⊎ (r.port ≡ [] → ⊥))
+IsReady p s = (r : Record) × LivesAs s p r × ((r.state ≡ None) ⊎ (AllSaved (saved_now r) r.port → ⊥))
 
 -- p is the living instance of the set before which k others of it were created
 abbrev pub IsLivingAt : SetId → State → ℕ → Pid → Type 0
@@ -96,12 +98,14 @@ pub record IsRowIn (signals : List (List Sort)) (sets : List ProcessSet) (block 
   pub state : r.rule.offer.state ≡ Some r.state
   pub signal : (offered : SignalSorts) × (r.rule.offer.signal ≡ Some offered) × (offered.id ≡ r.signal) × HasSortsIn signals offered
 
--- the rules of a set are of the system: the initial variables name no instance of another system
+-- The rules of a set are of the system: the initial variables name no instance of another system. What is saved are signals
+-- that can be, in states that can be.
 pub record AreRulesIn (signals : List (List Sort)) (sets : List ProcessSet) (block : BlockId) (r : Rules) : Type 0 where
   pub values : All (IsLegalValue (length sets)) r.vars
   pub start : IsOfferIn signals sets block r.vars r.start.offer
   pub at_start : (r.start.offer.state ≡ None) × (r.start.offer.signal ≡ None)
   pub rows : AllByRecursion (IsRowIn signals sets block r.vars) r.rows
+  pub saves : All IsInRange r.saves
 
 -- Each set of the block has rules, and all the rules are of the system. A set has at most 1,024 instances, and no
 -- more at first.
@@ -116,10 +120,10 @@ HasSerial last (pid.Inst set serial) = (set.0 < length last) × (1 ≤ serial) �
 HasSerial last pid.Null = ⊥
 HasSerial last pid.Env = ⊥
 
--- A living instance is legal: its set has rules; its variables have their sorts; the items of its port are legal. Each Pid
--- that it knows has a set of the structure and a serial number of at least 1.
+-- A living instance is legal: its set has rules, which say what its states save; its variables have their sorts; the items of
+-- its port are legal. Each Pid that it knows has a set of the structure and a serial number of at least 1.
 pub record IsLegalInstance (sys : System) (last : List ℕ) (e : Pid × Record) : Type 0 where
-  pub rules : (r : Rules) × (rules_at sys e.0 ≡ Some r) × (map sort_of e.1.vars ≡ map sort_of r.vars)
+  pub rules : (r : Rules) × (rules_at sys e.0 ≡ Some r) × (map sort_of e.1.vars ≡ map sort_of r.vars) × (e.1.saves ≡ r.saves)
   pub serial : HasSerial last e.0
   pub values : All (IsLegalValue (length sys.sets)) e.1.vars
   pub port : All (IsLegalIn sys) e.1.port

@@ -9,3 +9,4 @@ pub mod Spawn
 pub mod Living
 pub mod Turning
 pub mod Arriving
+pub mod Saved

@@ -55,7 +55,8 @@ fn act<S: Agents>(
         }
         Action::Create(set) => {
             let vars = actor.parts.variables(*set);
-            done.push(Done::Made(living.create(sets, actor.place, *set, vars)));
+            let saves = actor.parts.saves(*set);
+            done.push(Done::Made(living.create(sets, actor.place, *set, vars, saves)));
             mark
         }
     }

@@ -128,9 +128,9 @@ impl<S: Agents, K: Keeps> BlockCore<S, K> {
     }
 
     /// Lets the ready instance at `pick` modulo their number, in order of creation, make a turn: its start transition, or the
-    /// consuming of the signal at the front of its port. That signal is consumed by its row or by the implicit transition
-    /// (Z.101, the transition of an agent). Each counts one against the budget. The outputs take the fitting route at the
-    /// same pick. A refusal changes nothing.
+    /// consuming of a signal. That is the first signal of its port that its state does not save (Z.101, save). It is
+    /// consumed by its row or by the implicit transition (Z.101, the transition of an agent). Each counts one against the
+    /// budget. The outputs take the fitting route at the same pick. A refusal changes nothing.
     pub fn turn(&mut self, routes: &Routes, pick: u32) -> Result<Turned, AllocError>
         requires sound { IsSound S.may (system_in self.old routes.now) (core_of self.old) }
         requires parts { CanFire S.may (parts_of self.old) }

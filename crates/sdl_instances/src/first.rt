@@ -1,9 +1,10 @@
 //! The initial instances of a block, and what a core keeps of the structure.
-ghost use Rattle.std.specs.Prelude.{◌≡◌, ◌++◌, ◌<◌, ◌≤◌, [], OnOk, IfOk, map, length, option_map, option_copied, false, slice_get};
+ghost use Rattle.std.specs.Prelude.{◌≡◌, ◌++◌, ◌<◌, ◌≤◌, [], All, OnOk, IfOk, map, length, option_map, option_copied, false, slice_get};
 ghost use Rattle.sdl_instances.specs.Core.{numbers_of};
 ghost use Rattle.sdl_processes.specs.Places.{is_of};
 ghost use Rattle.sdl_instances.specs.Run.{first_instances, initial_instances, initial_of, initial_in};
-ghost use Rattle.sdl_transition.specs.Rules.{rules_for, rules_of, block_rules};
+ghost use Rattle.sdl_saves.specs.Saves.{IsInRange};
+ghost use Rattle.sdl_transition.specs.Rules.{Rules, rules_for, rules_of, block_rules};
 ghost use Rattle.std.specs.List.{AllByRecursion};
 
 use crate::process_set::ProcessSet;
@@ -12,6 +13,7 @@ use indexmap::IndexMap;
 use sdl_parts::{Set, SignalDecl};
 use sdl_processes::Instance;
 use sdl_processes::copies::{copied_sorts, copied_values};
+use sdl_saves::StateSaves;
 use sdl_signal::{BlockId, Pid, SetId, Sort, Value};
 use sdl_transition::{Behaviour, BlockParts};
 use std::alloc::{AllocError, Global};
@@ -94,13 +96,15 @@ fn add_first(
     living: &mut IndexMap<Pid, Instance>,
     set: SetId,
     vars: &ArrayVec<Value, 8>,
+    saves: &StateSaves,
     count: u32,
 ) -> Result<(), AllocError>
     requires { AllByRecursion (λ e. is_of set e.0 ≡ false) living.old.entries }
-    ensures { OnOk result (living.new.entries ≡ living.old.entries ++ first_instances set vars.now.items count) }
+    ensures { OnOk result (living.new.entries ≡ living.old.entries ++ first_instances set vars.now.items saves.now count) }
 {
     for made in 0..count {
-        let instance = Instance::new(alloc, copied_values(vars.as_slice()), Pid::Null);
+        let variables = copied_values(vars.as_slice());
+        let instance = Instance::new(alloc, variables, saves.copied(), Pid::Null);
         match living.insert(Pid::Inst(set, made + 1), instance) {
             Ok(_) => {}
             Err(_) => return Err(AllocError),
@@ -117,7 +121,8 @@ fn add_initial<S>(
     set: SetId,
     numbers: &ProcessSet,
 ) -> Result<(), AllocError>
-    requires { AllByRecursion (λ e. is_of set e.0 ≡ false) living.old.entries }
+    requires others { AllByRecursion (λ e. is_of set e.0 ≡ false) living.old.entries }
+    requires saves { AllByRecursion (λ (r : Rules). All IsInRange r.saves) (block_rules parts.now) }
     ensures { OnOk result (living.new.entries ≡ living.old.entries ++ initial_of parts.now.block (block_rules parts.now) set.0 numbers.now) }
 {
     match behaviour_of(parts, set) {
@@ -126,6 +131,7 @@ fn add_initial<S>(
             living,
             set,
             &behaviour.vars,
+            &StateSaves::of(behaviour.saves.as_slice()),
             first_in(parts.block, numbers),
         ),
         None => Ok(()),
@@ -138,7 +144,8 @@ pub fn first_living<S>(
     parts: &BlockParts<S>,
     sets: &[ProcessSet],
 ) -> Result<IndexMap<Pid, Instance>, AllocError>
-    requires { length sets.now ≤ 64 }
+    requires sets { length sets.now ≤ 64 }
+    requires saves { AllByRecursion (λ (r : Rules). All IsInRange r.saves) (block_rules parts.now) }
     ensures { IfOk result (λ m. m.entries ≡ initial_instances parts.now.block (block_rules parts.now) 0 sets.now) }
 {
     let mut living = IndexMap::new(alloc);

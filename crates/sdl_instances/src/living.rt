@@ -1,10 +1,11 @@
 //! The living instances of a block.
-ghost use Rattle.std.specs.Prelude.{◌≡◌, ◌+◌, ◌<◌, ◌≤◌, ◌^◌, ◌∷◌, List, length, slice_index, OnOk, OnErr, IfOk, IfErr, None, ◌++◌, [], remove};
+ghost use Rattle.std.specs.Prelude.{◌≡◌, ◌+◌, ◌<◌, ◌≤◌, ◌^◌, ◌∷◌, List, length, slice_index, OnOk, OnErr, IfOk, IfErr, IsSome, None, ◌++◌, [], remove};
 ghost use Rattle.sdl_signal.specs.declared.values.Pid.{Pid};
 ghost use Rattle.sdl_signal.specs.declared.values.Pid.TheVariants as pid;
 ghost use Rattle.sdl_signal.specs.declared.values.Item.{Item};
 ghost use Rattle.sdl_log.specs.declared.event.Done.{Done};
-ghost use Rattle.sdl_processes.specs.Record.{Record, consumed};
+ghost use Rattle.sdl_processes.specs.Ports.{TakesOut};
+ghost use Rattle.sdl_processes.specs.Record.{Record, consumed, front_of, saved_now};
 ghost use Rattle.sdl_instances.specs.Living.{state_of, creatable_of, StandsAt, HaveSerials, written, with_created, next_of, next_frame, CreatesAt, FinishesAt, OutputsAs};
 
 use crate::first::numbers_at;
@@ -15,6 +16,7 @@ use sdl_log::Done;
 use sdl_processes::copies::{add_values, copied_values};
 use sdl_processes::{Instance, Instances};
 use sdl_routes::{Routes, Via};
+use sdl_saves::StateSaves;
 use sdl_signal::{Item, Pid, SetId, Signal, Value};
 use sdl_transition::{Dest, Frame, Next};
 use std::alloc::{AllocError, Global};
@@ -125,29 +127,36 @@ impl Living {
         output(routes, pid, instance, signal, dest, via, mark, done);
     }
 
-    /// Takes the signal at the front of its port from the instance at this place, whose SENDER it sets.
+    /// Takes the first signal that its state does not save from the port of the instance at this place, whose SENDER it sets.
     #[inline(always)]
     pub fn consume(&mut self, place: usize) -> Item
         requires within { place < length (state_of self.old).living }
-        requires front { (p : Pid) (r : Record) → StandsAt (state_of self.old) place p r → 0 < length r.port }
-        ensures consumed { (p : Pid) (r : Record) → StandsAt (state_of self.old) place p r → (rest : List Item) × (r.port ≡ result ∷ rest) × (state_of self.new ≡ written (state_of self.old) place p (consumed r result rest)) }
+        requires front { (p : Pid) (r : Record) → StandsAt (state_of self.old) place p r → IsSome (front_of r) }
+        ensures consumed { (p : Pid) (r : Record) → StandsAt (state_of self.old) place p r → (rest : List Item) × TakesOut (saved_now r) r.port result rest × (state_of self.new ≡ written (state_of self.old) place p (consumed r result rest)) }
         ensures creatable { creatable_of self.new ≡ creatable_of self.old }
     {
         self.instances.consume(place)
     }
 
-    /// Adds an instance of the set, of its next serial number, with the variables and the parent.
-    fn add_created(&mut self, set: SetId, vars: &ArrayVec<Value, 8>, parent: Pid) -> Pid
+    /// Adds an instance of the set, of its next serial number, with the variables, what its states save, and the parent.
+    fn add_created(
+        &mut self,
+        set: SetId,
+        vars: &ArrayVec<Value, 8>,
+        saves: StateSaves,
+        parent: Pid,
+    ) -> Pid
         requires set { set.0 < length (state_of self.old).last }
         requires room { 0 < creatable_of self.old }
         requires serials { HaveSerials (state_of self.old) }
         requires few { slice_index (state_of self.old).last set.0 + 1 < 2 ^ 32 }
         ensures pid { result ≡ next_of (state_of self.old) set }
-        ensures with_created { state_of self.new ≡ with_created (state_of self.old) set vars.now.items parent }
+        ensures with_created { state_of self.new ≡ with_created (state_of self.old) set vars.now.items saves parent }
         ensures creatable { creatable_of self.old < creatable_of self.new + 2 }
     {
         let serial = self.last[set.0 as usize] + 1;
-        let instance = Instance::new(self.alloc, copied_values(vars.as_slice()), parent);
+        let variables = copied_values(vars.as_slice());
+        let instance = Instance::new(self.alloc, variables, saves, parent);
         self.instances.add(set, serial, instance);
         self.last[set.0 as usize] = serial;
         Pid::Inst(set, serial)
@@ -161,19 +170,20 @@ impl Living {
         place: usize,
         set: SetId,
         vars: &ArrayVec<Value, 8>,
+        saves: StateSaves,
     ) -> Pid
         requires within { place < length (state_of self.old).living }
         requires set { (set.0 < length sets.now) × (set.0 < length (state_of self.old).last) }
         requires room { 0 < creatable_of self.old }
         requires serials { HaveSerials (state_of self.old) }
         requires few { slice_index (state_of self.old).last set.0 + 1 < 2 ^ 32 }
-        ensures creates { (p : Pid) (r : Record) → StandsAt (state_of self.old) place p r → CreatesAt sets.now place p r set vars.now.items result (state_of self.old) (state_of self.new) }
+        ensures creates { (p : Pid) (r : Record) → StandsAt (state_of self.old) place p r → CreatesAt sets.now place p r set vars.now.items saves result (state_of self.old) (state_of self.new) }
         ensures creatable { creatable_of self.old < creatable_of self.new + 2 }
     {
         let creator = self.pid(place);
         let numbers = numbers_at(sets, set.0 as usize);
         let made = if self.instances.number_of(set) < numbers.maximum as usize {
-            self.add_created(set, vars, creator)
+            self.add_created(set, vars, saves, creator)
         } else {
             Pid::Null
         };

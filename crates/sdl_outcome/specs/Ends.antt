@@ -24,7 +24,7 @@ module _ (plan : Plan) (o : Outcome) (finals : List State) where
   abbrev pub IsEmpty : Station → Type 0
   IsEmpty s = waiting o.rests s ≡ []
 
-  -- the block is settled: each living instance has started, and its port is empty
+  -- the block is settled: each living instance has started, and its state saves all signals of its port
   abbrev pub IsSettled : ℕ → Type 0
   IsSettled b = (s : State) (p : Pid) → slice_get finals b ≡ Some s → IsReady p s → ⊥
 
@@ -32,7 +32,7 @@ module _ (plan : Plan) (o : Outcome) (finals : List State) where
   abbrev pub HasUsedBudget : ℕ → Type 0
   HasUsedBudget b = turns (log_at o.logs b) ≡ plan.budget
 
-  -- every rest, hand and port is empty, and every living instance has started
+  -- every rest and hand is empty, every living instance has started, and its state saves all signals of its port
   pub record IsQuiet : Type 0 where
     pub hands : AllByRecursion IsFree o.hands
     pub rests : (s : Station) → IsEmpty s

@@ -4,7 +4,8 @@ use sdl_signal::BlockId;
 /// How a run ended. (This project's own.)
 #[derive(Clone, Copy, Debug, PartialEq, Eq)]
 pub enum RunEnd {
-    /// Nothing is left to do: every queue, hand and port is empty, and every living instance has started.
+    /// Nothing is left to do: every queue and hand is empty, every living instance has started, and each port holds only signals
+    /// that its state saves.
     Quiet,
     /// The budget of this block is used, of the least such block, and all else is settled.
     Spent(BlockId),

@@ -1,3 +1,6 @@
+pub mod Ports
 pub mod Record
+pub mod Arrivals
+pub mod Made
 pub mod Places
 pub mod Ready

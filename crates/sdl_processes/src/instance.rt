@@ -1,13 +1,15 @@
 //! A living instance.
-ghost use Rattle.std.specs.Prelude.{◌≡◌, ◌<◌, ◌++◌, ◌∷◌, [], List, OnOk, OnErr, IfSome, IfNone, Some, None, option_copied, length};
+ghost use Rattle.std.specs.Prelude.{◌≡◌, ◌<◌, ◌++◌, ◌∷◌, [], List, OnOk, OnErr, IfSome, IfNone, IsSome, Some, None, option_copied, length};
 ghost use Rattle.sdl_signal.specs.declared.values.Item.{Item};
-ghost use Rattle.sdl_processes.specs.Record.{created_record, consumed, front_of, is_ready};
+ghost use Rattle.sdl_processes.specs.Ports.{TakesOut};
+ghost use Rattle.sdl_processes.specs.Record.{created_record, consumed, front_of, is_ready, saved_now};
 
 use crate::copies::add_values;
+use crate::port::Port;
 use arrayvec::ArrayVec;
+use sdl_saves::StateSaves;
 use sdl_signal::{Item, Pid, StateId, Value};
 use std::alloc::{AllocError, Global};
-use std::collections::VecDeque;
 use std::marker::Model;
 
 /// A living instance. It has no state before its start transition.
@@ -15,32 +17,37 @@ use std::marker::Model;
 pub struct Instance {
     pub(crate) state: Option<StateId>,
     pub(crate) vars: ArrayVec<Value, 8>,
-    pub(crate) port: VecDeque<Item>,
+    pub(crate) port: Port,
     pub(crate) parent: Pid,
     pub(crate) offspring: Pid,
     pub(crate) sender: Pid,
+    /// What each of its states saves.
+    pub(crate) saves: StateSaves,
 }
 
 impl Model for Instance {
-    ghost use Rattle.sdl_processes.specs.Record.{Record};
+    ghost use Rattle.sdl_processes.specs.Record.{Record, IsSavedNow};
 
     ghost Value = { Record };
 
-    ghost view = { λ i. record { state = i.state; vars = i.vars.items; port = i.port.items; parent = i.parent; offspring = i.offspring; sender = i.sender } };
+    ghost view = { λ i. record { state = i.state; vars = i.vars.items; port = i.port.items; saves = i.saves; parent = i.parent; offspring = i.offspring; sender = i.sender } };
+
+    ghost invariant = { λ i. IsSavedNow i.saves i.state i.port };
 }
 
 impl Instance {
-    /// An instance that has not started, with its initial variables and the parent. No memory is taken.
-    pub fn new(alloc: Global, vars: ArrayVec<Value, 8>, parent: Pid) -> Instance
-        ensures { result ≡ created_record vars.items parent }
+    /// An instance that has not started, with its initial variables, what its states save, and the parent. No memory is taken.
+    pub fn new(alloc: Global, vars: ArrayVec<Value, 8>, saves: StateSaves, parent: Pid) -> Instance
+        ensures { result ≡ created_record vars.items saves parent }
     {
         Instance {
             state: None,
             vars,
-            port: VecDeque::new(alloc),
+            port: Port::new(alloc, saves.may_save()),
             parent,
             offspring: Pid::Null,
             sender: Pid::Null,
+            saves,
         }
     }
 
@@ -50,13 +57,7 @@ impl Instance {
         ensures ok { OnOk result ((slot.new ≡ None) × IfSome slot.old (λ item. self.new ≡ record self.old { port = self.old.port ++ item ∷ [] }) × IfNone slot.old (self.new ≡ self.old)) }
         ensures err { OnErr result ((self.new ≡ self.old) × (slot.new ≡ slot.old)) }
     {
-        if self.port.len() == self.port.capacity() {
-            self.port.reserve(1)?;
-        }
-        if let Some(item) = slot.take() {
-            self.port.push_back_reserved(item);
-        }
-        Ok(())
+        self.port.receive_from(slot)
     }
 
     /// The item at the back of the port.
@@ -64,24 +65,21 @@ impl Instance {
         requires { 0 < length self.now.port }
         ensures { (before : List Item) (item : Item) → self.now.port ≡ before ++ item ∷ [] → result.now ≡ item }
     {
-        match self.port.back() {
-            Some(item) => item,
-            None => unreachable!(),
-        }
+        self.port.last_received()
     }
 
     /// The number of signals in the port.
     pub fn port_len(&self) -> u64
         ensures { result ≡ length self.now.port }
     {
-        self.port.len() as u64
+        self.port.len()
     }
 
-    /// Whether the instance is ready for a turn: it has not started, or its port is not empty.
+    /// Whether the instance is ready for a turn: it has not started, or its port has a signal that its state does not save.
     pub fn is_ready(&self) -> bool
         ensures { result ≡ is_ready self.now }
     {
-        self.state.is_none() || self.port.len() > 0
+        self.state.is_none() || self.port.has_next()
     }
 
     /// The state, or none before the start transition.
@@ -119,28 +117,25 @@ impl Instance {
         self.sender
     }
 
-    /// The signal that its next transition is for: the one at the front of the port. Before the start there is none.
+    /// The signal that its next transition is for: the first in the port that its state does not save. Before the start there is none.
     pub fn front(&self) -> Option<&Item>
         ensures { option_copied result ≡ front_of self.now }
     {
         match self.state {
-            Some(_) => self.port.front(),
+            Some(_) => self.port.next(),
             None => None,
         }
     }
 
-    /// Takes the signal at the front out of the port. SENDER is then its sender.
+    /// Takes the first signal that its state does not save out of the port. SENDER is then its sender.
+    #[inline(always)]
     pub fn consume(&mut self) -> Item
-        requires { 0 < length self.old.port }
-        ensures { (rest : List Item) × (self.old.port ≡ result ∷ rest) × (self.new ≡ consumed self.old result rest) }
+        requires { IsSome (front_of self.old) }
+        ensures { (rest : List Item) × TakesOut (saved_now self.old) self.old.port result rest × (self.new ≡ consumed self.old result rest) }
     {
-        match self.port.pop_front() {
-            Some(item) => {
-                self.sender = item.sender;
-                item
-            }
-            None => unreachable!(),
-        }
+        let item = self.port.take_next();
+        self.sender = item.sender;
+        item
     }
 
     /// Gives OFFSPRING this value.
@@ -155,6 +150,9 @@ impl Instance {
         ensures { self.new ≡ record self.old { state = Some state; vars = vars.now.items } }
     {
         self.state = Some(state);
+        if self.port.may_save() {
+            self.port.save(self.saves.in_state(state));
+        }
         self.vars.clear();
         add_values(&mut self.vars, vars.as_slice());
     }

@@ -3,8 +3,12 @@
 
 mod all_by_set;
 mod by_set;
+mod by_signal;
+mod found;
 pub mod instance;
 pub mod living_instances;
+mod numbered;
+mod port;
 mod ready;
 
 pub use instance::Instance;

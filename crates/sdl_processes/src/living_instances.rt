@@ -4,7 +4,8 @@ ghost use Rattle.std.specs.Map.{keys_of, values_of};
 ghost use Rattle.sdl_signal.specs.declared.values.Pid.{Pid};
 ghost use Rattle.sdl_signal.specs.declared.values.Pid.TheVariants as pid;
 ghost use Rattle.sdl_signal.specs.declared.values.Item.{Item};
-ghost use Rattle.sdl_processes.specs.Record.{Record, consumed, is_ready};
+ghost use Rattle.sdl_processes.specs.Ports.{TakesOut};
+ghost use Rattle.sdl_processes.specs.Record.{Record, consumed, front_of, is_ready, saved_now};
 ghost use Rattle.sdl_processes.specs.Places.{is_of};
 ghost use Rattle.sdl_processes.specs.Ready.{IsReadyPlace};
 
@@ -137,9 +138,8 @@ impl Instances {
         let was_ready = instance.is_ready();
         match instance.receive_from(slot) {
             Ok(()) => {
-                if !was_ready {
-                    self.ready.note(place);
-                }
+                let is_ready = instance.is_ready();
+                self.ready.follow(place, was_ready, is_ready);
                 Ok(pid)
             }
             Err(_) => Err(AllocError),
@@ -157,18 +157,17 @@ impl Instances {
         instance.last_received()
     }
 
-    /// Takes the signal at the front of its port from the instance at this place, whose SENDER it sets.
+    /// Takes the first signal that its state does not save from the port of the instance at this place, whose SENDER it sets.
     pub fn consume(&mut self, place: usize) -> Item
         requires within { place < length self.old.entries }
-        requires front { (p : Pid) (r : Record) → slice_get self.old.entries place ≡ Some (p, r) → 0 < length r.port }
-        ensures consumed { (p : Pid) (r : Record) → slice_get self.old.entries place ≡ Some (p, r) → (rest : List Item) × (r.port ≡ result ∷ rest) × (self.new.entries ≡ slice_set self.old.entries place (p, consumed r result rest)) }
+        requires front { (p : Pid) (r : Record) → slice_get self.old.entries place ≡ Some (p, r) → IsSome (front_of r) }
+        ensures consumed { (p : Pid) (r : Record) → slice_get self.old.entries place ≡ Some (p, r) → (rest : List Item) × TakesOut (saved_now r) r.port result rest × (self.new.entries ≡ slice_set self.old.entries place (p, consumed r result rest)) }
         ensures creatable { (self.new.creatable ≡ self.old.creatable) × (self.new.sets ≡ self.old.sets) }
     {
         let (_, instance) = self.map.pair_mut(place);
         let item = instance.consume();
-        if !instance.is_ready() {
-            self.ready.forget(place);
-        }
+        let is_ready = instance.is_ready();
+        self.ready.follow(place, true, is_ready);
         item
     }
 
@@ -191,9 +190,8 @@ impl Instances {
         let (_, instance) = self.map.pair_mut(place);
         let was_ready = instance.is_ready();
         instance.proceed(state, vars);
-        if was_ready && !instance.is_ready() {
-            self.ready.forget(place);
-        }
+        let is_ready = instance.is_ready();
+        self.ready.follow(place, was_ready, is_ready);
     }
 
     /// Adds an instance of the set, with this serial number.

@@ -1,5 +1,5 @@
 //! How many instances are ready, and which is the ready one at a pick.
-ghost use Rattle.std.specs.Prelude.{◌≡◌, ◌+◌, ◌<◌, ◌≤◌, ◌^◌, ℕ, [], List, OnOk, sum, take, length, get_or, count_by};
+ghost use Rattle.std.specs.Prelude.{◌≡◌, ◌+◌, ◌<◌, ◌≤◌, ◌^◌, ℕ, [], List, OnOk, Some, sum, take, length, get_or, count_by, slice_get, slice_set};
 ghost use Rattle.sdl_processes.specs.Record.{Record, is_ready};
 ghost use Rattle.sdl_processes.specs.Ready.{AreReadyCounts, IsRaised, IsReadyPlace, OneMoreReady, room_of};
 
@@ -122,6 +122,22 @@ impl ReadyCounts {
         lower(&mut self.places, place);
         lower(&mut self.groups, place / GROUP);
         lower(&mut self.ranges, place / GROUP / GROUP);
+    }
+
+    /// Notes whether the instance at this place is ready now, of which it is told whether it was.
+    #[inline(always)]
+    pub fn follow(&mut self, place: usize, was: bool, is: bool)
+        requires { (old : List Record) × (r : Record) × (t : Record) × AreReadyCounts self.old old × (slice_get old place ≡ Some r) × (is_ready r ≡ was) × (is_ready t ≡ is) }
+        ensures counts { (old : List Record) (r : Record) (t : Record) → AreReadyCounts self.old old → slice_get old place ≡ Some r → is_ready r ≡ was → is_ready t ≡ is → AreReadyCounts self.new (slice_set old place t) }
+        ensures room { room_of self.new ≡ room_of self.old }
+    {
+        if was != is {
+            if is {
+                self.note(place);
+            } else {
+                self.forget(place);
+            }
+        }
     }
 
     /// Counts these instances, in place of those that were counted before.

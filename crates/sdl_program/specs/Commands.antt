@@ -8,7 +8,7 @@ use Rattle.sdl_behaviour.specs.declared.step.Step.{Step}
 use Rattle.sdl_agents.specs.declared.systems.System.{System}
 use Rattle.sdl_agents.specs.declared.systems.System.TheVariants as system
 use Rattle.sdl_agents.specs.Systems.{system_of}
-use Rattle.sdl_agents.specs.Tables.{EchoMay, RelayMay, SpawnMay, RingMay}
+use Rattle.sdl_agents.specs.Tables.{EchoMay, RelayMay, SpawnMay, RingMay, HoldMay}
 use Rattle.sdl_command.specs.declared.arguments.Arguments.{Arguments}
 use Rattle.sdl_command.specs.declared.arguments.Arguments.TheVariants as arguments
 use Rattle.sdl_command.specs.declared.arguments.Options.{Options}
@@ -25,6 +25,7 @@ may_of system.Echo = EchoMay
 may_of system.Relay = RelayMay
 may_of system.Spawn = SpawnMay
 may_of system.Ring = RingMay
+may_of system.Hold = HoldMay
 
 -- the run was refused before it began, or made by agents that answer as they may
 abbrev pub HasRunJob : (ℕ → Frame → Step → Type 0) → Option (List ℕ) → Option (List ℕ) → Option (List ℕ) → Option (List ℕ) → Job → ℕ → Type 0

@@ -2,13 +2,15 @@
 ghost use Rattle.std.specs.Prelude.{◌≡◌, IfOk, IfSome, IsErr, IsSome};
 ghost use Rattle.std.specs.List.{AllByRecursion};
 ghost use Rattle.std.specs.Io.KnownBytes.{Keeps};
-ghost use Rattle.sdl_agents.specs.Tables.{EchoMay, RelayMay, SpawnMay, RingMay};
+ghost use Rattle.sdl_agents.specs.Tables.{EchoMay, RelayMay, SpawnMay, RingMay, HoldMay};
 ghost use Rattle.sdl_file_commands.specs.Running.{CanRun};
 ghost use Rattle.sdl_behaviour.specs.Transitions.{IsAllowedBehaviour};
 ghost use Rattle.sdl_program.specs.Commands.{HasRunJob, may_of};
 
 use crate::running::Job;
-use sdl_agents::{System, echo_behaviours, relay_behaviours, ring_behaviours, spawn_behaviours};
+use sdl_agents::{
+    System, echo_behaviours, hold_behaviours, relay_behaviours, ring_behaviours, spawn_behaviours,
+};
 use sdl_command::status::REFUSED;
 use sdl_file_commands::faults::write_bind_fault;
 use sdl_file_commands::in_threads::run_bound_in_threads;
@@ -42,6 +44,7 @@ pub fn run_system<T: Threads + Wait + Sync, R: Read, W: Write, E: Write>(
         System::Relay => run_relay(rt, alloc, sets, &mut waiting, input, output, errors),
         System::Spawn => run_spawn(rt, alloc, sets, &mut waiting, input, output, errors),
         System::Ring => run_ring(rt, alloc, sets, &mut waiting, input, output, errors),
+        System::Hold => run_hold(rt, alloc, sets, &mut waiting, input, output, errors),
     }
 }
 
@@ -130,6 +133,28 @@ fn run_ring<T: Threads + Wait + Sync, R: Read, W: Write, E: Write>(
     ensures silent { IfOk result (λ status. status ≡ 0 → Keeps (E.contents errors.old) (E.contents errors.new)) }
 {
     let behaviours = ring_behaviours!(alloc, sets);
+    Ok(run_waiting(rt, waiting, behaviours, input, output, errors))
+}
+
+/// Runs Hold: the same.
+fn run_hold<T: Threads + Wait + Sync, R: Read, W: Write, E: Write>(
+    rt: &T,
+    alloc: Global,
+    sets: u32,
+    waiting: &mut Option<Job>,
+    input: &mut R,
+    output: &mut W,
+    errors: &mut E,
+) -> Result<u8, AllocError>
+    requires waits { IsSome waiting.old }
+    requires runs { IfSome waiting.old (λ job. CanRun job.checked job.routes) }
+    ensures made { IfOk result (λ status. IfSome waiting.old (λ job.
+        HasRunJob HoldMay (R.remaining input.old) (R.remaining input.new) (W.contents output.old) (W.contents output.new) job status)) }
+    ensures refused { IfOk result (λ status. status ≡ 1 → (input.new ≡ input.old) × (output.new ≡ output.old)) }
+    ensures memory { IsErr result → (input.new ≡ input.old) × (output.new ≡ output.old) }
+    ensures silent { IfOk result (λ status. status ≡ 0 → Keeps (E.contents errors.old) (E.contents errors.new)) }
+{
+    let behaviours = hold_behaviours!(alloc, sets);
     Ok(run_waiting(rt, waiting, behaviours, input, output, errors))
 }
 

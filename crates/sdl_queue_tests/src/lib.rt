@@ -1,4 +1,4 @@
-//! Queues at work: of one thread, and with their ends in threads of their own.
+//! Queues and rings at work: with refused memory, and with their ends in threads of their own.
 #![tactic(auto)]
 
 #[cfg(test)]
@@ -6,12 +6,8 @@ mod any;
 #[cfg(test)]
 mod ends;
 #[cfg(test)]
-mod many;
-#[cfg(test)]
-mod one_thread;
-#[cfg(test)]
 mod refused;
 #[cfg(test)]
-mod serial;
+mod rings;
 #[cfg(test)]
 mod three_threads;

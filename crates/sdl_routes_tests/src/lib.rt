@@ -1,13 +1,9 @@
-//! Tests of a system's routes, and of the choice among them.
+//! A system's routes, beside those that a slow walk finds.
 #![tactic(auto)]
 
-#[cfg(test)]
-mod choice;
 #[cfg(test)]
 mod systems;
 #[cfg(test)]
 mod tables;
 #[cfg(test)]
 mod walks;
-#[cfg(test)]
-mod wide;

@@ -1,6 +1,5 @@
-//! Systems that are checked, and their routes.
+//! Systems that are checked.
 
-use sdl_routes::Routes;
 use sdl_structure::{Checked, check, read_structure};
 use std::alloc::Global;
 use std::test::Fail;
@@ -9,10 +8,4 @@ use std::test::Fail;
 pub fn checked(alloc: Global, file: &str) -> Result<Checked, Fail> {
     let structure = read_structure(alloc, file)?;
     Ok(check(structure).ok().ok_or("not well formed")?)
-}
-
-/// The routes of the file's system.
-pub fn routes_of(alloc: Global, file: &str) -> Result<Routes, Fail> {
-    let checked = checked(alloc, file)?;
-    Ok(Routes::build(alloc, &checked)?)
 }

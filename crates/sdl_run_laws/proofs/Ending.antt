@@ -11,7 +11,8 @@ use Rattle.sdl_routes.specs.declared.route.TableRow.{TableRow}
 use Rattle.sdl_routes.specs.declared.route.Station.{Station}
 use Rattle.sdl_routes.specs.declared.route.Station.TheVariants as station
 use Rattle.sdl_agents.specs.Tables.{EchoMay}
-use Rattle.sdl_processes.specs.Record.{Record}
+use Rattle.sdl_processes.specs.Ports.{AllSaved}
+use Rattle.sdl_processes.specs.Record.{Record, saved_now}
 use Rattle.sdl_instances.specs.Machine.{State}
 use Rattle.sdl_instances.specs.Run.{IsStamped}
 use Rattle.sdl_instances.specs.Core.{IsReady}
@@ -136,11 +137,11 @@ pub headline : Headline EchoMay plan leaves (final ∷ [])
 headline = record { in_order = in_order; once = once; lawful = lawful; no_other = no_other; no_cycle = no_cycle }
 
 -- E has started, and its port is empty
-settled : (r : Record) → instance (Some idle) [] pid.Env ≡ r → ((r.state ≡ None) ⊎ (r.port ≡ [] → ⊥)) → ⊥
+settled : (r : Record) → instance (Some idle) [] pid.Env ≡ r → ((r.state ≡ None) ⊎ (AllSaved (saved_now r) r.port → ⊥)) → ⊥
 settled r same (inl fresh) = true≢false (ap is_some (ap (λ (x : Record). x.state) same ∙ fresh))
-settled r same (inr waits) = waits (sym (ap (λ (x : Record). x.port) same))
+settled r same (inr waits) = waits (subst (λ (x : Record). AllSaved (saved_now x) x.port) same tt)
 
-not_ready : (place : ℕ) (p : Pid) (r : Record) → slice_get final.living place ≡ Some (p, r) → ((r.state ≡ None) ⊎ (r.port ≡ [] → ⊥)) → ⊥
+not_ready : (place : ℕ) (p : Pid) (r : Record) → slice_get final.living place ≡ Some (p, r) → ((r.state ≡ None) ⊎ (AllSaved (saved_now r) r.port → ⊥)) → ⊥
 not_ready zero p r at why = settled r (ap (λ (o : Option (Pid × Record)). (unwrap_or o (p, r)).1) at) why
 not_ready (suc n) p r at why = true≢false (sym (ap is_some at))
 

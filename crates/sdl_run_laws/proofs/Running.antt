@@ -76,7 +76,7 @@ e_answers = (
   _,
   with heard,
   refl,
-  refl,
+  record { before = []; behind = []; items_are = refl; rest_is = refl; all_saved = tt; not_saved = refl },
   refl,
   refl,
   record { place = 0; was = refl; living = refl; last = refl },

@@ -123,6 +123,7 @@ rules =
       vars = [];
       start = record { number = 0; offer = start_offer };
       rows = record { state = idle; signal = record { 0 = 0 }; rule = record { number = 1; offer = ping_offer } } ∷ [];
+      saves = [];
     } ∷ []
 
 abbrev pub plan : Plan

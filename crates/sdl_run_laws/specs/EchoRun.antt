@@ -46,7 +46,7 @@ pong stamp n =
 
 -- E before its start, idle, with ping in its port, and after it consumed it
 abbrev pub instance : Option StateId → List Item → Pid → Record
-instance state port sender = record { state = state; vars = []; port = port; parent = pid.Null; offspring = pid.Null; sender = sender }
+instance state port sender = record { state = state; vars = []; port = port; saves = []; parent = pid.Null; offspring = pid.Null; sender = sender }
 
 abbrev pub with : Record → State
 with r = record { living = (e, r) ∷ []; last = 1 ∷ [] }

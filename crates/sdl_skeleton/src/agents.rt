@@ -33,8 +33,8 @@ pub fn write_lines<W: Write>(output: &mut W, lines: &[&str]) -> Result<()> {
 const HEAD: &[&str] = &[
     "//!",
     "//! Each set has a list of rows: the states, each with a signal that makes a transition there. In any other state the",
-    "//! signal is consumed by the implicit transition, which does nothing. To write a transition, take its row out of its",
-    "//! comment, and write at its state and signal what it may do (in the offer) and what it does (in the step).",
+    "//! signal is consumed by the implicit transition, which does nothing, or is saved. To write a transition, take its row",
+    "//! out of its comment, and write at its state and signal what it may do (in the offer) and what it does (in the step).",
     "use crate::numbers;",
     "use sdl_graph_program::{",
     "    Design, Frame, Graph, Offer, OfferBuilder, SetDesign, SignalId, StateId, Step, StepBuilder,",
@@ -78,7 +78,7 @@ fn write_rows<W: Write>(
     }
     writeln!(
         output,
-        "];\n\n/// The states of {name} in the order of their numbers, and its variables as they are at first;\n/// their sorts stand in its offer.\nconst SET_DESIGN_{set}: SetDesign = SetDesign {{\n    name: \"{name}\",\n    states: &[\"idle\"],\n    variables: &[],\n    transitions: 1 + ROWS_{set}.len(),\n}};\n"
+        "];\n\n/// The states of {name} in the order of their numbers, and its variables as they are at first;\n/// their sorts stand in its offer. In `saves` stands each state with a signal that it saves, in place of a row.\nconst SET_DESIGN_{set}: SetDesign = SetDesign {{\n    name: \"{name}\",\n    states: &[\"idle\"],\n    variables: &[],\n    saves: &[],\n    transitions: 1 + ROWS_{set}.len(),\n}};\n"
     )
 }
 

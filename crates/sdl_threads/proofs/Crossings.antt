@@ -17,6 +17,7 @@ use Rattle.sdl_signal.proofs.ids.StateId.TheSendSync as state_id
 use Rattle.sdl_signal.proofs.values.Pid.TheSendSync as pid
 use Rattle.sdl_signal.proofs.values.Sort.TheSendSync as sort
 use Rattle.sdl_signal.proofs.values.Value.TheSendSync as value
+use Rattle.sdl_saves.proofs.save.Save.TheSendSync as save
 use Rattle.sdl_behaviour.proofs.behaviour.Kind.TheSendSync as kind
 use Rattle.sdl_behaviour.proofs.behaviour.Named.TheSendSync as named
 use Rattle.sdl_behaviour.proofs.offer.Offer.TheSendSync as offer
@@ -33,11 +34,12 @@ use Rattle.sdl_behaviour.specs.contracts.transition.Transition as Transition
 use Rattle.sdl_signal.proofs.ids.BlockId.TheSendSync as block_id
 use Rattle.sdl_transition.proofs.index.Index.TheSendSync as index
 use Rattle.sdl_transition.specs.contracts.block_parts.BlockParts as Parts
-use Rattle.sdl_instances.proofs.table.Table.TheSendSync as table
+use Rattle.sdl_instances.specs.contracts.table.Table as Table
 use Rattle.sdl_instances.specs.contracts.block.BlockCore
 use Rattle.sdl_hand.proofs.hand.Hand.TheSendSync as hand
 use Rattle.sdl_block.specs.contracts.worker.BlockWorker
 use Rattle.sdl_ends.proofs.ends.Ends.TheSendSync as ends
+use Rattle.sdl_threads.proofs.Instances.{table}
 use Rattle.sdl_threads.proofs.workers.ForwarderThread.TheSendSync as forwarder
 use Rattle.sdl_threads.specs.contracts.workers.BlockThread
 use Rattle.sdl_threads.specs.contracts.workers.ForwarderThread
@@ -97,7 +99,10 @@ module _ (S V : RattleType) (g : Ghosts V.Denot) (h : _) (s : IsSend S) (v : IsS
                 transition,
                 (
                   search (row, facts) depth 60 fits 20000,
-                  tt,
+                  (
+                    search (save.the_send, save.the_field_send, facts) depth 60 fits 20000,
+                    tt,
+                  ),
                 ),
               ),
             ),
@@ -120,7 +125,7 @@ module _ (S V : RattleType) (g : Ghosts V.Denot) (h : _) (s : IsSend S) (v : IsS
 
   module _ (K : RattleType) (keeps : _) (k : IsSend K) where
     pub core : IsSend (BlockCore.the_row S K V keeps g h)
-    core = declared_send (BlockCore.the_type S K V keeps g h) (search (k, table.the_send, facts) depth 60 fits 20000, (parts, (search (step.the_send, facts) depth 60 fits 20000, tt)))
+    core = declared_send (BlockCore.the_type S K V keeps g h) (as_row_send (Table.the_field K keeps) (table K keeps k), (parts, (search (step.the_send, facts) depth 60 fits 20000, tt)))
 
     pub worker : IsSend (BlockWorker.the_row S K V keeps g h)
     worker = declared_send (BlockWorker.the_type S K V keeps g h) (core, (search (hand.the_send, facts) depth 60 fits 20000, tt))

@@ -1,2 +1,3 @@
+mod Instances
 pub mod Crossings
 pub mod Flushes

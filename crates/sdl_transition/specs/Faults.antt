@@ -17,6 +17,7 @@ use Rattle.sdl_parts.specs.Order.{IsBefore}
 use Rattle.sdl_behaviour.specs.declared.behaviour.Kind.{Kind}
 use Rattle.sdl_behaviour.specs.declared.behaviour.Kind.TheVariants as kind
 use Rattle.sdl_behaviour.specs.declared.behaviour.Named.{Named}
+use Rattle.sdl_saves.specs.declared.save.Save.{Save}
 use Rattle.sdl_transition.specs.declared.faults.BindFault.{BindFault}
 use Rattle.sdl_transition.specs.declared.faults.BindFault.TheVariants.{NoBehaviour, TwoBehaviours, WrongName, UndeclaredOutput, UndeclaredGate, UnknownState, WrongSorts, CreateElsewhere, TwoRows, Memory}
 use Rattle.sdl_behaviour.specs.declared.offer.Offer.{Offer}
@@ -72,11 +73,15 @@ HasUnusedSet b = ¬ IsUsed b.uses kind.Set b.set.0
 unfoldable pub HasUnusedRow : DeclaredBehaviour → Type 0
 HasUnusedRow b = HasOne (λ row. ¬ IsUsed b.uses kind.Signal row.signal.0) b.rows
 
+unfoldable pub HasUnusedSave : DeclaredBehaviour → Type 0
+HasUnusedSave b = Any (λ save. ¬ IsUsed b.uses kind.Signal save.signal.0) b.saves
+
 abbrev pub HasWrongName : Structure → DeclaredBehaviour → Type 0
 HasWrongName s b =
     Any (λ named. ¬ IsNamedSo s named) b.uses
     ⊎ HasUnusedSet b
     ⊎ HasUnusedRow b
+    ⊎ HasUnusedSave b
     ⊎ SomeOffer (HasUnusedNumber s b.uses) b
 
 -- B4: an offered signal that is in the outward list of no gate of the set
@@ -101,7 +106,8 @@ OffersBadGate s set offer = Any (λ output. IsBadGate s set output.signal.id out
 abbrev pub HasUndeclaredGate : Structure → DeclaredBehaviour → Type 0
 HasUndeclaredGate s b = SomeOffer (OffersBadGate s b.set) b
 
--- B6: a state past the list, a row with an offer for another state or signal, or a start with an offer for one
+-- B6: a state past the list, also one that saves; a row with an offer for another state or signal; a start with an offer for
+-- one
 abbrev pub IsForStart : Offer → Type 0
 IsForStart offer = (offer.state ≡ None) × (offer.signal ≡ None)
 
@@ -114,10 +120,14 @@ OffersUnknownState states offer = Any (λ state. states ≤ state.0) offer.nexts
 unfoldable pub HasUnknownRow : DeclaredBehaviour → Type 0
 HasUnknownRow b = HasOne (λ row. (b.states ≤ row.state.0) ⊎ ¬ IsForRow row) b.rows
 
+unfoldable pub HasUnknownSave : DeclaredBehaviour → Type 0
+HasUnknownSave b = Any (λ save. b.states ≤ save.state.0) b.saves
+
 abbrev pub HasUnknownState : DeclaredBehaviour → Type 0
 HasUnknownState b =
     ¬ IsForStart b.start
     ⊎ HasUnknownRow b
+    ⊎ HasUnknownSave b
     ⊎ SomeOffer (OffersUnknownState b.states) b
 
 -- B7: other sorts of a signal or of the variables, or an initial Pid that is not Null
@@ -152,12 +162,24 @@ OffersCreateElsewhere s own offer = Any (λ set. ¬ IsInBlockOf s own set) offer
 abbrev pub HasCreateElsewhere : Structure → DeclaredBehaviour → Type 0
 HasCreateElsewhere s b = SomeOffer (OffersCreateElsewhere s b.set) b
 
--- B9: two rows for one state and signal
+-- B9: two rows for one state and signal, two saves of them, or a save and a row
 abbrev pub IsSameRow : DeclaredRow → DeclaredRow → Type 0
 IsSameRow a b = (a.state ≡ b.state) × (a.signal ≡ b.signal)
 
+abbrev pub IsSameSave : Save → Save → Type 0
+IsSameSave a b = (a.state ≡ b.state) × (a.signal ≡ b.signal)
+
+abbrev pub IsRowOfSave : Save → DeclaredRow → Type 0
+IsRowOfSave a row = (row.state ≡ a.state) × (row.signal ≡ a.signal)
+
+unfoldable pub HasTwoSaves : DeclaredBehaviour → Type 0
+HasTwoSaves b = HasTwo IsSameSave b.saves
+
+unfoldable pub HasSavedRow : DeclaredBehaviour → Type 0
+HasSavedRow b = HasOne (λ save. HasOne (IsRowOfSave save) b.rows) b.saves
+
 abbrev pub HasTwoRows : DeclaredBehaviour → Type 0
-HasTwoRows b = HasTwo IsSameRow b.rows
+HasTwoRows b = HasTwo IsSameRow b.rows ⊎ HasTwoSaves b ⊎ HasSavedRow b
 
 -- the behaviour has the fault
 abbrev pub IsFaultOf : Structure → DeclaredBehaviour → BindFault → Type 0

@@ -18,15 +18,15 @@ pub enum BindFault {
     UndeclaredOutput(SetId),
     /// B5: a gate that an offered output names is not the set's, or its outward list lacks the signal.
     UndeclaredGate(SetId),
-    /// B6: a state has a number past the list of states; a row is for another state or signal than its offer; the
-    /// start's offer is for one.
+    /// B6: a state has a number past the list of states, also one that saves; a row is for another state or signal than
+    /// its offer; the start's offer is for one.
     UnknownState(SetId),
     /// B7: a signal has other sorts than in the structure; an offer has other sorts than the variables; a variable is
     /// a Pid other than Null at first.
     WrongSorts(SetId),
     /// B8: an offered create is of a set of another block.
     CreateElsewhere(SetId),
-    /// B9: two rows are for one state and signal.
+    /// B9: two rows are for one state and signal; a state saves a signal twice; a state saves one that it has a row for.
     TwoRows(SetId),
     /// B10: memory was refused.
     Memory,

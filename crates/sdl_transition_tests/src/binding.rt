@@ -24,6 +24,7 @@ const ECHO_DRAFT: Draft = Draft {
     ],
     sets: 1,
     rows: &[PING],
+    saves: &[],
 };
 
 /// The behaviour of Echo's one set, and the same twice.
@@ -123,7 +124,46 @@ const BROKEN: &[(Draft, BindFault)] = &[
         },
         BindFault::TwoRows(SetId(0)),
     ),
+    (
+        Draft {
+            saves: &[(0, 2)],
+            ..ECHO_DRAFT
+        },
+        BindFault::WrongName(SetId(0)),
+    ),
+    (
+        Draft {
+            saves: &[(0, 1), (1, 1)],
+            ..ECHO_DRAFT
+        },
+        BindFault::UnknownState(SetId(0)),
+    ),
+    (
+        Draft {
+            saves: &[(0, 1), (0, 0)],
+            ..ECHO_DRAFT
+        },
+        BindFault::TwoRows(SetId(0)),
+    ),
+    (
+        Draft {
+            saves: &[(0, 1), (0, 1)],
+            ..ECHO_DRAFT
+        },
+        BindFault::TwoRows(SetId(0)),
+    ),
 ];
+
+/// A signal without a row may be saved.
+#[test]
+fn binds_a_save(rt: HostRuntime) {
+    let saving = Draft {
+        saves: &[(0, 1)],
+        ..ECHO_DRAFT
+    };
+    let outcome = bind_drafts(rt.alloc(), ECHO, &[saving]);
+    assert!(rt; outcome == of_echo(None, 1));
+}
 
 #[test]
 fn names_the_fault_of_a_row(rt: HostRuntime) {
@@ -145,6 +185,7 @@ const A: Draft = Draft {
     ],
     sets: 3,
     rows: &[PUT],
+    saves: &[],
 };
 
 const C: Draft = Draft {
@@ -156,6 +197,7 @@ const C: Draft = Draft {
     ],
     sets: 3,
     rows: &[PUT],
+    saves: &[],
 };
 
 const B: Draft = Draft {
@@ -171,6 +213,7 @@ const B: Draft = Draft {
         output: 2,
         ..PUT
     }],
+    saves: &[],
 };
 
 /// The behaviours of Relay, and others of which one creates in another block.

@@ -10,7 +10,8 @@ use sdl_routes::Routes;
 use sdl_signal::{Name, SetId, SignalId, Sort, StateId};
 use sdl_structure::read_structure;
 use sdl_transition::{
-    Behaviour, Frame, Kind, Named, Offer, OfferedOutput, Row, Run, SignalSorts, Transition, Via,
+    Behaviour, Frame, Kind, Named, Offer, OfferedOutput, Row, Run, Save, SignalSorts, Transition,
+    Via,
 };
 use std::alloc::Global;
 
@@ -33,6 +34,7 @@ pub struct Draft {
     pub uses: &'static [(Kind, u32, &'static str)],
     pub sets: u32,
     pub rows: &'static [RowDraft],
+    pub saves: &'static [(u32, u32)],
 }
 
 /// A use of a name.
@@ -131,6 +133,14 @@ pub fn bind_drafts(alloc: Global, file: &str, drafts: &[Draft]) -> Option<Outcom
             })
             .ok()?;
         }
+        let mut saves = Vec::new(alloc);
+        for (state, signal) in draft.saves {
+            let save = Save {
+                state: StateId(*state),
+                signal: SignalId(*signal),
+            };
+            saves.push(save).ok()?;
+        }
         behaviours
             .push(Behaviour {
                 set: SetId(draft.set),
@@ -139,6 +149,7 @@ pub fn bind_drafts(alloc: Global, file: &str, drafts: &[Draft]) -> Option<Outcom
                 states,
                 start,
                 rows,
+                saves,
             })
             .ok()?;
     }

@@ -1,4 +1,4 @@
-//! Behaviours with as many uses and rows as there may be.
+//! Behaviours with as many uses, rows and saves as there may be.
 ghost use Rattle.std.specs.Prelude.{◌<◌, vec_len};
 ghost use Rattle.sdl_behaviour.specs.Transitions.{IsAllowed, IsAllowedBehaviour};
 
@@ -8,10 +8,10 @@ use arrayvec::ArrayVec;
 use sdl_agents::offers::start_offer;
 use sdl_agents::steps::begin;
 use sdl_signal::{SetId, SignalId, StateId};
-use sdl_transition::{Agents, Behaviour, Frame, Kind, Row, Run, Transition};
+use sdl_transition::{Agents, Behaviour, Frame, Kind, Row, Run, Save, Transition};
 use std::alloc::Global;
 
-/// How many uses and rows a behaviour has at most.
+/// How many uses, rows and saves a behaviour has at most.
 const MOST: usize = 256;
 
 /// A behaviour with this start.
@@ -88,6 +88,53 @@ fn fill_rows(alloc: Global) -> Option<(usize, bool)> {
     ))
 }
 
+/// The save of this number: state by state, 64 signals each.
+fn save_of(number: u32) -> Save {
+    Save {
+        state: StateId(number / 64),
+        signal: SignalId(number % 64),
+    }
+}
+
+/// Whether it is the save of the number.
+fn is_of(save: &Save, number: usize) -> bool {
+    save.state.0 as usize == number / 64 && save.signal.0 as usize == number % 64
+}
+
+/// Adds the save. Where memory is refused, nothing is added, and what was handed back is added once more.
+fn add_save(behaviour: &mut Behaviour<Anything>, save: Save) -> Option<()>
+    requires { vec_len behaviour.old.saves < 256 }
+{
+    let before = behaviour.saves.len();
+    match behaviour.add_save(save.state, save.signal) {
+        Ok(()) => Some(()),
+        Err((state, signal, _)) => {
+            if behaviour.saves.len() != before {
+                return None;
+            }
+            behaviour.add_save(state, signal).ok()
+        }
+    }
+}
+
+/// Adds saves as long as there may be more, each at the place of its number. It answers how many there are, and whether they
+/// stand in that order.
+fn fill_saves(alloc: Global) -> Option<(usize, bool)> {
+    let run: Run = Box::new(alloc, |frame: &Frame| begin(frame)).ok()?;
+    let mut behaviour = behaviour_of(alloc, Transition::store(0, start_offer(1), run));
+    for number in 0..300 {
+        if behaviour.saves.len() < MOST {
+            add_save(&mut behaviour, save_of(number))?;
+        }
+    }
+    let saves = behaviour.saves.as_slice();
+    let mut numbered = saves.iter().enumerate();
+    Some((
+        saves.len(),
+        numbered.all(|(place, save)| is_of(save, place)),
+    ))
+}
+
 #[test]
 fn a_behaviour_is_filled_with_uses(rt: HostRuntime) {
     assert!(rt; fill_uses(rt.alloc()) == Some((MOST, true)));
@@ -96,4 +143,15 @@ fn a_behaviour_is_filled_with_uses(rt: HostRuntime) {
 #[test]
 fn a_behaviour_is_filled_with_rows(rt: HostRuntime) {
     assert!(rt; fill_rows(rt.alloc()) == Some((MOST, true)));
+}
+
+// Run it with each allocation refused in turn: what is handed back is added once more.
+#[test]
+fn a_behaviour_is_filled_with_saves(rt: HostRuntime) {
+    let filled = match fill_saves(rt.alloc()) {
+        Some(filled) => Some(filled),
+        // the closure of its start found no memory
+        None => fill_saves(rt.alloc()),
+    };
+    assert!(rt; filled == Some((MOST, true)));
 }

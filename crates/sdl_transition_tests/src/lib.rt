@@ -15,6 +15,8 @@ mod firing;
 #[cfg(test)]
 mod full;
 #[cfg(test)]
+mod holding;
+#[cfg(test)]
 mod numbers;
 #[cfg(test)]
 mod outcomes;

@@ -32,6 +32,7 @@ const NUMBERS: &[(System, u32, &[u32])] = &[
     (System::Relay, 3, &[0, 1, 0, 1, 0, 2]),
     (System::Spawn, 2, &[0, 1, 2, 3, 0, 4, 5, 6, 7]),
     (System::Ring, 2, &[0, 2, 1, 2]),
+    (System::Hold, 1, &[0, 1, 2, 3]),
 ];
 
 #[test]
@@ -50,6 +51,7 @@ const NAMES: &[(&str, Option<System>)] = &[
     ("Relay", Some(System::Relay)),
     ("Spawn", Some(System::Spawn)),
     ("Ring", Some(System::Ring)),
+    ("Hold", Some(System::Hold)),
     ("echo", None),
     ("", None),
 ];

@@ -60,6 +60,7 @@ const DRAFT: Draft = Draft {
     uses: &[],
     sets: 16,
     rows: &[],
+    saves: &[],
 };
 
 const DRAFTS: &[Draft] = &[

@@ -1,0 +1,7 @@
+use Rattle.std.specs.List.{All}
+use Rattle.sdl_forward.specs.Boards.{IsBoardOf}
+use Rattle.sdl_block_steps.specs.Stored.{IsStored}
+use Rattle.sdl_block_steps.proofs.at_rest.use_blocks.Given as goal
+
+abbrev pub invariant-calls : goal.invariant-calls
+invariant-calls g l = IsBoardOf l.place.routes.now l.desk.board × All (IsStored g.S.Agents.may l.checked) l.blocks.items

@@ -1,0 +1,150 @@
+//! The calls of a block at work over the board: `step [PICK]`, `counts` and `end`.
+ghost use Rattle.std.specs.Prelude.{◌≡◌, All, IfOk};
+ghost use Rattle.sdl_forward.specs.Boards.{IsBoardOf};
+ghost use Rattle.sdl_instances.specs.Core.{IsSound, IsLegalIn};
+ghost use Rattle.sdl_instances.specs.CoreOf.{CanFire};
+ghost use Rattle.sdl_hand.specs.Work.{StepsAs};
+ghost use Rattle.sdl_block.specs.Workers.{worker_of, behaviours_of, system_around};
+ghost use Rattle.sdl_block_steps.specs.Stored.{CanGoOn};
+
+use crate::cores::{pick_of, write_counts, write_items};
+use crate::lines::{Lines, text_of};
+use sdl_block::{BlockWorker, Hand, Stepped};
+use sdl_forward::Board;
+use sdl_routes::Routes;
+use sdl_signal::InputEnd;
+use sdl_steps::calls::{Call, Halt, words_of, write_meant, write_text};
+use sdl_steps::common::{Desk, Place, common_call, name_of};
+use sdl_steps::texts::write_item;
+use sdl_transition::Agents;
+use std::io;
+use std::io::{Read, Write};
+use std::sync::Wait;
+
+const STEP: &str = "step [PICK]";
+
+const CALLS: &str =
+    "a call of the block at work (step, counts, end), or one that needs no block; help tells them all";
+
+/// Makes a step.
+fn step<S: Agents>(
+    worker: &mut BlockWorker<S>,
+    routes: &Routes,
+    board: &mut Board,
+    pick: u32,
+) -> Stepped
+    requires worker { CanGoOn S.may worker.old routes.now }
+    requires board { IsBoardOf routes.now board.old }
+    ensures step { StepsAs S.may (system_around worker.old routes.now) (worker_of worker.old) board.old result (worker_of worker.new) board.new }
+    ensures worker { CanGoOn S.may worker.new routes.now }
+    ensures board { IsBoardOf routes.now board.new }
+    ensures parts { behaviours_of worker.new ≡ behaviours_of worker.old }
+{
+    worker.step_serial(routes, board, pick)
+}
+
+/// `step`: `did`, `idle`, or `refused` where memory was refused or an item may not arrive.
+fn step_call<S: Agents, W: Write>(
+    place: &Place,
+    board: &mut Board,
+    worker: &mut BlockWorker<S>,
+    call: Call,
+    output: &mut W,
+) -> Result<(), Halt>
+    requires worker { CanGoOn S.may worker.old place.now.routes.now }
+    requires board { IsBoardOf place.now.routes.now board.old }
+    ensures worker { IfOk result (λ _. CanGoOn S.may worker.new place.now.routes.now) }
+    ensures board { IfOk result (λ _. IsBoardOf place.now.routes.now board.new) }
+    ensures parts { behaviours_of worker.new ≡ behaviours_of worker.old }
+{
+    let Some(pick) = pick_of(call.words) else {
+        return write_meant(output, call.line, STEP);
+    };
+    let stepped = step(worker, place.routes, board, pick);
+    write_text(output, text_of_step(stepped))
+}
+
+fn text_of_step(stepped: Stepped) -> &'static str {
+    match stepped {
+        Stepped::Did => "did",
+        Stepped::Idle => "idle",
+        Stepped::Memory => "refused",
+    }
+}
+
+/// Answers a call.
+fn worker_call<S: Agents, T: Wait, W: Write>(
+    rt: &T,
+    place: &Place,
+    desk: &mut Desk,
+    worker: &mut BlockWorker<S>,
+    call: Call,
+    output: &mut W,
+) -> Result<(), Halt>
+    requires worker { CanGoOn S.may worker.old place.now.routes.now }
+    requires board { IsBoardOf place.now.routes.now desk.old.board }
+    ensures worker { IfOk result (λ _. CanGoOn S.may worker.new place.now.routes.now) }
+    ensures board { IfOk result (λ _. IsBoardOf place.now.routes.now desk.new.board) }
+    ensures parts { behaviours_of worker.new ≡ behaviours_of worker.old }
+{
+    let name = name_of(call);
+    if name == "step" {
+        return step_call(place, &mut desk.board, worker, call, output);
+    }
+    if name == "counts" {
+        write_counts(
+            output,
+            worker.made(),
+            worker.left_in_ports(),
+            worker.is_settled(),
+        )?;
+        return Ok(());
+    }
+    if common_call(rt, place, desk, call, output)? {
+        return Ok(());
+    }
+    write_meant(output, call.line, CALLS)
+}
+
+/// Answers the calls of the block at work up to `end`; or else answers how the input ended.
+pub fn use_worker<S: Agents, T: Wait, R: Read, W: Write>(
+    rt: &T,
+    place: &Place,
+    desk: &mut Desk,
+    worker: &mut BlockWorker<S>,
+    lines: &mut Lines,
+    input: &mut R,
+    output: &mut W,
+) -> Result<Option<InputEnd>, Halt>
+    requires worker { CanGoOn S.may worker.old place.now.routes.now }
+    requires board { IsBoardOf place.now.routes.now desk.old.board }
+    ensures board { IfOk result (λ _. IsBoardOf place.now.routes.now desk.new.board) }
+    ensures parts { IfOk result (λ _. behaviours_of worker.new ≡ behaviours_of worker.old) }
+{
+    'calls: for _ in 0..u64::MAX {
+        let line = match lines.next(input) {
+            Ok(line) => line,
+            Err(end) => return Ok(Some(end)),
+        };
+        let words = words_of(place.alloc, text_of(&line))?;
+        let call = Call {
+            words: words.as_slice(),
+            line: lines.number,
+        };
+        if name_of(call) == "end" {
+            return Ok(None);
+        }
+        worker_call(rt, place, desk, worker, call, output)?;
+    }
+    Ok(None)
+}
+
+/// Writes what a block has in hand: the item that it keeps, and those that it has yet to put.
+pub fn write_hand<W: Write>(output: &mut W, place: &Place, hand: &Hand) -> io::Result<()> {
+    if let Some(item) = &hand.kept {
+        write!(output, "kept ")?;
+        write_item(output, place.structure, item)?;
+        writeln!(output)?;
+    }
+    write_items(output, place, hand.outgoing.as_slice())
+}

@@ -1,0 +1,2 @@
+pub mod Leading
+mod Kept

@@ -1,0 +1,3 @@
+//! The ends of all workers of a system, opened, used on one thread, and put together again.
+mod refused;
+mod relay;

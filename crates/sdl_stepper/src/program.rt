@@ -1,0 +1,200 @@
+//! What the program does, over any reader and writers, and its exit statuses.
+ghost use Rattle.sdl_routes.specs.Routes.{AreRoutesOf};
+
+use sdl_agents::echo::Echo;
+use sdl_agents::system_named;
+use sdl_block_steps::runner::{Ended, Trial, try_blocks};
+use sdl_command::ends::{flushed, report_input, report_output};
+use sdl_command::errors::{without_memory, write_error};
+use sdl_command::status::{REFUSED, WRONG_ARGUMENTS};
+use sdl_file_commands::commands::{checked_file, routes_in};
+use sdl_file_commands::faults::write_bind_fault;
+use sdl_file_commands::files::{FileRead, read_file};
+use sdl_file_commands::words::{words_behind_the_name, words_of};
+use sdl_parts::{Checked, Structure};
+use sdl_routes::Routes;
+use sdl_signal::{OutputEnd, SignalId};
+use sdl_steps::calls::Halt;
+use sdl_steps::naming::signal_of;
+use sdl_structure::FileFault;
+use sdl_transition::BlockParts;
+use std::alloc::{AllocError, Global};
+use std::io::{Read, Write};
+use std::rt::{Env, Files};
+use std::sync::Wait;
+
+const USAGE: &str = "usage: sdl_stepper FILE [SIGNAL ..]";
+
+/// Does what the program's arguments ask for, and answers the exit status. A line that standard error does not take is
+/// dropped.
+pub fn run<H: Env + Files + AllocGlobal + Wait, R: Read, W: Write, E: Write>(
+    rt: &H,
+    alloc: Global,
+    input: &mut R,
+    output: &mut W,
+    errors: &mut E,
+) -> u8 {
+    match run_arguments(rt, alloc, input, output, errors) {
+        Ok(status) => status,
+        Err(_) => {
+            without_memory(errors);
+            REFUSED
+        }
+    }
+}
+
+/// The same, where the arguments find memory.
+fn run_arguments<H: Env + Files + AllocGlobal + Wait, R: Read, W: Write, E: Write>(
+    rt: &H,
+    alloc: Global,
+    input: &mut R,
+    output: &mut W,
+    errors: &mut E,
+) -> Result<u8, AllocError> {
+    let Some(words) = words_of(rt, alloc)? else {
+        return Ok(wrong_arguments(errors));
+    };
+    let shown = words_behind_the_name(alloc, words.as_slice())?;
+    match shown.as_slice() {
+        [path, signals @ ..] if !path.starts_with("--") => {
+            try_path(rt, alloc, path, signals, input, output, errors)
+        }
+        _ => Ok(wrong_arguments(errors)),
+    }
+}
+
+fn wrong_arguments<E: Write>(errors: &mut E) -> u8 {
+    write_error(errors, USAGE);
+    WRONG_ARGUMENTS
+}
+
+/// Tries the system of the structure file of this path.
+fn try_path<H: Files + Wait, R: Read, W: Write, E: Write>(
+    rt: &H,
+    alloc: Global,
+    path: &str,
+    signals: &[&str],
+    input: &mut R,
+    output: &mut W,
+    errors: &mut E,
+) -> Result<u8, AllocError> {
+    match read_file(rt, alloc, path) {
+        FileRead::Bytes(file) => try_file(
+            rt,
+            alloc,
+            file.as_slice(),
+            signals,
+            input,
+            output,
+            errors,
+        ),
+        FileRead::CannotRead => {
+            write_error(errors, "file: cannot read");
+            Ok(REFUSED)
+        }
+        FileRead::Memory => {
+            write_error(errors, FileFault::Memory);
+            Ok(REFUSED)
+        }
+    }
+}
+
+/// The same, of the bytes of the file.
+fn try_file<T: Wait, R: Read, W: Write, E: Write>(
+    rt: &T,
+    alloc: Global,
+    file: &[u8],
+    signals: &[&str],
+    input: &mut R,
+    output: &mut W,
+    errors: &mut E,
+) -> Result<u8, AllocError> {
+    let Some(checked) = checked_file(alloc, file, errors) else {
+        return Ok(REFUSED);
+    };
+    let Some(routes) = routes_in(alloc, &checked, errors) else {
+        return Ok(REFUSED);
+    };
+    let Some(kept) = signals_of(alloc, checked.structure(), signals)? else {
+        write_error(errors, "no such signal");
+        return Ok(REFUSED);
+    };
+    try_system(
+        rt,
+        alloc,
+        checked,
+        routes,
+        kept.as_slice(),
+        input,
+        output,
+        errors,
+    )
+}
+
+/// The signals of these words.
+fn signals_of(
+    alloc: Global,
+    structure: &Structure,
+    words: &[&str],
+) -> Result<Option<Vec<SignalId>>, AllocError> {
+    let mut signals = Vec::new(alloc);
+    for word in words {
+        match signal_of(structure, word) {
+            Some(signal) => signals.push(signal)?,
+            None => return Ok(None),
+        }
+    }
+    Ok(Some(signals))
+}
+
+/// Tries the built-in system that has the structure's name. Where there is none, no block has agents.
+fn try_system<T: Wait, R: Read, W: Write, E: Write>(
+    rt: &T,
+    alloc: Global,
+    checked: Checked,
+    routes: Routes,
+    signals: &[SignalId],
+    input: &mut R,
+    output: &mut W,
+    errors: &mut E,
+) -> Result<u8, AllocError>
+    requires { AreRoutesOf checked routes }
+{
+    let Some(system) = system_named(checked.structure().system()) else {
+        let blocks: Vec<BlockParts<Echo>> = Vec::new(alloc);
+        let ended = try_blocks(rt, alloc, &checked, &routes, blocks, input, &mut *output);
+        return Ok(status_of(ended, output, errors));
+    };
+    let sets = checked.structure().sets().len() as u32;
+    let trial = Trial {
+        rt,
+        alloc,
+        checked,
+        routes,
+        signals,
+        input,
+        output: &mut *output,
+    };
+    let ended = sdl_agents::run(system, alloc, sets, trial)?;
+    Ok(status_of(ended, output, errors))
+}
+
+/// Writes how the calls ended, and answers the exit status.
+fn status_of<W: Write, E: Write>(ended: Ended, output: &mut W, errors: &mut E) -> u8 {
+    match ended {
+        Ended::Input(end) => {
+            let read = report_input(end, errors);
+            read.max(report_output(flushed(output, OutputEnd::Whole), errors))
+        }
+        Ended::Halted(Halt::Output) => report_output(OutputEnd::WriteFault, errors),
+        Ended::Halted(Halt::Memory) => {
+            let _ = flushed(output, OutputEnd::Whole);
+            without_memory(errors);
+            REFUSED
+        }
+        Ended::Unbound(fault) => {
+            write_bind_fault(errors, fault);
+            REFUSED
+        }
+    }
+}

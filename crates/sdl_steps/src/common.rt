@@ -1,0 +1,163 @@
+//! The calls that need no block: on routes, on the board and on queues; and what they work on.
+ghost use Rattle.std.specs.Prelude.{IfOk};
+ghost use Rattle.sdl_forward.specs.Boards.{IsBoardOf};
+
+use crate::calls::{Call, Halt, write_text};
+use crate::desk::{forward_call, left_call, put_call, take_call};
+use crate::queues::Queues;
+use crate::routing::call_routes;
+use sdl_forward::{Board, Forwarder};
+use sdl_parts::Structure;
+use sdl_routes::Routes;
+use std::alloc::{AllocError, Global};
+use std::io;
+use std::io::Write;
+use std::sync::Wait;
+
+/// The calls, a line each.
+const HELP: [&str; 21] = [
+    "ITEM is ROUTE SIGNAL VALUE .. [to PID] [sender PID] [stamp N] [origin W.N]",
+    "PID is null, env or SET:N; PATH is CHANNEL+ or CHANNEL-; STATION is PATH, inlet:BLOCK or outlet",
+    "help: these lines",
+    "# TEXT: answered by itself",
+    "routes: all routes, by number",
+    "route N: where the route ends, and its stations",
+    "next ROUTE [STATION]: the station that follows on the route; without one the first",
+    "choose SOURCE SIGNAL GOAL VIA PICK: the route that is chosen; SOURCE is SET or gate:N, GOAL is anywhere, null, env or SET, VIA is any, gate:N or channel:NAME",
+    "put ITEM [along ROUTE] [after STATION]: lets the item wait at the station that follows",
+    "take STATION: the item that waited at its front",
+    "forward PATH: a step of the path's forwarder",
+    "left: how many items wait at each station; an empty board is laid in its place, with forwarders that hold nothing",
+    "serial put [W.N] | serial take | serial len | serial left | serial leave: a queue of one thread",
+    "queue open FEEDERS | queue put FEEDER [W.N] | queue take | queue rejoin: a queue with separate ends",
+    "ring open SLOTS | ring put [W.N] | ring take | ring flush | ring rejoin: a ring",
+    "rest len | rest serial: what was left when ends came back, or the queue of one thread at leave; serial makes it the queue of one thread",
+    "core BLOCK BUDGET: begins to use the core of the block, until end",
+    "arrive ITEM [pick N]: lets the item arrive at the core",
+    "turn [PICK] | knew | counts | log | end: calls of the core",
+    "work BLOCK BUDGET: begins to use the block over the board, until end",
+    "step [PICK] | counts | end: calls of the block at work",
+];
+
+/// A system, and where memory comes from.
+#[derive(Clone, Copy)]
+pub struct Place<'a> {
+    pub alloc: Global,
+    pub routes: &'a Routes,
+    pub structure: &'a Structure,
+}
+
+/// What the calls work on.
+#[derive(Drop)]
+pub struct Desk {
+    pub board: Board,
+    pub forwarders: Vec<Forwarder>,
+    pub queues: Queues,
+}
+
+impl Desk {
+    /// An empty board of the routes, and empty queues.
+    pub fn new(alloc: Global, routes: &Routes) -> Result<Desk, AllocError>
+        ensures { IfOk result (λ desk. IsBoardOf routes.now desk.board) }
+    {
+        let board = Board::new(alloc, routes)?;
+        Ok(Desk {
+            board,
+            forwarders: Vec::new(alloc),
+            queues: Queues::new(alloc),
+        })
+    }
+}
+
+/// Answers a call, and says whether it was one of these.
+pub fn common_call<R: Wait, W: Write>(
+    rt: &R,
+    place: &Place,
+    desk: &mut Desk,
+    call: Call,
+    output: &mut W,
+) -> Result<bool, Halt>
+    requires { IsBoardOf place.now.routes.now desk.old.board }
+    ensures { IfOk result (λ _. IsBoardOf place.now.routes.now desk.new.board) }
+{
+    if write_note(call, output)? || call_routes(place.routes, place.structure, call, output)? {
+        return Ok(true);
+    }
+    if desk
+        .queues
+        .call(rt, place.alloc, call.line, call.words, output)?
+    {
+        return Ok(true);
+    }
+    board_call(place, desk, call, output)
+}
+
+/// Answers a call on the board, and says whether it was one.
+fn board_call<W: Write>(
+    place: &Place,
+    desk: &mut Desk,
+    call: Call,
+    output: &mut W,
+) -> Result<bool, Halt>
+    requires { IsBoardOf place.now.routes.now desk.old.board }
+    ensures { IfOk result (λ _. IsBoardOf place.now.routes.now desk.new.board) }
+{
+    let routes = place.routes;
+    let structure = place.structure;
+    let board = &mut desk.board;
+    let name = name_of(call);
+    if name == "put" {
+        put_call(
+            routes,
+            structure,
+            board,
+            &mut desk.queues.next,
+            call,
+            output,
+        )?;
+    } else if name == "take" {
+        take_call(routes, structure, board, call, output)?;
+    } else if name == "forward" {
+        forward_call(routes, structure, board, &mut desk.forwarders, call, output)?;
+    } else if name == "left" {
+        left_call(place.alloc, routes, structure, board, output)?;
+        desk.forwarders = Vec::new(place.alloc);
+    } else {
+        return Ok(false);
+    }
+    Ok(true)
+}
+
+/// The first word of the call.
+pub fn name_of<'a>(call: Call<'a>) -> &'a str {
+    match call.words {
+        [] => "",
+        [name, ..] => name,
+    }
+}
+
+/// Answers `help` and notes, and says whether the call was one of them.
+fn write_note<W: Write>(call: Call, output: &mut W) -> Result<bool, Halt> {
+    let name = name_of(call);
+    if name == "help" {
+        for line in HELP {
+            write_text(output, line)?;
+        }
+        return Ok(true);
+    }
+    if name == "#" {
+        write_words(output, call.words)?;
+        return Ok(true);
+    }
+    Ok(false)
+}
+
+/// Writes the words of a line again.
+fn write_words<W: Write>(output: &mut W, words: &[&str]) -> io::Result<()> {
+    let mut before = "";
+    for word in words {
+        write!(output, "{before}{word}")?;
+        before = " ";
+    }
+    writeln!(output)
+}

@@ -1,0 +1,218 @@
+//! The calls on a board: `put ITEM [along ROUTE] [after STATION]`, `take STATION`, `forward PATH` and `left`.
+ghost use Rattle.std.specs.Prelude.{◌<◌, length, IfOk};
+ghost use Rattle.sdl_forward.specs.Boards.{IsBoardOf};
+
+use crate::calls::{Call, Halt, write_meant, write_text};
+use crate::items::{Given, given_of};
+use crate::naming::{hop_of, station_of};
+use crate::texts::{write_item, write_station};
+use sdl_forward::{Board, Forwarded, Forwarder};
+use sdl_parts::Structure;
+use sdl_queue::Rest;
+use sdl_routes::{Hop, Routes, Station};
+use sdl_signal::{Item, RouteId};
+use std::alloc::{AllocError, Global};
+use std::io::Write;
+use std::{io, mem};
+
+const PUT: &str =
+    "put ROUTE SIGNAL VALUE .. [to PID] [sender PID] [stamp N] [origin W.N] [along ROUTE] [after STATION]";
+
+const TAKE: &str = "take STATION";
+
+const FORWARD: &str = "forward PATH";
+
+/// Lets the item wait at the station that follows on the route, and answers that station.
+pub fn put_along(
+    routes: &Routes,
+    board: &mut Board,
+    item: Item,
+    route: RouteId,
+    after: Option<Station>,
+) -> Result<Option<Station>, AllocError>
+    requires { IsBoardOf routes.now board.old }
+    ensures { IfOk result (λ _. IsBoardOf routes.now board.new) }
+{
+    let Some(station) = routes.next(route, after) else {
+        return Ok(None);
+    };
+    match board.put(station, item) {
+        Ok(()) => Ok(Some(station)),
+        Err((_, error)) => Err(error),
+    }
+}
+
+/// `put`: the station where the item waits, or `no station`.
+pub fn put_call<W: Write>(
+    routes: &Routes,
+    structure: &Structure,
+    board: &mut Board,
+    next: &mut u64,
+    call: Call,
+    output: &mut W,
+) -> Result<(), Halt>
+    requires { IsBoardOf routes.now board.old }
+    ensures { IfOk result (λ _. IsBoardOf routes.now board.new) }
+{
+    let Some(given) = given_after_name(structure, call.words, *next) else {
+        return write_meant(output, call.line, PUT);
+    };
+    *next = next.saturating_add(1);
+    let Given {
+        item,
+        along,
+        after,
+        pick: _,
+    } = given;
+    let route = along.unwrap_or(item.route);
+    match put_along(routes, board, item, route, after)? {
+        Some(station) => write_at(output, structure, station),
+        None => write_text(output, "no station"),
+    }
+}
+
+/// The item of a call whose first word is its name.
+pub fn given_after_name(structure: &Structure, words: &[&str], next: u64) -> Option<Given> {
+    let [_, words @ ..] = words else {
+        return None;
+    };
+    given_of(structure, words, next)
+}
+
+fn write_at<W: Write>(output: &mut W, structure: &Structure, station: Station) -> Result<(), Halt> {
+    write!(output, "at ")?;
+    write_station(output, structure, station)?;
+    writeln!(output)?;
+    Ok(())
+}
+
+/// `take`: the item that waited at the front of the station, or `none`.
+pub fn take_call<W: Write>(
+    routes: &Routes,
+    structure: &Structure,
+    board: &mut Board,
+    call: Call,
+    output: &mut W,
+) -> Result<(), Halt>
+    requires { IsBoardOf routes.now board.old }
+    ensures { IfOk result (λ _. IsBoardOf routes.now board.new) }
+{
+    let Some(station) = station_after_name(structure, call.words) else {
+        return write_meant(output, call.line, TAKE);
+    };
+    let item = board.take(station);
+    write_taken(output, structure, &item)?;
+    Ok(())
+}
+
+fn station_after_name(structure: &Structure, words: &[&str]) -> Option<Station> {
+    match words {
+        [_, word] => station_of(structure, word),
+        _ => None,
+    }
+}
+
+fn write_taken<W: Write>(
+    output: &mut W,
+    structure: &Structure,
+    item: &Option<Item>,
+) -> io::Result<()> {
+    match item {
+        Some(item) => {
+            write!(output, "took ")?;
+            write_item(output, structure, item)?;
+        }
+        None => write!(output, "none")?,
+    }
+    writeln!(output)
+}
+
+/// `forward`: what the step of the path's forwarder did.
+pub fn forward_call<W: Write>(
+    routes: &Routes,
+    structure: &Structure,
+    board: &mut Board,
+    forwarders: &mut Vec<Forwarder>,
+    call: Call,
+    output: &mut W,
+) -> Result<(), Halt>
+    requires { IsBoardOf routes.now board.old }
+    ensures { IfOk result (λ _. IsBoardOf routes.now board.new) }
+{
+    let Some(path) = path_after_name(structure, call.words) else {
+        return write_meant(output, call.line, FORWARD);
+    };
+    let place = place_of(forwarders, path)?;
+    let forwarder = &mut forwarders[place];
+    let forwarded = forwarder.step_serial(routes, board);
+    write_forwarded(output, structure, forwarded, forwarder)?;
+    Ok(())
+}
+
+fn path_after_name(structure: &Structure, words: &[&str]) -> Option<Hop> {
+    match words {
+        [_, word] => hop_of(structure, word),
+        _ => None,
+    }
+}
+
+/// The place of the path's forwarder, which is made where there is none.
+fn place_of(forwarders: &mut Vec<Forwarder>, path: Hop) -> Result<usize, AllocError>
+    ensures { IfOk result (λ place. place < length forwarders.new.items) }
+{
+    for place in 0..forwarders.len() {
+        if forwarders[place].hop() == path {
+            return Ok(place);
+        }
+    }
+    forwarders.push(Forwarder::new(path))?;
+    Ok(forwarders.len() - 1)
+}
+
+fn write_forwarded<W: Write>(
+    output: &mut W,
+    structure: &Structure,
+    forwarded: Forwarded,
+    forwarder: &Forwarder,
+) -> io::Result<()> {
+    match forwarded {
+        Forwarded::Moved => write!(output, "moved")?,
+        Forwarded::Idle => write!(output, "idle")?,
+        Forwarded::Held => write!(output, "held")?,
+    }
+    if let Some(item) = forwarder.held() {
+        write!(output, " ")?;
+        write_item(output, structure, item)?;
+    }
+    writeln!(output)
+}
+
+/// `left`: how many items wait at each station of the board. An empty board is laid in its place.
+pub fn left_call<W: Write>(
+    alloc: Global,
+    routes: &Routes,
+    structure: &Structure,
+    board: &mut Board,
+    output: &mut W,
+) -> Result<(), Halt>
+    requires { IsBoardOf routes.now board.old }
+    ensures { IfOk result (λ _. IsBoardOf routes.now board.new) }
+{
+    let empty = Board::new(alloc, routes)?;
+    let used = mem::replace(board, empty);
+    let rests = used.into_rests();
+    write_rests(output, structure, rests.as_slice())?;
+    Ok(())
+}
+
+fn write_rests<W: Write>(
+    output: &mut W,
+    structure: &Structure,
+    rests: &[(Station, Rest)],
+) -> io::Result<()> {
+    for (station, rest) in rests {
+        write_station(output, structure, *station)?;
+        writeln!(output, " {}", rest.len())?;
+    }
+    Ok(())
+}

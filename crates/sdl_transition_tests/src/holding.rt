@@ -1,0 +1,112 @@
+//! Hold with a save more, which mostly does not fit.
+ghost use Rattle.std.specs.Prelude.{◌≡◌, ◌<◌, ◌∷◌, length, IfSome};
+ghost use Rattle.std.specs.List.{AllByRecursion};
+ghost use Rattle.sdl_behaviour.specs.Transitions.{IsAllowedBehaviour};
+
+use sdl_agents::{Runner, hold};
+use sdl_examples::HOLD;
+use sdl_parts::check;
+use sdl_routes::Routes;
+use sdl_signal::{SetId, SignalId, StateId};
+use sdl_structure::read_structure;
+use sdl_transition::{Agents, Behaviour, BindFault, bind};
+use std::alloc::{AllocError, Global};
+
+/// Binds Hold with a save more.
+#[derive(Drop)]
+struct WithSave {
+    alloc: Global,
+    save: Option<(StateId, SignalId)>,
+}
+
+/// What came of it: the fault, or that none was found.
+type Found = Option<Option<BindFault>>;
+
+fn bind_hold<S: Agents + Drop>(alloc: Global, behaviours: Vec<Behaviour<S>>) -> Found
+    requires { AllByRecursion (IsAllowedBehaviour S.may) behaviours.items }
+{
+    let structure = read_structure(alloc, HOLD).ok()?;
+    let checked = check(structure).ok()?;
+    let routes = Routes::build(alloc, &checked).ok()?;
+    match bind(alloc, checked, routes, behaviours) {
+        Ok(_) => Some(None),
+        Err(unbound) => Some(Some(unbound.fault)),
+    }
+}
+
+/// Takes the first of the behaviours.
+fn take_first<S>(behaviours: &mut Vec<Behaviour<S>>) -> Behaviour<S>
+    requires { 0 < length behaviours.old.items }
+    ensures { behaviours.old.items ≡ result ∷ behaviours.new.items }
+{
+    behaviours.remove(0)
+}
+
+/// The first of the behaviours alone, with the save more. Hold's one behaviour has one save.
+fn with_save<S: Agents + Drop>(
+    alloc: Global,
+    behaviours: Vec<Behaviour<S>>,
+    save: (StateId, SignalId),
+) -> Option<Vec<Behaviour<S>>>
+    requires { AllByRecursion (IsAllowedBehaviour S.may) behaviours.items }
+    ensures { IfSome result (λ b. AllByRecursion (IsAllowedBehaviour S.may) b.items) }
+{
+    let mut behaviours = behaviours;
+    if behaviours.is_empty() {
+        return None;
+    }
+    let mut first = take_first(&mut behaviours);
+    if first.saves.len() != 1 {
+        return None;
+    }
+    first.add_save(save.0, save.1).ok()?;
+    Vec::from_array(alloc, [first]).ok()
+}
+
+impl Runner for WithSave {
+    type Answer = Found;
+
+    fn run<S: Agents + Drop>(self, behaviours: Vec<Behaviour<S>>) -> Found {
+        match self.save {
+            Some(save) => bind_hold(self.alloc, with_save(self.alloc, behaviours, save)?),
+            None => bind_hold(self.alloc, behaviours),
+        }
+    }
+}
+
+const CASES: &[(Option<(StateId, SignalId)>, Option<BindFault>)] = &[
+    (None, None),
+    // halt, which has no row in wait
+    (Some((hold::WAIT, hold::HALT)), None),
+    // data, which has a row in run
+    (
+        Some((hold::RUN, hold::DATA)),
+        Some(BindFault::TwoRows(SetId(0))),
+    ),
+    // data, which is saved in wait
+    (
+        Some((hold::WAIT, hold::DATA)),
+        Some(BindFault::TwoRows(SetId(0))),
+    ),
+    (
+        Some((StateId(2), hold::HALT)),
+        Some(BindFault::UnknownState(SetId(0))),
+    ),
+    (
+        Some((hold::WAIT, SignalId(4))),
+        Some(BindFault::WrongName(SetId(0))),
+    ),
+];
+
+#[test]
+fn binds_hold_with_saves_that_fit(rt: HostRuntime) -> Result<(), AllocError> {
+    for (save, wanted) in CASES {
+        let tries = WithSave {
+            alloc: rt.alloc(),
+            save: *save,
+        };
+        let found = hold::run(rt.alloc(), 1, tries)?;
+        assert!(rt; found == Some(*wanted), "{save:?}");
+    }
+    Ok(())
+}
