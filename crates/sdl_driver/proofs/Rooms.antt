@@ -1,5 +1,6 @@
 -- Lists that are filled from the front of others, within their room.
-use Rattle.std.proofs.Common.{ℕ, ◌+◌, List, [], ◌∷◌, ◌++◌, length, map, Option, ◌≡◌, refl, ap, ◌∙◌, subst, arith, append_assoc}
+use Rattle.std.proofs.Common.{ℕ, ◌+◌, List, [], ◌∷◌, ◌++◌, length, map, Option, ◌≡◌, refl, ap, sym, ◌∙◌, subst, arith, append_assoc}
+use Rattle.std.proofs.lemmas.List.{append-nil}
 use Rattle.std.specs.List.{AllZip}
 use Rattle.sdl_signal.specs.declared.values.Item.{Item}
 use Rattle.sdl_forward.specs.Forwards.{Forwarding}
@@ -14,6 +15,11 @@ come_over f done later all x rest fewer e h before =
     let a = ap (λ zs. done ++ map f zs) e in
     let b = append_assoc done (f x ∷ []) (map f fewer) in
     cc
+
+-- all have come over
+pub all_over : {X Y : Type 0} (f : X → Y) (done all : List Y) (rest : List X) → length rest ≡ 0 → done ++ map f rest ≡ all → done ≡ all
+all_over f done all [] e h = sym (append-nil done) ∙ h
+all_over f done all (x ∷ xs) e h = absurd (omega (arith, e))
 
 pub map_push : {X Y : Type 0} (f : X → Y) (xs : List X) (x : X) → map f (xs ++ x ∷ []) ≡ map f xs ++ f x ∷ []
 map_push f [] x = refl

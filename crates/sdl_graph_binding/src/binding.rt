@@ -80,8 +80,27 @@ fn with_one<G: Graph>(
     }
 }
 
+/// The behaviours with that of the set at a place of the design, of the first of the transitions that are left.
+fn with_next<G: Graph>(
+    alloc: Global,
+    structure: &Structure,
+    uses: &[Use],
+    set: &SetDesign,
+    place: usize,
+    made: Vec<Behaviour<GraphAgents<G>>>,
+    left: &mut Vec<Transition<GraphAgents<G>>>,
+) -> Result<Vec<Behaviour<GraphAgents<G>>>, GraphFault>
+    requires structure { IsStructure structure.now }
+    requires allowed { All (IsAllowedBehaviour (λ _ _ _. Unit {0})) made.items }
+    ensures allowed { IfOk result (λ list. All (IsAllowedBehaviour (λ _ _ _. Unit {0})) list.items) }
+    ensures sets { IfOk result (λ list. map (made_as structure.now) list.items ≡ map (made_as structure.now) made.items ++ meant uses.now set.now ∷ []) }
+    ensures taken { IfOk result (λ list. all_transitions list.items ++ left.new.items ≡ all_transitions made.items ++ left.old.items) }
+{
+    let behaviour = behaviour_of(alloc, structure, uses, set, place, left)?;
+    with_one(made, behaviour)
+}
+
 /// The behaviours of these sets, of which the first is at `place` of the design, behind those that are made.
-#[tactic(auto, using(crate::proofs::Lists::taken_on, crate::proofs::Lists::sets_on))]
 fn with_behaviours<G: Graph>(
     alloc: Global,
     structure: &Structure,
@@ -101,11 +120,58 @@ fn with_behaviours<G: Graph>(
     match sets {
         [] => Ok(made),
         [set, rest @ ..] => {
-            let behaviour = behaviour_of(alloc, structure, uses, set, place, left)?;
-            let more = with_one(made, behaviour)?;
-            let all = with_behaviours(alloc, structure, uses, rest, place + 1, more, left)?;
-            Ok(all)
+            let more = with_next(alloc, structure, uses, set, place, made, left)?;
+            with_behaviours(alloc, structure, uses, rest, place + 1, more, left)
         }
+    }
+}
+
+/// The behaviours of the sets of the design, of all the transitions of a graph in their order.
+fn behaviours_of<G: Graph>(
+    alloc: Global,
+    structure: &Structure,
+    design: &Design,
+    transitions: Vec<Transition<GraphAgents<G>>>,
+) -> Result<Vec<Behaviour<GraphAgents<G>>>, GraphFault>
+    requires { IsStructure structure.now }
+    ensures allowed { IfOk result (λ list. All (IsAllowedBehaviour (λ _ _ _. Unit {0})) list.items) }
+    ensures sets { IfOk result (λ list. map (made_as structure.now) list.items ≡ map (meant design.now.uses.now) design.now.sets.now) }
+    ensures taken { IfOk result (λ list. all_transitions list.items ≡ transitions.items) }
+{
+    let mut left = transitions;
+    let none = Vec::new(alloc);
+    let made = with_behaviours(
+        alloc,
+        structure,
+        design.uses,
+        design.sets,
+        0,
+        none,
+        &mut left,
+    )?;
+    if left.len() > 0 {
+        return Err(GraphFault::ManyTransitions);
+    }
+    Ok(made)
+}
+
+/// The behaviours bound to the structure. A fault is given back alone.
+fn bound_of<G: Graph>(
+    alloc: Global,
+    checked: Checked,
+    routes: Routes,
+    behaviours: Vec<Behaviour<GraphAgents<G>>>,
+) -> Result<Bound<GraphAgents<G>>, GraphFault>
+    requires routes { AreRoutesOf checked routes }
+    requires allowed { All (IsAllowedBehaviour (λ _ _ _. Unit {0})) behaviours.items }
+    ensures bound { IfOk result (IsBound (λ _ _ _. Unit {0})) }
+    ensures structure { IfOk result (λ bound. structure_of bound ≡ checked) }
+    ensures routes { IfOk result (λ bound. routes_of bound ≡ routes) }
+    ensures behaviours { IfOk result (λ bound. AreDistributed checked behaviours.items (blocks_of bound)) }
+{
+    match bind(alloc, checked, routes, behaviours) {
+        Ok(bound) => Ok(bound),
+        Err(unbound) => Err(GraphFault::Bind(unbound.fault)),
     }
 }
 
@@ -124,24 +190,8 @@ pub fn bind_graph<G: Graph>(
     ensures routes { IfOk result (λ bound. routes_of bound ≡ routes) }
     ensures behaviours { IfOk result (λ bound. ∥ ((behaviours : _) × (map (made_as checked) behaviours ≡ map (meant design.now.uses.now) design.now.sets.now) × (all_transitions behaviours ≡ transitions.items) × AreDistributed checked behaviours (blocks_of bound)) ∥₁) }
 {
-    let mut left = transitions;
     let structure = checked.structure();
     structure.parts_agree();
-    let none = Vec::new(alloc);
-    let behaviours = with_behaviours(
-        alloc,
-        structure,
-        design.uses,
-        design.sets,
-        0,
-        none,
-        &mut left,
-    )?;
-    if left.len() > 0 {
-        return Err(GraphFault::ManyTransitions);
-    }
-    match bind(alloc, checked, routes, behaviours) {
-        Ok(bound) => Ok(bound),
-        Err(unbound) => Err(GraphFault::Bind(unbound.fault)),
-    }
+    let behaviours = behaviours_of(alloc, structure, design, transitions)?;
+    bound_of(alloc, checked, routes, behaviours)
 }

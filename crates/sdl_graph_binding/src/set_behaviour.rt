@@ -14,7 +14,7 @@ use sdl_graph::Graph;
 use sdl_parts::Set;
 use sdl_parts::limits::{MOST_ROWS, MOST_USES};
 use sdl_saves::MOST_SAVES;
-use sdl_signal::{Name, SignalId, StateId, name};
+use sdl_signal::{Name, SetId, SignalId, StateId, name};
 
 /// The place of the first set whose name is `text`.
 fn place_of_set(sets: &[Set], text: &str) -> Option<usize>
@@ -147,20 +147,17 @@ fn row_of<G: Graph>(
     }
 }
 
+/// The behaviour with one row more.
 fn with_row<G: Graph>(
     behaviour: Behaviour<GraphAgents<G>>,
-    transition: Transition<GraphAgents<G>>,
+    row: Row<GraphAgents<G>>,
 ) -> Result<Behaviour<GraphAgents<G>>, GraphFault>
-    requires allowed { IsAllowedBehaviour (λ _ _ _. Unit {0}) behaviour }
-    requires rows { AllByRecursion IsByOffer behaviour.rows.items }
+    requires { IsAllowedBehaviour (λ _ _ _. Unit {0}) behaviour }
     ensures allowed { IfOk result (IsAllowedBehaviour (λ _ _ _. Unit {0})) }
-    ensures rows { IfOk result (λ b. AllByRecursion IsByOffer b.rows.items) }
-    ensures count { IfOk result (λ b. length b.rows.items ≡ length behaviour.rows.items + 1) }
-    ensures last { IfOk result (λ b. transitions_in b ≡ transitions_in behaviour ++ transition ∷ []) }
+    ensures added { IfOk result (λ b. b.rows.items ≡ behaviour.rows.items ++ row ∷ []) }
     ensures same { IfOk result (λ b. b ≡ record behaviour { rows = b.rows }) }
 {
     let mut behaviour = behaviour;
-    let row = row_of(transition)?;
     if behaviour.rows.len() >= MOST_ROWS {
         return Err(GraphFault::ManyRows(behaviour.set));
     }
@@ -180,8 +177,21 @@ pub fn take_first<G: Graph>(
     left.remove(0)
 }
 
+/// The row of the first of the transitions that are left, for a set.
+fn next_row<G: Graph>(
+    set: SetId,
+    left: &mut Vec<Transition<GraphAgents<G>>>,
+) -> Result<Row<GraphAgents<G>>, GraphFault>
+    ensures taken { IfOk result (λ row. left.old.items ≡ row.transition ∷ left.new.items) }
+    ensures by_offer { IfOk result IsByOffer }
+{
+    if left.len() == 0 {
+        return Err(GraphFault::FewTransitions(set));
+    }
+    row_of(take_first(left))
+}
+
 /// The behaviour with the first of the transitions that are left as its next rows, as many as `rows`.
-#[tactic(auto, using(crate::proofs::Lists::moved))]
 pub fn with_rows<G: Graph>(
     behaviour: Behaviour<GraphAgents<G>>,
     left: &mut Vec<Transition<GraphAgents<G>>>,
@@ -198,11 +208,7 @@ pub fn with_rows<G: Graph>(
     if rows == 0 {
         return Ok(behaviour);
     }
-    if left.len() == 0 {
-        return Err(GraphFault::FewTransitions(behaviour.set));
-    }
-    let transition = take_first(left);
-    let longer = with_row(behaviour, transition)?;
-    let longest = with_rows(longer, left, rows - 1)?;
-    Ok(longest)
+    let row = next_row(behaviour.set, left)?;
+    let longer = with_row(behaviour, row)?;
+    with_rows(longer, left, rows - 1)
 }

@@ -87,3 +87,10 @@ gives_out budget blocks forwarders all mid later after own none some full b cut 
           ∙ (ap (λ ws. ws ++ paired (λ x e. Forwarder (forwarder_thread x e)) forwarders f.own) (paired_map Block (block_thread budget) blocks b.own)
           ∙ ap (λ ws. map Block (paired (block_thread budget) blocks b.own) ++ ws) (paired_map Forwarder forwarder_thread forwarders f.own)));
     }
+
+-- how many are left once these were given
+pub left_after : {X W : Type 0} (f : X → WorkerEnds → W) (xs : List X) (before after : List WorkerEnds) (old new : List W) → Gives f xs before after old new → length before ≡ length xs + length after
+left_after f xs before after old new g =
+    let cut = ap length g.cut ∙ length-append g.own after in
+    let count = g.count in
+    omega (arith, cut, count)

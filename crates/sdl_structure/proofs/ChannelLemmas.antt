@@ -1,5 +1,5 @@
 -- The ends of channels: which are known, and the faults of those that are not.
-use Rattle.std.proofs.Common.{◌≡◌, ◌≢◌, ℕ, suc, ◌<◌, Bool, true, false, List, [], ◌∷◌, length, get_or, map, count_by, All, Option, Some, None, is_some, IsTrue, ◌↔◌, IsSomeAnd, MatchOption, refl, sym, ap, subst, inr, ◌∙◌, arith}
+use Rattle.std.proofs.Common.{◌≡◌, ◌≢◌, ℕ, suc, ◌<◌, Bool, true, false, List, [], ◌∷◌, ◌++◌, length, take, get_or, map, count_by, All, Option, Some, None, is_some, IsTrue, ◌↔◌, IsSomeAnd, MatchOption, refl, sym, ap, subst, inr, ◌∙◌, arith}
 use Rattle.std.proofs.lemmas.Option.{slice_get_within, slice_get_read, get_or_from_slice_get}
 use Rattle.std.specs.List.{AllZip, HoldsAt, position_or_len}
 use Rattle.toml.specs.Data.{Data, Members, as_str}
@@ -21,15 +21,15 @@ use Rattle.sdl_tables.specs.declared.fault.FileFault.TheVariants as fault
 use Rattle.sdl_structure.specs.declared.reading.draft.Draft.{Draft}
 use Rattle.sdl_tables.specs.declared.walk.Walk.{Walk}
 use Rattle.sdl_tables.specs.Keys.{is_key, is_key_of, key_text, keys_of, channel_keys}
-use Rattle.sdl_tables.specs.Tables.{data_at, elements_at, is_text, HasKindAt}
-use Rattle.sdl_tables.specs.Places.{table_of, inside, part_inside}
+use Rattle.sdl_tables.specs.Tables.{data_at, elements_at, tables_at, names_of, channel_names, is_text, HasKindAt}
+use Rattle.sdl_tables.specs.Places.{table_of, inside, part_inside, names_before}
 use Rattle.sdl_tables.specs.Names.{HasOneDot, is_dot, agent_part, gate_part}
 use Rattle.sdl_structure.specs.File.{IsChannelTable, NamesEnd, IsAgent, side_in}
 use Rattle.sdl_tables.specs.Faults.{IsBroken, IsGateOf, IsKnownEnd, so_far}
 use Rattle.sdl_tables.specs.Walks.{file_of, own, IsHere}
-use Rattle.sdl_structure.specs.Drafts.{ServesChannels, IsScope, IsChannelScope, HasGateOf, HasSignals}
+use Rattle.sdl_structure.specs.Drafts.{ServesChannels, IsScope, IsChannelScope, HasGateOf, HasSignals, blocks_before}
 use Rattle.sdl_tables.proofs.FaultLemmas.{breaks}
-use Rattle.sdl_tables.proofs.PlaceLemmas.{channel_keys_inside}
+use Rattle.sdl_tables.proofs.PlaceLemmas.{channel_keys_inside, before_top_channel, before_block_channel}
 use Rattle.sdl_tables.proofs.SignalLemmas.{text_in, unknown, some_and}
 
 -- a required key whose value is of its kind is there
@@ -37,7 +37,7 @@ pub present : (o : Option Data) (P : Data → Type 0) → MatchOption o (true �
 present None P h e = cc
 present (Some d) P h e = cc
 
-listed_in : (w : Walk) (k : Key) → keys_of w.place.part ≡ channel_keys → is_key_of channel_keys (key_text k) ≡ true → is_key w.place.part k ≡ true
+pub listed_in : (w : Walk) (k : Key) → keys_of w.place.part ≡ channel_keys → is_key_of channel_keys (key_text k) ≡ true → is_key w.place.part k ≡ true
 listed_in w k keys held = ap (λ ks. is_key_of ks (key_text k)) keys ∙ held
 
 pub ends_not_two : (w : Walk) (q : Place) (vs : List Value) → IsHere w → keys_of w.place.part ≡ channel_keys → q ≡ record w.place { key = key.Ends } → elements_at key.Ends (own w) ≡ map view vs → HasKindAt (own w) key.Ends → length vs ≢ 2 → IsBroken (file_of w) (fault.OutOfRange q)
@@ -73,26 +73,10 @@ two_ends R (x ∷ y ∷ z ∷ zs) v w a b two at_v at_w r s = absurd (omega arit
 
 -- what the ends of a channel need, from what the table that lists it gives
 known_top : (root : Members) (q : Part) (b s i : ℕ) (text : List ℕ) → q ≡ part.System → IsKnownEnd root (part_inside q key.Channel) b text → IsGateOf key.Block (table_of root q b s i) (agent_part text) (gate_part text)
-known_top root part.System b s i text e known = known
-known_top root part.Signal b s i text e known = cc
-known_top root part.Gate b s i text e known = cc
-known_top root part.Channel b s i text e known = cc
-known_top root part.Block b s i text e known = cc
-known_top root part.BlockGate b s i text e known = cc
-known_top root part.BlockChannel b s i text e known = cc
-known_top root part.Set b s i text e known = cc
-known_top root part.SetGate b s i text e known = cc
+known_top root q b s i text e = subst (λ q. IsKnownEnd root (part_inside q key.Channel) b text → IsGateOf key.Block (table_of root q b s i) (agent_part text) (gate_part text)) (sym e) (λ known. known)
 
 known_inner : (root : Members) (q : Part) (b s i : ℕ) (text : List ℕ) → q ≡ part.Block → IsKnownEnd root (part_inside q key.Channel) b text → IsGateOf key.Set (table_of root q b s i) (agent_part text) (gate_part text)
-known_inner root part.System b s i text e known = cc
-known_inner root part.Signal b s i text e known = cc
-known_inner root part.Gate b s i text e known = cc
-known_inner root part.Channel b s i text e known = cc
-known_inner root part.Block b s i text e known = known
-known_inner root part.BlockGate b s i text e known = cc
-known_inner root part.BlockChannel b s i text e known = cc
-known_inner root part.Set b s i text e known = cc
-known_inner root part.SetGate b s i text e known = cc
+known_inner root q b s i text e = subst (λ q. IsKnownEnd root (part_inside q key.Channel) b text → IsGateOf key.Set (table_of root q b s i) (agent_part text) (gate_part text)) (sym e) (λ known. known)
 
 pub serves_in : (w u : Walk) (scope : Scope) (i : ℕ) (d : Draft) → IsHere w → IsScope scope w.place → file_of u ≡ file_of w → u.place ≡ inside w.place key.Channel i → ServesChannels (file_of w) scope (own w) d → IsChannelScope (file_of u) scope u.place d
 serves_in w u scope.System i d here at file place serves =
@@ -119,6 +103,12 @@ serves_in w u (scope.Block b) i d here at file place serves =
       signals = subst (λ r. HasSignals r d) (sym file) serves.signals;
       few_gates = serves.few_gates;
     }
+
+-- the names of the channels before one in the list of a scope
+pub names_before_channel : (w u : Walk) (scope : Scope) (i : ℕ) (ts : List Members) → IsHere w → IsScope scope w.place → file_of u ≡ file_of w → u.place ≡ inside w.place key.Channel i → tables_at key.Channel (own w) ≡ ts → channel_names (blocks_before (file_of w) scope) ++ names_of (take i ts) ≡ names_before (file_of u) u.place
+names_before_channel w u scope.System i ts here at file place held = sym (before_top_channel w u i ts here at file place held)
+names_before_channel w u (scope.Block b) i ts here at file place held =
+    ap (λ k. channel_names (take k (tables_at key.Block (file_of w))) ++ names_of (take i ts)) at.1 ∙ sym (before_block_channel w u i ts here at.0 file place held)
 
 -- the names of channels are no part of it
 pub other_names : (root : Members) (scope : Scope) (p : Place) (d e : Draft) → e ≡ record d { channel_names = e.channel_names } → IsChannelScope root scope p d → IsChannelScope root scope p e

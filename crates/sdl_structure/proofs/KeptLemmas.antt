@@ -1,5 +1,5 @@
 -- What each table of a file that keeps all rules is.
-use Rattle.std.proofs.Common.{ℕ, zero, suc, ◌+◌, ◌<◌, List, [], ◌∷◌, ◌++◌, length, map, get_or, arith}
+use Rattle.std.proofs.Common.{◌≡◌, ℕ, true, false, zero, suc, ◌+◌, ◌<◌, List, [], ◌∷◌, ◌++◌, length, map, get_or, arith}
 use Rattle.std.specs.List.{AllZip, AllByRecursion}
 use Rattle.toml.specs.Data.{Members, no_members}
 use Rattle.sdl_parts.specs.declared.parts.SignalDecl.{SignalDecl}
@@ -20,6 +20,10 @@ use Rattle.sdl_tables.specs.Tables.{tables_at, HasShape}
 use Rattle.sdl_tables.specs.Places.{table_of, Exists}
 use Rattle.sdl_tables.specs.Names.{IsSignalTable}
 use Rattle.sdl_structure.specs.File.{IsFileOf, IsBlockTable, IsSetTable, IsGateTable, IsChannelTable, sets_of, owned, set_gates, block_gates, gates_of, channels_in, block_channels, channels_of}
+
+-- a table that may not have the key is no case
+pub never : {A : Type 0} → false ≡ true → A
+never e = cc
 
 -- each element of a list that is zipped with another names one of that
 pub each : {A B : Type 0} (R : A → B → Type 0) (xs : List A) (ys : List B) → AllZip R xs ys → AllByRecursion (λ x. (y : B) × R x y) xs

@@ -8,7 +8,7 @@ use Rattle.sdl_tables.specs.declared.place.Part.TheVariants as part
 use Rattle.sdl_tables.specs.declared.place.Key.{Key}
 use Rattle.sdl_tables.specs.declared.place.Key.TheVariants as key
 use Rattle.sdl_tables.specs.Keys.{Kind, text, whole_number, flag, sorts, signals, ends, tables, nothing, kind_of, is_key}
-use Rattle.sdl_structure.proofs.KeptLemmas.{IsKept, ChannelKept}
+use Rattle.sdl_structure.proofs.KeptLemmas.{IsKept, never, ChannelKept}
 
 -- the keys that hold that kind
 abbrev HasKind : Kind → Key → Type 0
@@ -59,15 +59,15 @@ tables_key k e = of_kind tables k e
 
 -- only a channel's table has ends
 pub channel_of : (s : Structure) (q : Part) (ms : Members) → IsKept s q ms → is_key q key.Ends ≡ true → ChannelKept s ms
-channel_of s part.System ms kept l = cc
-channel_of s part.Signal ms kept l = cc
-channel_of s part.Gate ms kept l = cc
+channel_of s part.System ms kept l = never l
+channel_of s part.Signal ms kept l = never l
+channel_of s part.Gate ms kept l = never l
 channel_of s part.Channel ms kept l = kept
-channel_of s part.Block ms kept l = cc
-channel_of s part.BlockGate ms kept l = cc
+channel_of s part.Block ms kept l = never l
+channel_of s part.BlockGate ms kept l = never l
 channel_of s part.BlockChannel ms kept l = kept
-channel_of s part.Set ms kept l = cc
-channel_of s part.SetGate ms kept l = cc
+channel_of s part.Set ms kept l = never l
+channel_of s part.SetGate ms kept l = never l
 
 -- what holds of the texts that a list names holds of a text in the list
 pub zip_left : {A B : Type 0} (R : A → B → Type 0) (P : A → Type 0) (xs : List A) (ys : List B) → ((x : A) (y : B) → R x y → P x) → AllZip R xs ys → AllByRecursion P xs

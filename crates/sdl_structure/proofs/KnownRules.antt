@@ -26,24 +26,24 @@ use Rattle.sdl_tables.proofs.SignalLemmas.{some_and}
 use Rattle.sdl_tables.proofs.TableLemmas.{some_map}
 use Rattle.sdl_structure.specs.File.{IsFileOf, IsChannelTable, IsBlockTable, IsSetTable, NamesEnd, IsAgent, side_in, channels_in, block_channels, channels_of, sets_of}
 use Rattle.sdl_structure.proofs.GateLemmas.{Has}
-use Rattle.sdl_structure.proofs.KeptLemmas.{IsKept, Channels, kept_at, each, left, right, mapped, nth}
+use Rattle.sdl_structure.proofs.KeptLemmas.{IsKept, never, Channels, kept_at, each, left, right, mapped, nth}
 use Rattle.sdl_structure.proofs.KeyKinds.{of_kind, zip_left, text_has}
 use Rattle.sdl_structure.proofs.RepeatRules.{zip_named, signal_name, signal_list}
 use Rattle.sdl_structure.proofs.OwnerLemmas.{IsOwned, set_stands, gate_table, contains_at, has_gate}
 
 -- the sorts that a signal's table names
 sorts_known : (s : Structure) (q : Part) (ms : Members) (i : ℕ) (name : List ℕ) → IsKept s q ms → is_key q key.Sorts ≡ true → HoldsText key.Sorts ms i name → (o : Sort) × (sort_text o ≡ name)
-sorts_known s part.System ms i name kept l held = cc
+sorts_known s part.System ms i name kept l held = never l
 sorts_known s part.Signal ms i name (x, table) l held =
     text_has (λ name. (o : Sort) × (sort_text o ≡ name)) (elements_at key.Sorts ms) i name
     (zip_left NamesSort (λ d. IsSomeAnd (as_str d) (λ name. (o : Sort) × (sort_text o ≡ name))) (elements_at key.Sorts ms) x.sorts.items (λ d o e. rw e (o, refl)) table.sorts) held
-sorts_known s part.Gate ms i name kept l held = cc
-sorts_known s part.Channel ms i name kept l held = cc
-sorts_known s part.Block ms i name kept l held = cc
-sorts_known s part.BlockGate ms i name kept l held = cc
-sorts_known s part.BlockChannel ms i name kept l held = cc
-sorts_known s part.Set ms i name kept l held = cc
-sorts_known s part.SetGate ms i name kept l held = cc
+sorts_known s part.Gate ms i name kept l held = never l
+sorts_known s part.Channel ms i name kept l held = never l
+sorts_known s part.Block ms i name kept l held = never l
+sorts_known s part.BlockGate ms i name kept l held = never l
+sorts_known s part.BlockChannel ms i name kept l held = never l
+sorts_known s part.Set ms i name kept l held = never l
+sorts_known s part.SetGate ms i name kept l held = never l
 
 -- the signals that a list names
 signal_known : (root : Members) (s : Structure) (k : Key) (ms : Members) (i : ℕ) (name : List ℕ) → IsFileOf root s → (ids : List SignalId) × ListsSignals s.signals k ms ids → HoldsText k ms i name → Contains (names_of (tables_at key.Signal root)) (Some name)
@@ -126,22 +126,22 @@ block_channel s n (t ∷ ts) (suc b) i h below inside =
     (block_channel s (n + 1) ts b i (right _ (channels_in (scope.Block (record { 0 = n })) t) (block_channels (n + 1) ts) h) (omega arith) inside)
 
 end_is_known : (root : Members) (s : Structure) (q : Part) (b u i j : ℕ) (end : List ℕ) → IsFileOf root s → Exists root q b u i → is_key q key.Ends ≡ true → HoldsText key.Ends (table_of root q b u i) j end → IsKnownEnd root q b end
-end_is_known root s part.System b u i j end file e l held = cc
-end_is_known root s part.Signal b u i j end file e l held = cc
-end_is_known root s part.Gate b u i j end file e l held = cc
+end_is_known root s part.System b u i j end file e l held = never l
+end_is_known root s part.Signal b u i j end file e l held = never l
+end_is_known root s part.Gate b u i j end file e l held = never l
 end_is_known root s part.Channel b u i j end file e l held =
     let (c, table) = top_channel root s i file e.2 in
     ends_known root s scope.System (IsGateOf key.Block root) (get_or (tables_at key.Channel root) i no_members) c j end file (λ w m agent gate owns named is. top_known root s w m agent gate file owns named is) table held
-end_is_known root s part.Block b u i j end file e l held = cc
-end_is_known root s part.BlockGate b u i j end file e l held = cc
+end_is_known root s part.Block b u i j end file e l held = never l
+end_is_known root s part.BlockGate b u i j end file e l held = never l
 end_is_known root s part.BlockChannel b u i j end file e l held =
     let t = get_or (tables_at key.Block root) b no_members in
     let (c, table) = block_channel s 0 (tables_at key.Block root) b i (right _ (channels_in scope.System root) (block_channels 0 (tables_at key.Block root)) (all_channels root s file)) e.0 e.2 in
     let here : b ≡ 0 + b = omega arith in
     let is : slice_get (tables_at key.Block root) (0 + b) ≡ Some t = subst (λ k. slice_get (tables_at key.Block root) k ≡ Some t) here (slice_get-get_or (tables_at key.Block root) b no_members e.0) in
     ends_known root s (scope.Block (record { 0 = 0 + b })) (IsGateOf key.Set t) (get_or (tables_at key.Channel t) i no_members) c j end file (λ w m agent gate owns named known. inner_known root s (record { 0 = 0 + b }) t w m agent gate file is owns named known) table held
-end_is_known root s part.Set b u i j end file e l held = cc
-end_is_known root s part.SetGate b u i j end file e l held = cc
+end_is_known root s part.Set b u i j end file e l held = never l
+end_is_known root s part.SetGate b u i j end file e l held = never l
 
 pub none_unknown_name : (root : Members) (s : Structure) (p : Place) → IsFileOf root s → ¬ BreaksAt root p (NamesUnknown root)
 none_unknown_name root s p file breaks = known breaks.broken

@@ -18,7 +18,7 @@ use Rattle.sdl_tables.specs.Faults.{BreaksAt, HasBadName, HoldsText}
 use Rattle.sdl_tables.proofs.SignalLemmas.{some_and}
 use Rattle.sdl_tables.proofs.TableLemmas.{some_map}
 use Rattle.sdl_structure.specs.File.{IsFileOf, NamesEnd, IsAgent, side_in}
-use Rattle.sdl_structure.proofs.KeptLemmas.{IsKept, ChannelKept, kept_at}
+use Rattle.sdl_structure.proofs.KeptLemmas.{IsKept, never, ChannelKept, kept_at}
 use Rattle.sdl_structure.proofs.KeyKinds.{of_kind, text_key, channel_of, zip_left, text_has}
 
 abbrev Named : Key → Members → Type 0
@@ -26,17 +26,17 @@ Named k ms = (name : List ℕ) × HasName k ms name
 
 system_name : (s : Structure) (q : Part) (ms : Members) → IsKept s q ms → is_key q key.System ≡ true → Named key.System ms
 system_name s part.System ms kept l = (s.system, kept.system)
-system_name s part.Signal ms kept l = cc
-system_name s part.Gate ms kept l = cc
-system_name s part.Channel ms kept l = cc
-system_name s part.Block ms kept l = cc
-system_name s part.BlockGate ms kept l = cc
-system_name s part.BlockChannel ms kept l = cc
-system_name s part.Set ms kept l = cc
-system_name s part.SetGate ms kept l = cc
+system_name s part.Signal ms kept l = never l
+system_name s part.Gate ms kept l = never l
+system_name s part.Channel ms kept l = never l
+system_name s part.Block ms kept l = never l
+system_name s part.BlockGate ms kept l = never l
+system_name s part.BlockChannel ms kept l = never l
+system_name s part.Set ms kept l = never l
+system_name s part.SetGate ms kept l = never l
 
 own_name : (s : Structure) (q : Part) (ms : Members) → IsKept s q ms → is_key q key.Name ≡ true → Named key.Name ms
-own_name s part.System ms kept l = cc
+own_name s part.System ms kept l = never l
 own_name s part.Signal ms kept l = (kept.0.name.bytes, kept.1.name)
 own_name s part.Gate ms kept l = (kept.1.name.bytes, kept.2.name)
 own_name s part.Channel ms kept l = (kept.1.name.bytes, kept.2.name)

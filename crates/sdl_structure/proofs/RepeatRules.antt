@@ -19,7 +19,7 @@ use Rattle.sdl_tables.specs.Faults.{BreaksAt, IsDuplicate, IsRepeated, HoldsText
 use Rattle.sdl_tables.proofs.SignalLemmas.{some_and}
 use Rattle.sdl_structure.specs.File.{IsFileOf}
 use Rattle.sdl_structure.proofs.GateLemmas.{zip_found, map_get}
-use Rattle.sdl_structure.proofs.KeptLemmas.{IsKept, kept_at}
+use Rattle.sdl_structure.proofs.KeptLemmas.{IsKept, never, kept_at}
 use Rattle.sdl_structure.proofs.KeyKinds.{signals_key}
 use Rattle.sdl_structure.proofs.LimitRules.{gates_of_agent}
 use Rattle.sdl_structure.proofs.SplitLemmas.{none_before, split_names, split_block, split_set, split_block_channel, split_top_channel}
@@ -99,48 +99,48 @@ abbrev pub Lists : Structure → Key → Members → Type 0
 Lists s k ms = (ids : List SignalId) × ListsSignals s.signals k ms ids
 
 inward_list : (s : Structure) (q : Part) (ms : Members) → IsKept s q ms → is_key q key.Inward ≡ true → Lists s key.Inward ms
-inward_list s part.System ms kept l = cc
-inward_list s part.Signal ms kept l = cc
+inward_list s part.System ms kept l = never l
+inward_list s part.Signal ms kept l = never l
 inward_list s part.Gate ms kept l = (kept.1.inward.items, kept.2.inward)
-inward_list s part.Channel ms kept l = cc
-inward_list s part.Block ms kept l = cc
+inward_list s part.Channel ms kept l = never l
+inward_list s part.Block ms kept l = never l
 inward_list s part.BlockGate ms kept l = (kept.1.inward.items, kept.2.inward)
-inward_list s part.BlockChannel ms kept l = cc
-inward_list s part.Set ms kept l = cc
+inward_list s part.BlockChannel ms kept l = never l
+inward_list s part.Set ms kept l = never l
 inward_list s part.SetGate ms kept l = (kept.1.inward.items, kept.2.inward)
 
 outward_list : (s : Structure) (q : Part) (ms : Members) → IsKept s q ms → is_key q key.Outward ≡ true → Lists s key.Outward ms
-outward_list s part.System ms kept l = cc
-outward_list s part.Signal ms kept l = cc
+outward_list s part.System ms kept l = never l
+outward_list s part.Signal ms kept l = never l
 outward_list s part.Gate ms kept l = (kept.1.outward.items, kept.2.outward)
-outward_list s part.Channel ms kept l = cc
-outward_list s part.Block ms kept l = cc
+outward_list s part.Channel ms kept l = never l
+outward_list s part.Block ms kept l = never l
 outward_list s part.BlockGate ms kept l = (kept.1.outward.items, kept.2.outward)
-outward_list s part.BlockChannel ms kept l = cc
-outward_list s part.Set ms kept l = cc
+outward_list s part.BlockChannel ms kept l = never l
+outward_list s part.Set ms kept l = never l
 outward_list s part.SetGate ms kept l = (kept.1.outward.items, kept.2.outward)
 
 forth_list : (s : Structure) (q : Part) (ms : Members) → IsKept s q ms → is_key q key.Forth ≡ true → Lists s key.Forth ms
-forth_list s part.System ms kept l = cc
-forth_list s part.Signal ms kept l = cc
-forth_list s part.Gate ms kept l = cc
+forth_list s part.System ms kept l = never l
+forth_list s part.Signal ms kept l = never l
+forth_list s part.Gate ms kept l = never l
 forth_list s part.Channel ms kept l = (kept.1.forth.items, kept.2.forth)
-forth_list s part.Block ms kept l = cc
-forth_list s part.BlockGate ms kept l = cc
+forth_list s part.Block ms kept l = never l
+forth_list s part.BlockGate ms kept l = never l
 forth_list s part.BlockChannel ms kept l = (kept.1.forth.items, kept.2.forth)
-forth_list s part.Set ms kept l = cc
-forth_list s part.SetGate ms kept l = cc
+forth_list s part.Set ms kept l = never l
+forth_list s part.SetGate ms kept l = never l
 
 back_list : (s : Structure) (q : Part) (ms : Members) → IsKept s q ms → is_key q key.Back ≡ true → Lists s key.Back ms
-back_list s part.System ms kept l = cc
-back_list s part.Signal ms kept l = cc
-back_list s part.Gate ms kept l = cc
+back_list s part.System ms kept l = never l
+back_list s part.Signal ms kept l = never l
+back_list s part.Gate ms kept l = never l
 back_list s part.Channel ms kept l = (kept.1.back.items, kept.2.back)
-back_list s part.Block ms kept l = cc
-back_list s part.BlockGate ms kept l = cc
+back_list s part.Block ms kept l = never l
+back_list s part.BlockGate ms kept l = never l
 back_list s part.BlockChannel ms kept l = (kept.1.back.items, kept.2.back)
-back_list s part.Set ms kept l = cc
-back_list s part.SetGate ms kept l = cc
+back_list s part.Set ms kept l = never l
+back_list s part.SetGate ms kept l = never l
 
 pub signal_list : (s : Structure) (q : Part) (k : Key) (ms : Members) → IsKept s q ms → is_key q k ≡ true → kind_of k ≡ signals → Lists s k ms
 signal_list s q k ms kept l kind = choose (signals_key k kind)

@@ -1,10 +1,10 @@
 -- A table as the code holds it, beside what the definitions see.
-use Rattle.std.proofs.Common.{◌≡◌, ℕ, ◌<◌, zero, suc, Bool, true, false, ◌&&◌, List, [], ◌∷◌, map, length, get_or, Option, Some, None, MatchOption, IsSomeAnd, is_some, String, Global, string_bytes, refl, sym, ap, ◌∙◌, arith}
+use Rattle.std.proofs.Common.{◌≡◌, ℕ, ℤ, ◌<◌, zero, suc, Bool, true, false, ◌&&◌, List, [], ◌∷◌, map, length, get_or, Option, Some, None, MatchOption, IsSomeAnd, is_some, String, Global, string_bytes, refl, sym, ap, ◌∙◌, arith}
 use Rattle.std.proofs.lemmas.List.{length-map}
 use Rattle.std.specs.List.{list_all}
 use Rattle.std.specs.Map.{keys_of}
 use Rattle.std.specs.Option.{option_map_or}
-use Rattle.toml.specs.Data.{Data, Items, no_items, item, Members, no_members, as_array}
+use Rattle.toml.specs.Data.{Data, Items, no_items, item, Members, no_members, as_array, as_integer}
 use Rattle.toml.specs.View.{view, items_view, members_view}
 use Rattle.toml.specs.declared.value.Value.{Value}
 use Rattle.sdl_tables.specs.declared.place.Key.{Key}
@@ -75,6 +75,9 @@ texts_kind nothing d is = cc
 pub has_texts : (k : Key) (ms : Members) (vs : List Value) → is_texts (kind_of k) ≡ true → elements_at k ms ≡ map view vs → list_all (λ v. is_text (view v)) vs ≡ true → IsArrayAt ms k → HasKindAt ms k
 has_texts k ms vs kind held all is =
     match_map (data_at k ms) (is_required k ≡ false) _ _ (λ d h. texts_kind (kind_of k) d kind ∙ h) (array_kind is_text (data_at k ms) (map view vs) _ held (list_all-view is_text vs ∙ all) is)
+
+pub has_integer : (k : Key) (ms : Members) (d : Data) (z : ℤ) → kind_of k ≡ whole_number → data_at k ms ≡ Some d → as_integer d ≡ Some z → HasKindAt ms k
+has_integer k ms d z kind there is = rw (there, kind) (ap (λ o. is_some o) is)
 
 pub has_tables : (k : Key) (ms : Members) (vs : List Value) → kind_of k ≡ tables → elements_at k ms ≡ map view vs → list_all (λ v. is_table (view v)) vs ≡ true → IsArrayAt ms k → HasKindAt ms k
 has_tables k ms vs kind held all is =

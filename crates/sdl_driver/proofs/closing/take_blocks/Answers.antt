@@ -1,9 +1,19 @@
-use Rattle.std.proofs.Common.{◌≡◌, ◌+◌, map, length, arith}
+use Rattle.std.proofs.Common.{◌≡◌, ◌+◌, map, length, refl, arith}
 use Rattle.sdl_block.specs.Workers.{worker_of, behaviours_of}
 use Rattle.sdl_outcome.specs.Lists.{held_in}
 use Rattle.sdl_order.specs.Driver.{block_hand}
-use Rattle.sdl_driver.proofs.Rooms.{come_over, fewer_by_one, room_as}
+use Rattle.sdl_driver.proofs.Rooms.{all_over, come_over, fewer_by_one, room_as}
 use Rattle.sdl_driver.proofs.closing.take_blocks.Goals as goal
+
+pub loop-rest-init : goal.loop-rest-init
+loop-rest-init g c = record {
+  room = c.requires.room;
+  parts = refl;
+  logs = refl;
+  hands = refl;
+  more = λ m h. h;
+  counted = λ h. h;
+}
 
 pub loop-rest-preserved : goal.loop-rest-preserved
 loop-rest-preserved g c =
@@ -26,3 +36,21 @@ pub returns-clause-room : goal.returns-clause-room
 returns-clause-room g c = λ m h.
     let none : length c.loop-rest.rest.items ≡ 0 = omega (arith, c.loop-rest-test.false, c.len.ensures) in
     room_as c.loop-rest.room (length c.loop-rest.rest.items) (length c.loop-rest.rest.items + m) 0 m none (omega arith) (c.loop-rest.invariant.more m h)
+
+pub returns-clause-parts : goal.returns-clause-parts
+returns-clause-parts g c =
+    let none : length c.loop-rest.rest.items ≡ 0 = omega (arith, c.loop-rest-test.false, c.len.ensures) in
+    all_over behaviours_of c.loop-rest.room.parts.items _ c.loop-rest.rest.items none c.loop-rest.invariant.parts
+
+pub returns-clause-logs : goal.returns-clause-logs
+returns-clause-logs g c =
+    let none : length c.loop-rest.rest.items ≡ 0 = omega (arith, c.loop-rest-test.false, c.len.ensures) in
+    all_over (λ v. (worker_of v).core.log) (map g.K.Keeps.events c.loop-rest.room.logs.items) _ c.loop-rest.rest.items none c.loop-rest.invariant.logs
+
+pub returns-clause-hands : goal.returns-clause-hands
+returns-clause-hands g c =
+    let none : length c.loop-rest.rest.items ≡ 0 = omega (arith, c.loop-rest-test.false, c.len.ensures) in
+    all_over (λ v. block_hand (worker_of v)) (map held_in c.loop-rest.room.hands.items) _ c.loop-rest.rest.items none c.loop-rest.invariant.hands
+
+pub returns-clause-counted : goal.returns-clause-counted
+returns-clause-counted g c = c.loop-rest.invariant.counted

@@ -1,4 +1,4 @@
-use Rattle.std.proofs.Common.{◌+◌, length, arith}
+use Rattle.std.proofs.Common.{◌+◌, ◌≤◌, ◌++◌, length, map, vec_len, vec_capacity, ap, sym, subst, arith}
 use Rattle.sdl_driver.proofs.Rooms.{come_over, fewer_by_one}
 use Rattle.sdl_serial_run.proofs.Begins.{room_for, none_left_of}
 use Rattle.sdl_settling.proofs.back.take_blocks.Goals as goal
@@ -25,3 +25,12 @@ returns-clause-blocks g c = none_left_of (λ t. t.block) c.loop-rest.blocks.item
 
 pub returns-clause-ends : goal.returns-clause-ends
 returns-clause-ends g c = none_left_of (λ t. t.ends) c.loop-rest.ends.items _ c.loop-rest.rest.items (omega (arith, c.loop-rest-test.false, c.len.ensures)) c.loop-rest.invariant.all_ends
+
+pub loop-rest-init : goal.loop-rest-init
+loop-rest-init g c = let same = c.from-rest.ensures.0 in record {
+  block_room = subst (λ xs. vec_len c.args.blocks.now + length xs ≤ vec_capacity c.args.blocks.now) (sym same) c.requires.blocks;
+  end_room = subst (λ xs. vec_len c.args.ends.now + length xs ≤ vec_capacity c.args.ends.now) (sym same) c.requires.ends;
+  all = ap (λ xs. c.args.blocks.now.items ++ map (λ t. t.block) xs) same;
+  all_ends = ap (λ xs. c.args.ends.now.items ++ map (λ t. t.ends) xs) same;
+  more = λ m h. subst (λ xs. vec_len c.args.ends.now + (length xs + m) ≤ vec_capacity c.args.ends.now) (sym same) h;
+}

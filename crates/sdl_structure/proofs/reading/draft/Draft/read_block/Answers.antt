@@ -4,8 +4,9 @@ use Rattle.sdl_parts.specs.declared.parts.Block.{Block}
 use Rattle.sdl_tables.specs.declared.place.Key.TheVariants as key
 use Rattle.sdl_tables.specs.declared.place.Part.TheVariants as part
 use Rattle.sdl_structure.specs.declared.reading.draft.Draft.{Draft}
-use Rattle.sdl_tables.specs.Keys.{keys_of}
-use Rattle.sdl_tables.specs.Tables.{tables_at, has_only}
+use Rattle.sdl_tables.specs.Keys.{is_key, keys_of}
+use Rattle.sdl_tables.specs.Tables.{tables_at, agent_names, has_only}
+use Rattle.sdl_tables.specs.Places.{names_before_in}
 use Rattle.std.specs.List.{AllZip}
 use Rattle.sdl_parts.specs.declared.parts.Scope.TheVariants as scope
 use Rattle.sdl_structure.specs.File.{IsBlockTable, IsChannelTable, channels_in}
@@ -15,6 +16,23 @@ use Rattle.sdl_tables.proofs.ListLemmas.{zip_length}
 use Rattle.sdl_structure.proofs.DraftLemmas.{IsBegun, sets_start, signals_kept, counted_channels, length_before, blocks_next, block_joins, ended_is}
 use Rattle.sdl_structure.proofs.GateLemmas.{block_knows}
 use Rattle.sdl_structure.proofs.reading.draft.Draft.read_block.Goals as goal
+
+pub new_name-requires : goal.new_name-requires
+new_name-requires c = record {
+  here = c.requires.here;
+  listed = ap (λ q. is_key q key.Name) c.requires.part;
+  before = c.requires.read.agents.names
+      ∙ ap (λ k. agent_names (take k (tables_at key.Block (file_of c.args.walk.now)))) c.requires.number
+      ∙ ap (λ q. names_before_in (file_of c.args.walk.now) q c.args.walk.now.place.block c.args.walk.now.place.set c.args.walk.now.place.item) (sym c.requires.part);
+}
+
+pub read_gates-requires : goal.read_gates-requires
+read_gates-requires c = record {
+  here = c.requires.here;
+  listed = ap (λ q. is_key q key.Gate) c.requires.part;
+  signals = rw c.as_slice.ensures.value c.requires.read.signals.named;
+  few = rw c.as_slice.ensures.value c.requires.read.signals.few;
+}
 
 pub read_sets-requires-clause-read : goal.read_sets-requires-clause-read
 read_sets-requires-clause-read c =

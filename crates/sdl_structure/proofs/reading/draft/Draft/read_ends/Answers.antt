@@ -1,8 +1,19 @@
-use Rattle.std.proofs.Common.{rules, arith, ◌≡◌, ◌<◌, length, false, true, subst, sym}
+use Rattle.std.proofs.Common.{rules, arith, ◌≡◌, ◌<◌, length, false, true, subst, sym, refl}
 use Rattle.toml.specs.View.{view}
+use Rattle.sdl_tables.specs.declared.place.Key.TheVariants as key
 use Rattle.sdl_tables.specs.Tables.{is_text}
-use Rattle.sdl_structure.proofs.ChannelLemmas.{bad_end, unknown_end, refuted}
+use Rattle.sdl_structure.specs.File.{NamesEnd}
+use Rattle.sdl_structure.proofs.ChannelLemmas.{listed_in, two_ends, bad_end, unknown_end, refuted}
 use Rattle.sdl_structure.proofs.reading.draft.Draft.read_ends.Goals as goal
+
+pub texts-requires : goal.texts-requires
+texts-requires c = record { here = c.requires.here; listed = listed_in c.args.walk.now key.Ends c.requires.scope.keys refl; texts = refl }
+
+pub returns-in-Some-end_of-clause-read : goal.returns-in-Some-end_of-clause-read
+returns-in-Some-end_of-clause-read c =
+    let vs = c.in_ok-texts.texts.now in
+    let two : length vs ≡ 2 = omega arith in
+    rw c.in_ok-texts.ensures.held (two_ends (NamesEnd c.args.self.now.blocks.items c.args.self.now.sets.items c.args.self.now.gates.items c.args.scope) vs c.index-texts-0-2.result c.index-texts-1-in-Some.result c.in-Some.first c.in-Some-end_of.second two c.index-texts-0-2.is c.index-texts-1-in-Some.is c.in-Some.ensures.found c.in-Some-end_of.ensures.found)
 
 pub returns-then-not-has_one_dot-clause-fault : goal.returns-then-not-has_one_dot-clause-fault
 returns-then-not-has_one_dot-clause-fault c =

@@ -1,0 +1,9 @@
+use Rattle.std.proofs.Common.{rules, ◌≡◌, length}
+use Rattle.sdl_tables.proofs.FaultLemmas.{empty_list}
+use Rattle.sdl_tables.proofs.walk.Walk.some_tables.Goals as goal
+
+pub returns-then-is_empty-clause-fault : goal.returns-then-is_empty-clause-fault
+returns-then-is_empty-clause-fault c =
+    let vs = c.in_ok-values.values.now in
+    let none : length vs ≡ 0 = search rules in
+    empty_list c.args.self.now _ c.args.key vs c.requires.here c.requires.listed c.at.ensures c.requires.kind c.requires.required c.in_ok-values.ensures.held none c.in_ok-values.ensures.kind
