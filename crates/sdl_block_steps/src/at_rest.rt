@@ -1,19 +1,21 @@
 //! The blocks of a system, and the calls that begin to use one: `core BLOCK BUDGET` and `work BLOCK BUDGET`.
-ghost use Rattle.std.specs.Prelude.{◌≡◌, ◌≤◌, ◌<◌, length, All, IfOk, IfSome};
+ghost use Rattle.std.specs.Prelude.{◌≡◌, ◌≤◌, ◌<◌, length, All, IfOk, IfSome, OnOk};
 ghost use Rattle.sdl_forward.specs.Boards.{IsBoardOf};
 ghost use Rattle.sdl_instances.specs.Core.{IsSound};
-ghost use Rattle.sdl_instances.specs.CoreOf.{core_of, parts_of, system_in};
-ghost use Rattle.sdl_block_steps.specs.Stored.{IsStored};
+ghost use Rattle.sdl_instances.specs.CoreOf.{CanFire, core_of, parts_of, system_in};
+ghost use Rattle.sdl_block.specs.Workers.{behaviours_of};
+ghost use Rattle.sdl_block_steps.specs.Stored.{CanGoOn, IsStored};
 
 use crate::cores::use_core;
-use crate::lines::{Lines, text_of};
+use crate::lines::text_of;
+use crate::session::{Session, Site, other_call};
 use crate::workers::{use_worker, write_hand};
-use sdl_block::BlockWorker;
+use sdl_block::{BlockWorker, Hand};
 use sdl_instances::BlockCore;
 use sdl_parts::Checked;
 use sdl_signal::{BlockId, InputEnd};
 use sdl_steps::calls::{Call, Halt, words_of, write_meant, write_text};
-use sdl_steps::common::{Desk, Place, common_call, name_of};
+use sdl_steps::common::{Desk, Place, name_of};
 use sdl_steps::naming::{block_name, block_of};
 use sdl_transition::{Agents, BlockParts};
 use std::alloc::{AllocError, Global};
@@ -26,7 +28,7 @@ const CALLS: &str =
     "no block is in use: core, work, or a call that needs no block; help tells them all";
 
 /// How a block is used.
-#[derive(Clone, Copy, Debug, PartialEq, Eq)]
+#[derive(Clone, Copy)]
 enum Use {
     /// By calls of its core.
     Core,
@@ -79,85 +81,113 @@ fn place_of<S: Agents>(blocks: &[BlockParts<S>], block: BlockId) -> Option<usize
     None
 }
 
-/// The core of the block.
-fn core_of_parts<S: Agents + Drop>(
-    alloc: Global,
-    checked: &Checked,
+/// Uses the block of these parts by its calls. Hands the parts back, with how the input ended, where it did.
+fn use_parts<S: Agents, T: Wait, R: Read, W: Write>(
+    site: &Site<T>,
+    desk: &mut Desk,
     parts: BlockParts<S>,
-    budget: u32,
-) -> Result<BlockCore<S>, AllocError>
-    requires budget { (1 ≤ budget) × (budget ≤ 1000000) }
-    requires stored { IsStored S.may checked.now parts }
-    ensures sound { IfOk result (λ core. (routes : _) → IsSound S.may (system_in core routes) (core_of core)) }
-    ensures parts { IfOk result (λ core. parts_of core ≡ parts) }
+    begin: Begin,
+    session: &mut Session<R, W>,
+) -> (BlockParts<S>, Result<Option<InputEnd>, Halt>)
+    requires stored { IsStored S.may site.now.checked.now parts }
+    requires board { IsBoardOf site.now.place.routes.now desk.old.board }
+    ensures parts { result.0 ≡ parts }
+    ensures board { IfOk result.1 (λ _. IsBoardOf site.now.place.routes.now desk.new.board) }
 {
-    match BlockCore::new(alloc, parts, checked, budget) {
-        Ok(core) => Ok(core),
-        Err((_, error)) => Err(error),
+    match BlockCore::new(site.place.alloc, parts, site.checked, begin.budget) {
+        Ok(core) => match begin.using {
+            Use::Core => use_as_core(site, desk, core, begin, session),
+            Use::Work => use_as_worker(site, desk, core, begin, session),
+        },
+        Err((parts, error)) => (parts, Err(Halt::from(error))),
     }
 }
 
-/// Uses the core of the block at this place by its calls, and answers how the input ended, where it did.
-fn use_as_core<S: Agents + Drop, T: Wait, R: Read, W: Write>(
-    rt: &T,
-    place: &Place,
-    checked: &Checked,
+/// Uses the core by its calls: the same.
+fn use_as_core<S: Agents, T: Wait, R: Read, W: Write>(
+    site: &Site<T>,
     desk: &mut Desk,
-    blocks: &mut Vec<BlockParts<S>>,
-    chosen: Chosen,
-    lines: &mut Lines,
-    input: &mut R,
-    output: &mut W,
-) -> Result<Option<InputEnd>, Halt>
-    requires within { chosen.at < length blocks.old.items }
-    requires board { IsBoardOf place.now.routes.now desk.old.board }
-    requires stored { All (IsStored S.may checked.now) blocks.old.items }
-    ensures board { IfOk result (λ _. IsBoardOf place.now.routes.now desk.new.board) }
-    ensures stored { IfOk result (λ _. All (IsStored S.may checked.now) blocks.new.items) }
+    core: BlockCore<S>,
+    begin: Begin,
+    session: &mut Session<R, W>,
+) -> (BlockParts<S>, Result<Option<InputEnd>, Halt>)
+    requires board { IsBoardOf site.now.place.routes.now desk.old.board }
+    requires sound { IsSound S.may (system_in core site.now.place.routes.now) (core_of core) }
+    requires parts { CanFire S.may (parts_of core) }
+    ensures parts { result.0 ≡ parts_of core }
+    ensures board { IfOk result.1 (λ _. IsBoardOf site.now.place.routes.now desk.new.board) }
 {
-    let parts = take_at(checked, blocks, chosen.at);
-    let mut core = core_of_parts(place.alloc, checked, parts, chosen.begin.budget)?;
-    write_begin(output, place, chosen.begin)?;
-    let end = use_core(rt, place, desk, &mut core, lines, input, output)?;
+    let mut core = core;
+    let end = begin_core(site, desk, &mut core, begin, session);
     let (parts, log, left) = core.into_parts();
-    if end.is_none() {
-        write_end(output, place, chosen.begin.block, log.len(), left)?;
-    }
-    put_back(checked, blocks, parts)?;
-    Ok(end)
+    let rest = Rest {
+        block: begin.block,
+        events: log.len(),
+        left,
+    };
+    (parts, finish(session.output, &site.place, end, rest))
 }
 
-/// Uses the block at this place over the board by its calls: the same.
-fn use_as_worker<S: Agents + Drop, T: Wait, R: Read, W: Write>(
-    rt: &T,
-    place: &Place,
-    checked: &Checked,
+/// Writes that the core begins to be used, and answers its calls.
+fn begin_core<S: Agents, T: Wait, R: Read, W: Write>(
+    site: &Site<T>,
     desk: &mut Desk,
-    blocks: &mut Vec<BlockParts<S>>,
-    chosen: Chosen,
-    lines: &mut Lines,
-    input: &mut R,
-    output: &mut W,
+    core: &mut BlockCore<S>,
+    begin: Begin,
+    session: &mut Session<R, W>,
 ) -> Result<Option<InputEnd>, Halt>
-    requires within { chosen.at < length blocks.old.items }
-    requires board { IsBoardOf place.now.routes.now desk.old.board }
-    requires stored { All (IsStored S.may checked.now) blocks.old.items }
-    ensures board { IfOk result (λ _. IsBoardOf place.now.routes.now desk.new.board) }
-    ensures stored { IfOk result (λ _. All (IsStored S.may checked.now) blocks.new.items) }
+    requires board { IsBoardOf site.now.place.routes.now desk.old.board }
+    requires sound { IsSound S.may (system_in core.old site.now.place.routes.now) (core_of core.old) }
+    requires parts { CanFire S.may (parts_of core.old) }
+    ensures board { IfOk result (λ _. IsBoardOf site.now.place.routes.now desk.new.board) }
+    ensures parts { parts_of core.new ≡ parts_of core.old }
 {
-    let parts = take_at(checked, blocks, chosen.at);
-    let core = core_of_parts(place.alloc, checked, parts, chosen.begin.budget)?;
-    write_begin(output, place, chosen.begin)?;
+    write_begin(session.output, &site.place, begin)?;
+    use_core(site, desk, core, session)
+}
+
+/// Uses the block of the core over the board by its calls: the same.
+fn use_as_worker<S: Agents, T: Wait, R: Read, W: Write>(
+    site: &Site<T>,
+    desk: &mut Desk,
+    core: BlockCore<S>,
+    begin: Begin,
+    session: &mut Session<R, W>,
+) -> (BlockParts<S>, Result<Option<InputEnd>, Halt>)
+    requires board { IsBoardOf site.now.place.routes.now desk.old.board }
+    requires sound { IsSound S.may (system_in core site.now.place.routes.now) (core_of core) }
+    requires parts { CanFire S.may (parts_of core) }
+    ensures parts { result.0 ≡ parts_of core }
+    ensures board { IfOk result.1 (λ _. IsBoardOf site.now.place.routes.now desk.new.board) }
+{
     let mut worker = BlockWorker::new(core);
-    let end = use_worker(rt, place, desk, &mut worker, lines, input, output)?;
+    let end = begin_worker(site, desk, &mut worker, begin, session);
     let (core, hand) = worker.into_parts();
     let (parts, log, left) = core.into_parts();
-    if end.is_none() {
-        write_hand(output, place, &hand)?;
-        write_end(output, place, chosen.begin.block, log.len(), left)?;
-    }
-    put_back(checked, blocks, parts)?;
-    Ok(end)
+    let end = finish_hand(session.output, &site.place, end, &hand);
+    let rest = Rest {
+        block: begin.block,
+        events: log.len(),
+        left,
+    };
+    (parts, finish(session.output, &site.place, end, rest))
+}
+
+/// Writes that the block begins to be used, and answers its calls.
+fn begin_worker<S: Agents, T: Wait, R: Read, W: Write>(
+    site: &Site<T>,
+    desk: &mut Desk,
+    worker: &mut BlockWorker<S>,
+    begin: Begin,
+    session: &mut Session<R, W>,
+) -> Result<Option<InputEnd>, Halt>
+    requires worker { CanGoOn S.may worker.old site.now.place.routes.now }
+    requires board { IsBoardOf site.now.place.routes.now desk.old.board }
+    ensures board { IfOk result (λ _. IsBoardOf site.now.place.routes.now desk.new.board) }
+    ensures parts { behaviours_of worker.new ≡ behaviours_of worker.old }
+{
+    write_begin(session.output, &site.place, begin)?;
+    use_worker(site, desk, worker, session)
 }
 
 /// Writes that a block begins to be used.
@@ -167,49 +197,52 @@ fn write_begin<W: Write>(output: &mut W, place: &Place, begin: Begin) -> Result<
     Ok(())
 }
 
-/// Writes the block, how many events there are, and how many signals wait in its ports.
-fn write_end<W: Write>(
-    output: &mut W,
-    place: &Place,
+/// What a block has when its use ends: how many events, and how many signals that wait in its ports.
+#[derive(Clone, Copy)]
+struct Rest {
     block: BlockId,
     events: usize,
     left: u64,
-) -> Result<(), Halt> {
-    let block = block_name(place.structure, block);
-    writeln!(output, "end {block} events {events} left {left}")?;
-    Ok(())
 }
 
-/// Uses one of the blocks, and answers how the input ended, where it did.
-fn use_block<S: Agents + Drop, T: Wait, R: Read, W: Write>(
-    rt: &T,
-    place: &Place,
-    checked: &Checked,
-    desk: &mut Desk,
-    blocks: &mut Vec<BlockParts<S>>,
-    begin: Begin,
-    lines: &mut Lines,
-    input: &mut R,
+/// After `end`, writes what the block has. Answers how its use ended.
+fn finish<W: Write>(
     output: &mut W,
+    place: &Place,
+    end: Result<Option<InputEnd>, Halt>,
+    rest: Rest,
 ) -> Result<Option<InputEnd>, Halt>
-    requires board { IsBoardOf place.now.routes.now desk.old.board }
-    requires stored { All (IsStored S.may checked.now) blocks.old.items }
-    ensures board { IfOk result (λ _. IsBoardOf place.now.routes.now desk.new.board) }
-    ensures stored { IfOk result (λ _. All (IsStored S.may checked.now) blocks.new.items) }
+    ensures { OnOk result (result ≡ end) }
 {
-    let Some(at) = place_of(blocks.as_slice(), begin.block) else {
-        write_text(output, "no agents for this block")?;
-        return Ok(None);
-    };
-    let chosen = Chosen { at, begin };
-    match begin.using {
-        Use::Core => use_as_core(
-            rt, place, checked, desk, blocks, chosen, lines, input, output,
-        ),
-        Use::Work => use_as_worker(
-            rt, place, checked, desk, blocks, chosen, lines, input, output,
-        ),
+    if let Ok(None) = end {
+        write_end(output, place, rest)?;
     }
+    end
+}
+
+/// After `end`, writes what the block has in hand. Answers how its use ended.
+fn finish_hand<W: Write>(
+    output: &mut W,
+    place: &Place,
+    end: Result<Option<InputEnd>, Halt>,
+    hand: &Hand,
+) -> Result<Option<InputEnd>, Halt>
+    ensures { OnOk result (result ≡ end) }
+{
+    if let Ok(None) = end {
+        write_hand(output, place, hand)?;
+    }
+    end
+}
+
+fn write_end<W: Write>(output: &mut W, place: &Place, rest: Rest) -> Result<(), Halt> {
+    let block = block_name(place.structure, rest.block);
+    writeln!(
+        output,
+        "end {block} events {} left {}",
+        rest.events, rest.left
+    )?;
+    Ok(())
 }
 
 /// Takes the parts at this place.
@@ -244,35 +277,70 @@ fn put_back<S: Agents + Drop>(
     }
 }
 
+/// Uses one of the blocks, and answers how the input ended, where it did.
+fn use_block<S: Agents + Drop, T: Wait, R: Read, W: Write>(
+    site: &Site<T>,
+    desk: &mut Desk,
+    blocks: &mut Vec<BlockParts<S>>,
+    chosen: Chosen,
+    session: &mut Session<R, W>,
+) -> Result<Option<InputEnd>, Halt>
+    requires within { chosen.at < length blocks.old.items }
+    requires board { IsBoardOf site.now.place.routes.now desk.old.board }
+    requires stored { All (IsStored S.may site.now.checked.now) blocks.old.items }
+    ensures board { IfOk result (λ _. IsBoardOf site.now.place.routes.now desk.new.board) }
+    ensures stored { All (IsStored S.may site.now.checked.now) blocks.new.items }
+{
+    let parts = take_at(site.checked, blocks, chosen.at);
+    let (parts, end) = use_parts(site, desk, parts, chosen.begin, session);
+    let kept = put_back(site.checked, blocks, parts);
+    let end = end?;
+    kept?;
+    Ok(end)
+}
+
+/// Answers `core` and `work`.
+fn begin_call<S: Agents + Drop, T: Wait, R: Read, W: Write>(
+    site: &Site<T>,
+    desk: &mut Desk,
+    blocks: &mut Vec<BlockParts<S>>,
+    using: Use,
+    call: Call,
+    session: &mut Session<R, W>,
+) -> Result<Option<InputEnd>, Halt>
+    requires board { IsBoardOf site.now.place.routes.now desk.old.board }
+    requires stored { All (IsStored S.may site.now.checked.now) blocks.old.items }
+    ensures board { IfOk result (λ _. IsBoardOf site.now.place.routes.now desk.new.board) }
+    ensures stored { All (IsStored S.may site.now.checked.now) blocks.new.items }
+{
+    let Some(begin) = begin_of(&site.place, using, call.words) else {
+        write_meant(session.output, call.line, BEGIN)?;
+        return Ok(None);
+    };
+    let Some(at) = place_of(blocks.as_slice(), begin.block) else {
+        write_text(session.output, "no agents for this block")?;
+        return Ok(None);
+    };
+    use_block(site, desk, blocks, Chosen { at, begin }, session)
+}
+
 /// Answers a call while no block is in use.
 fn call_at_rest<S: Agents + Drop, T: Wait, R: Read, W: Write>(
-    rt: &T,
-    place: &Place,
-    checked: &Checked,
+    site: &Site<T>,
     desk: &mut Desk,
     blocks: &mut Vec<BlockParts<S>>,
     call: Call,
-    lines: &mut Lines,
-    input: &mut R,
-    output: &mut W,
+    session: &mut Session<R, W>,
 ) -> Result<Option<InputEnd>, Halt>
-    requires board { IsBoardOf place.now.routes.now desk.old.board }
-    requires stored { All (IsStored S.may checked.now) blocks.old.items }
-    ensures board { IfOk result (λ _. IsBoardOf place.now.routes.now desk.new.board) }
-    ensures stored { IfOk result (λ _. All (IsStored S.may checked.now) blocks.new.items) }
+    requires board { IsBoardOf site.now.place.routes.now desk.old.board }
+    requires stored { All (IsStored S.may site.now.checked.now) blocks.old.items }
+    ensures board { IfOk result (λ _. IsBoardOf site.now.place.routes.now desk.new.board) }
+    ensures stored { All (IsStored S.may site.now.checked.now) blocks.new.items }
 {
-    let Some(using) = use_of(name_of(call)) else {
-        if !common_call(rt, place, desk, call, output)? {
-            write_meant(output, call.line, CALLS)?;
-        }
-        return Ok(None);
-    };
-    match begin_of(place, using, call.words) {
-        Some(begin) => use_block(
-            rt, place, checked, desk, blocks, begin, lines, input, output,
-        ),
+    match use_of(name_of(call)) {
+        Some(using) => begin_call(site, desk, blocks, using, call, session),
         None => {
-            write_meant(output, call.line, BEGIN)?;
+            other_call(site, desk, call, CALLS, session.output)?;
             Ok(None)
         }
     }
@@ -288,34 +356,39 @@ fn use_of(name: &str) -> Option<Use> {
     }
 }
 
-/// Answers all calls, and answers how the input ended.
-pub fn use_blocks<S: Agents + Drop, T: Wait, R: Read, W: Write>(
-    rt: &T,
-    place: &Place,
-    checked: &Checked,
+/// Answers the call of the next line. Answers how the input ended, where it did.
+fn line_at_rest<S: Agents + Drop, T: Wait, R: Read, W: Write>(
+    site: &Site<T>,
     desk: &mut Desk,
     blocks: &mut Vec<BlockParts<S>>,
-    input: &mut R,
-    output: &mut W,
-) -> Result<InputEnd, Halt>
-    requires board { IsBoardOf place.now.routes.now desk.old.board }
-    requires stored { All (IsStored S.may checked.now) blocks.old.items }
+    session: &mut Session<R, W>,
+) -> Result<Option<InputEnd>, Halt>
+    requires board { IsBoardOf site.now.place.routes.now desk.old.board }
+    requires stored { All (IsStored S.may site.now.checked.now) blocks.old.items }
+    ensures board { IfOk result (λ _. IsBoardOf site.now.place.routes.now desk.new.board) }
+    ensures stored { All (IsStored S.may site.now.checked.now) blocks.new.items }
 {
-    let mut lines = Lines::new();
+    let line = match session.next_line() {
+        Ok(line) => line,
+        Err(end) => return Ok(Some(end)),
+    };
+    let words = words_of(site.place.alloc, text_of(&line))?;
+    let call = session.call(words.as_slice());
+    call_at_rest(site, desk, blocks, call, session)
+}
+
+/// Answers all calls, and answers how the input ended.
+pub fn use_blocks<S: Agents + Drop, T: Wait, R: Read, W: Write>(
+    site: &Site<T>,
+    desk: &mut Desk,
+    blocks: &mut Vec<BlockParts<S>>,
+    session: &mut Session<R, W>,
+) -> Result<InputEnd, Halt>
+    requires board { IsBoardOf site.now.place.routes.now desk.old.board }
+    requires stored { All (IsStored S.may site.now.checked.now) blocks.old.items }
+{
     'calls: for _ in 0..u64::MAX {
-        let line = match lines.next(input) {
-            Ok(line) => line,
-            Err(end) => return Ok(end),
-        };
-        let words = words_of(place.alloc, text_of(&line))?;
-        let call = Call {
-            words: words.as_slice(),
-            line: lines.number,
-        };
-        let end = call_at_rest(
-            rt, place, checked, desk, blocks, call, &mut lines, input, output,
-        )?;
-        if let Some(end) = end {
+        if let Some(end) = line_at_rest(site, desk, blocks, session)? {
             return Ok(end);
         }
     }

@@ -8,12 +8,13 @@ ghost use Rattle.sdl_instances.specs.Arriving.{CanArrive};
 ghost use Rattle.sdl_instances.specs.Machine.{Arrives};
 
 use crate::events::{Shown, cause_text, write_event};
-use crate::lines::{Lines, text_of};
+use crate::lines::text_of;
+use crate::session::{Next, Session, Site, other_call};
 use sdl_instances::{Arrival, BlockCore, Event, Turned};
 use sdl_routes::Routes;
 use sdl_signal::{InputEnd, Item};
 use sdl_steps::calls::{Call, Halt, words_of, write_meant};
-use sdl_steps::common::{Desk, Place, common_call, name_of};
+use sdl_steps::common::{Desk, Place, name_of};
 use sdl_steps::desk::given_after_name;
 use sdl_steps::naming::block_name;
 use sdl_steps::texts::{write_item, write_pid};
@@ -31,7 +32,8 @@ const TURN: &str = "turn [PICK]";
 const CALLS: &str =
     "a call of the core (arrive, turn, knew, counts, log, end), or one that needs no block; help tells them all";
 
-/// Lets the item arrive where it may, and answers nothing where it may not.
+/// Lets the item arrive where it may, and answers nothing where it may not. After a refusal all is as it was, so the call is
+/// made once more.
 pub fn arrive<S: Agents>(
     core: &mut BlockCore<S>,
     routes: &Routes,
@@ -52,7 +54,10 @@ pub fn arrive<S: Agents>(
     }
     match core.arrive(routes, item, pick) {
         Ok(arrival) => Ok(Some(arrival)),
-        Err((_, error)) => Err(error),
+        Err((item, _)) => match core.arrive(routes, item, pick) {
+            Ok(arrival) => Ok(Some(arrival)),
+            Err((_, error)) => Err(error),
+        },
     }
 }
 
@@ -98,7 +103,7 @@ fn write_arrival<W: Write>(
     }
 }
 
-/// Lets an instance make a turn.
+/// Lets an instance make a turn. After a refusal all is as it was, so the call is made once more.
 fn turn<S: Agents>(
     core: &mut BlockCore<S>,
     routes: &Routes,
@@ -110,7 +115,10 @@ fn turn<S: Agents>(
     ensures sound { IfOk result (λ _. IsSound S.may (system_in core.new routes.now) (core_of core.new)) }
     ensures parts { parts_of core.new ≡ parts_of core.old }
 {
-    core.turn(routes, pick)
+    match core.turn(routes, pick) {
+        Ok(turned) => Ok(turned),
+        Err(_) => core.turn(routes, pick),
+    }
 }
 
 /// `turn`: `idle`, `spent`, or what the turn was and did, and the items that it sent.
@@ -242,68 +250,110 @@ fn look_call<S: Agents, W: Write>(
     Ok(true)
 }
 
+/// Answers a call that leaves the core as it is.
+fn still_call<S: Agents, T: Wait, W: Write>(
+    site: &Site<T>,
+    desk: &mut Desk,
+    core: &BlockCore<S>,
+    call: Call,
+    output: &mut W,
+) -> Result<(), Halt>
+    requires { IsBoardOf site.now.place.routes.now desk.old.board }
+    ensures { IfOk result (λ _. IsBoardOf site.now.place.routes.now desk.new.board) }
+{
+    if look_call(&site.place, core, name_of(call), output)? {
+        return Ok(());
+    }
+    other_call(site, desk, call, CALLS, output)
+}
+
 /// Answers a call.
 fn core_call<S: Agents, T: Wait, W: Write>(
-    rt: &T,
-    place: &Place,
+    site: &Site<T>,
     desk: &mut Desk,
     core: &mut BlockCore<S>,
     call: Call,
     output: &mut W,
 ) -> Result<(), Halt>
-    requires board { IsBoardOf place.now.routes.now desk.old.board }
-    requires sound { IsSound S.may (system_in core.old place.now.routes.now) (core_of core.old) }
+    requires board { IsBoardOf site.now.place.routes.now desk.old.board }
+    requires sound { IsSound S.may (system_in core.old site.now.place.routes.now) (core_of core.old) }
     requires parts { CanFire S.may (parts_of core.old) }
-    ensures board { IfOk result (λ _. IsBoardOf place.now.routes.now desk.new.board) }
-    ensures sound { IfOk result (λ _. IsSound S.may (system_in core.new place.now.routes.now) (core_of core.new)) }
+    ensures board { IfOk result (λ _. IsBoardOf site.now.place.routes.now desk.new.board) }
+    ensures sound { IfOk result (λ _. IsSound S.may (system_in core.new site.now.place.routes.now) (core_of core.new)) }
     ensures parts { parts_of core.new ≡ parts_of core.old }
 {
     let name = name_of(call);
     if name == "arrive" {
-        return arrive_call(place, desk, core, call, output);
+        arrive_call(&site.place, desk, core, call, output)
+    } else if name == "turn" {
+        turn_call(&site.place, core, call, output)
+    } else {
+        still_call(site, desk, core, call, output)
     }
-    if name == "turn" {
-        return turn_call(place, core, call, output);
+}
+
+/// Answers a call, and `end`.
+fn core_call_or_end<S: Agents, T: Wait, W: Write>(
+    site: &Site<T>,
+    desk: &mut Desk,
+    core: &mut BlockCore<S>,
+    call: Call,
+    output: &mut W,
+) -> Result<Next, Halt>
+    requires board { IsBoardOf site.now.place.routes.now desk.old.board }
+    requires sound { IsSound S.may (system_in core.old site.now.place.routes.now) (core_of core.old) }
+    requires parts { CanFire S.may (parts_of core.old) }
+    ensures board { IfOk result (λ _. IsBoardOf site.now.place.routes.now desk.new.board) }
+    ensures sound { IfOk result (λ _. IsSound S.may (system_in core.new site.now.place.routes.now) (core_of core.new)) }
+    ensures parts { parts_of core.new ≡ parts_of core.old }
+{
+    if name_of(call) == "end" {
+        return Ok(Next::Over(None));
     }
-    if look_call(place, core, name, output)? {
-        return Ok(());
-    }
-    if common_call(rt, place, desk, call, output)? {
-        return Ok(());
-    }
-    write_meant(output, call.line, CALLS)
+    core_call(site, desk, core, call, output)?;
+    Ok(Next::Line)
+}
+
+/// Answers the call of the next line.
+fn core_line<S: Agents, T: Wait, R: Read, W: Write>(
+    site: &Site<T>,
+    desk: &mut Desk,
+    core: &mut BlockCore<S>,
+    session: &mut Session<R, W>,
+) -> Result<Next, Halt>
+    requires board { IsBoardOf site.now.place.routes.now desk.old.board }
+    requires sound { IsSound S.may (system_in core.old site.now.place.routes.now) (core_of core.old) }
+    requires parts { CanFire S.may (parts_of core.old) }
+    ensures board { IfOk result (λ _. IsBoardOf site.now.place.routes.now desk.new.board) }
+    ensures sound { IfOk result (λ _. IsSound S.may (system_in core.new site.now.place.routes.now) (core_of core.new)) }
+    ensures parts { parts_of core.new ≡ parts_of core.old }
+{
+    let line = match session.next_line() {
+        Ok(line) => line,
+        Err(end) => return Ok(Next::Over(Some(end))),
+    };
+    let words = words_of(site.place.alloc, text_of(&line))?;
+    let call = session.call(words.as_slice());
+    core_call_or_end(site, desk, core, call, session.output)
 }
 
 /// Answers the calls of the core up to `end`; or else answers how the input ended.
 pub fn use_core<S: Agents, T: Wait, R: Read, W: Write>(
-    rt: &T,
-    place: &Place,
+    site: &Site<T>,
     desk: &mut Desk,
     core: &mut BlockCore<S>,
-    lines: &mut Lines,
-    input: &mut R,
-    output: &mut W,
+    session: &mut Session<R, W>,
 ) -> Result<Option<InputEnd>, Halt>
-    requires board { IsBoardOf place.now.routes.now desk.old.board }
-    requires sound { IsSound S.may (system_in core.old place.now.routes.now) (core_of core.old) }
+    requires board { IsBoardOf site.now.place.routes.now desk.old.board }
+    requires sound { IsSound S.may (system_in core.old site.now.place.routes.now) (core_of core.old) }
     requires parts { CanFire S.may (parts_of core.old) }
-    ensures board { IfOk result (λ _. IsBoardOf place.now.routes.now desk.new.board) }
-    ensures parts { IfOk result (λ _. parts_of core.new ≡ parts_of core.old) }
+    ensures board { IfOk result (λ _. IsBoardOf site.now.place.routes.now desk.new.board) }
+    ensures parts { parts_of core.new ≡ parts_of core.old }
 {
     'calls: for _ in 0..u64::MAX {
-        let line = match lines.next(input) {
-            Ok(line) => line,
-            Err(end) => return Ok(Some(end)),
-        };
-        let words = words_of(place.alloc, text_of(&line))?;
-        let call = Call {
-            words: words.as_slice(),
-            line: lines.number,
-        };
-        if name_of(call) == "end" {
-            return Ok(None);
+        if let Next::Over(end) = core_line(site, desk, core, session)? {
+            return Ok(end);
         }
-        core_call(rt, place, desk, core, call, output)?;
     }
     Ok(None)
 }

@@ -7,4 +7,5 @@ pub mod events;
 pub mod lines;
 pub mod rows;
 pub mod runner;
+pub mod session;
 pub mod workers;

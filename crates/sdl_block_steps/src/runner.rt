@@ -1,6 +1,7 @@
 //! Binds the behaviours of a built-in system to its structure, and answers the calls.
 ghost use Rattle.std.specs.List.{AllByRecursion};
 ghost use Rattle.std.specs.Prelude.{All};
+ghost use Rattle.sdl_forward.specs.Boards.{IsBoardOf};
 ghost use Rattle.sdl_routes.specs.Routes.{AreRoutesOf};
 ghost use Rattle.sdl_transition.specs.Bound.{AreOneSystem, IsBound};
 ghost use Rattle.sdl_transition.specs.Transitions.{IsAllowedBehaviour};
@@ -8,6 +9,7 @@ ghost use Rattle.sdl_block_steps.specs.Stored.{IsStored};
 
 use crate::at_rest::use_blocks;
 use crate::rows::keep_rows;
+use crate::session::{Session, Site};
 use sdl_agents::Runner;
 use sdl_instances::bounds::parts_are_bound;
 use sdl_parts::Checked;
@@ -60,7 +62,8 @@ impl<'a, T: Wait, R: Read, W: Write> Runner for Trial<'a, T, R, W> {
         } = self;
         let mut behaviours = behaviours;
         keep_rows(&mut behaviours, signals);
-        try_behaviours(rt, alloc, checked, routes, behaviours, input, output)
+        let mut session = Session::new(input, output);
+        try_behaviours(rt, alloc, checked, routes, behaviours, &mut session)
     }
 }
 
@@ -71,14 +74,13 @@ fn try_behaviours<S: Agents + Drop, T: Wait, R: Read, W: Write>(
     checked: Checked,
     routes: Routes,
     behaviours: Vec<Behaviour<S>>,
-    input: &mut R,
-    output: &mut W,
+    session: &mut Session<R, W>,
 ) -> Ended
     requires routes { AreRoutesOf checked routes }
     requires allowed { AllByRecursion (IsAllowedBehaviour S.may) behaviours.items }
 {
     match bind(alloc, checked, routes, behaviours) {
-        Ok(bound) => try_bound(rt, alloc, bound, input, output),
+        Ok(bound) => try_bound(rt, alloc, bound, session),
         Err(unbound) => Ended::Unbound(unbound.fault),
     }
 }
@@ -88,14 +90,13 @@ fn try_bound<S: Agents + Drop, T: Wait, R: Read, W: Write>(
     rt: &T,
     alloc: Global,
     bound: Bound<S>,
-    input: &mut R,
-    output: &mut W,
+    session: &mut Session<R, W>,
 ) -> Ended
     requires { IsBound S.may bound }
 {
     let (checked, routes, blocks) = bound.into_blocks();
     are_stored(&checked, &routes, &blocks);
-    try_blocks(rt, alloc, &checked, &routes, blocks, input, output)
+    answer_calls(rt, alloc, &checked, &routes, blocks, session)
 }
 
 /// Answers the calls on a system of which these blocks have agents.
@@ -110,17 +111,50 @@ pub fn try_blocks<S: Agents + Drop, T: Wait, R: Read, W: Write>(
 ) -> Ended
     requires { All (IsStored S.may checked.now) blocks.items }
 {
+    let mut session = Session::new(input, output);
+    answer_calls(rt, alloc, checked, routes, blocks, &mut session)
+}
+
+/// The same, in a session.
+fn answer_calls<S: Agents + Drop, T: Wait, R: Read, W: Write>(
+    rt: &T,
+    alloc: Global,
+    checked: &Checked,
+    routes: &Routes,
+    blocks: Vec<BlockParts<S>>,
+    session: &mut Session<R, W>,
+) -> Ended
+    requires { All (IsStored S.may checked.now) blocks.items }
+{
     let mut blocks = blocks;
-    let place = Place {
-        alloc,
-        routes,
-        structure: checked.structure(),
+    let structure = checked.structure();
+    let site = Site {
+        rt,
+        checked,
+        place: Place {
+            alloc,
+            routes,
+            structure,
+        },
     };
-    let mut desk = match Desk::new(alloc, routes) {
-        Ok(desk) => desk,
-        Err(_) => return Ended::Halted(Halt::Memory),
-    };
-    match use_blocks(rt, &place, checked, &mut desk, &mut blocks, input, output) {
+    match Desk::new(alloc, routes) {
+        Ok(desk) => answer_at(&site, desk, &mut blocks, session),
+        Err(_) => Ended::Halted(Halt::Memory),
+    }
+}
+
+/// The same, at this desk.
+fn answer_at<S: Agents + Drop, T: Wait, R: Read, W: Write>(
+    site: &Site<T>,
+    desk: Desk,
+    blocks: &mut Vec<BlockParts<S>>,
+    session: &mut Session<R, W>,
+) -> Ended
+    requires board { IsBoardOf site.now.place.routes.now desk.board }
+    requires stored { All (IsStored S.may site.now.checked.now) blocks.old.items }
+{
+    let mut desk = desk;
+    match use_blocks(site, &mut desk, blocks, session) {
         Ok(end) => Ended::Input(end),
         Err(halt) => Ended::Halted(halt),
     }

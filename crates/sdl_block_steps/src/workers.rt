@@ -8,13 +8,14 @@ ghost use Rattle.sdl_block.specs.Workers.{worker_of, behaviours_of, system_aroun
 ghost use Rattle.sdl_block_steps.specs.Stored.{CanGoOn};
 
 use crate::cores::{pick_of, write_counts, write_items};
-use crate::lines::{Lines, text_of};
+use crate::lines::text_of;
+use crate::session::{Next, Session, Site, other_call};
 use sdl_block::{BlockWorker, Hand, Stepped};
 use sdl_forward::Board;
 use sdl_routes::Routes;
 use sdl_signal::InputEnd;
 use sdl_steps::calls::{Call, Halt, words_of, write_meant, write_text};
-use sdl_steps::common::{Desk, Place, common_call, name_of};
+use sdl_steps::common::{Desk, Place, name_of};
 use sdl_steps::texts::write_item;
 use sdl_transition::Agents;
 use std::io;
@@ -43,7 +44,8 @@ fn step<S: Agents>(
     worker.step_serial(routes, board, pick)
 }
 
-/// `step`: `did`, `idle`, or `refused` where memory was refused or an item may not arrive.
+/// `step`: `did`, `idle`, or `refused` where memory was refused twice or an item may not arrive. What a refused step has in
+/// hand is where the next one goes on.
 fn step_call<S: Agents, W: Write>(
     place: &Place,
     board: &mut Board,
@@ -60,7 +62,10 @@ fn step_call<S: Agents, W: Write>(
     let Some(pick) = pick_of(call.words) else {
         return write_meant(output, call.line, STEP);
     };
-    let stepped = step(worker, place.routes, board, pick);
+    let stepped = match step(worker, place.routes, board, pick) {
+        Stepped::Memory => step(worker, place.routes, board, pick),
+        made => made,
+    };
     write_text(output, text_of_step(stepped))
 }
 
@@ -72,69 +77,100 @@ fn text_of_step(stepped: Stepped) -> &'static str {
     }
 }
 
-/// Answers a call.
+/// Answers a call that leaves the block as it is.
+fn still_call<S: Agents, T: Wait, W: Write>(
+    site: &Site<T>,
+    desk: &mut Desk,
+    worker: &BlockWorker<S>,
+    call: Call,
+    output: &mut W,
+) -> Result<(), Halt>
+    requires { IsBoardOf site.now.place.routes.now desk.old.board }
+    ensures { IfOk result (λ _. IsBoardOf site.now.place.routes.now desk.new.board) }
+{
+    if name_of(call) == "counts" {
+        write_worker_counts(output, worker)?;
+        return Ok(());
+    }
+    other_call(site, desk, call, CALLS, output)
+}
+
+fn write_worker_counts<S: Agents, W: Write>(
+    output: &mut W,
+    worker: &BlockWorker<S>,
+) -> io::Result<()> {
+    write_counts(
+        output,
+        worker.made(),
+        worker.left_in_ports(),
+        worker.is_settled(),
+    )
+}
+
+/// Answers a call, and `end`.
 fn worker_call<S: Agents, T: Wait, W: Write>(
-    rt: &T,
-    place: &Place,
+    site: &Site<T>,
     desk: &mut Desk,
     worker: &mut BlockWorker<S>,
     call: Call,
     output: &mut W,
-) -> Result<(), Halt>
-    requires worker { CanGoOn S.may worker.old place.now.routes.now }
-    requires board { IsBoardOf place.now.routes.now desk.old.board }
-    ensures worker { IfOk result (λ _. CanGoOn S.may worker.new place.now.routes.now) }
-    ensures board { IfOk result (λ _. IsBoardOf place.now.routes.now desk.new.board) }
+) -> Result<Next, Halt>
+    requires worker { CanGoOn S.may worker.old site.now.place.routes.now }
+    requires board { IsBoardOf site.now.place.routes.now desk.old.board }
+    ensures worker { IfOk result (λ _. CanGoOn S.may worker.new site.now.place.routes.now) }
+    ensures board { IfOk result (λ _. IsBoardOf site.now.place.routes.now desk.new.board) }
     ensures parts { behaviours_of worker.new ≡ behaviours_of worker.old }
 {
     let name = name_of(call);
+    if name == "end" {
+        return Ok(Next::Over(None));
+    }
     if name == "step" {
-        return step_call(place, &mut desk.board, worker, call, output);
+        step_call(&site.place, &mut desk.board, worker, call, output)?;
+    } else {
+        still_call(site, desk, worker, call, output)?;
     }
-    if name == "counts" {
-        write_counts(
-            output,
-            worker.made(),
-            worker.left_in_ports(),
-            worker.is_settled(),
-        )?;
-        return Ok(());
-    }
-    if common_call(rt, place, desk, call, output)? {
-        return Ok(());
-    }
-    write_meant(output, call.line, CALLS)
+    Ok(Next::Line)
+}
+
+/// Answers the call of the next line.
+fn worker_line<S: Agents, T: Wait, R: Read, W: Write>(
+    site: &Site<T>,
+    desk: &mut Desk,
+    worker: &mut BlockWorker<S>,
+    session: &mut Session<R, W>,
+) -> Result<Next, Halt>
+    requires worker { CanGoOn S.may worker.old site.now.place.routes.now }
+    requires board { IsBoardOf site.now.place.routes.now desk.old.board }
+    ensures worker { IfOk result (λ _. CanGoOn S.may worker.new site.now.place.routes.now) }
+    ensures board { IfOk result (λ _. IsBoardOf site.now.place.routes.now desk.new.board) }
+    ensures parts { behaviours_of worker.new ≡ behaviours_of worker.old }
+{
+    let line = match session.next_line() {
+        Ok(line) => line,
+        Err(end) => return Ok(Next::Over(Some(end))),
+    };
+    let words = words_of(site.place.alloc, text_of(&line))?;
+    let call = session.call(words.as_slice());
+    worker_call(site, desk, worker, call, session.output)
 }
 
 /// Answers the calls of the block at work up to `end`; or else answers how the input ended.
 pub fn use_worker<S: Agents, T: Wait, R: Read, W: Write>(
-    rt: &T,
-    place: &Place,
+    site: &Site<T>,
     desk: &mut Desk,
     worker: &mut BlockWorker<S>,
-    lines: &mut Lines,
-    input: &mut R,
-    output: &mut W,
+    session: &mut Session<R, W>,
 ) -> Result<Option<InputEnd>, Halt>
-    requires worker { CanGoOn S.may worker.old place.now.routes.now }
-    requires board { IsBoardOf place.now.routes.now desk.old.board }
-    ensures board { IfOk result (λ _. IsBoardOf place.now.routes.now desk.new.board) }
-    ensures parts { IfOk result (λ _. behaviours_of worker.new ≡ behaviours_of worker.old) }
+    requires worker { CanGoOn S.may worker.old site.now.place.routes.now }
+    requires board { IsBoardOf site.now.place.routes.now desk.old.board }
+    ensures board { IfOk result (λ _. IsBoardOf site.now.place.routes.now desk.new.board) }
+    ensures parts { behaviours_of worker.new ≡ behaviours_of worker.old }
 {
     'calls: for _ in 0..u64::MAX {
-        let line = match lines.next(input) {
-            Ok(line) => line,
-            Err(end) => return Ok(Some(end)),
-        };
-        let words = words_of(place.alloc, text_of(&line))?;
-        let call = Call {
-            words: words.as_slice(),
-            line: lines.number,
-        };
-        if name_of(call) == "end" {
-            return Ok(None);
+        if let Next::Over(end) = worker_line(site, desk, worker, session)? {
+            return Ok(end);
         }
-        worker_call(rt, place, desk, worker, call, output)?;
     }
     Ok(None)
 }

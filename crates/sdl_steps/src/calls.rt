@@ -51,3 +51,9 @@ pub fn write_text<W: Write>(output: &mut W, text: &str) -> Result<(), Halt> {
     writeln!(output, "{text}")?;
     Ok(())
 }
+
+/// That the call was understood, once it is answered.
+pub fn understood(answered: Result<(), Halt>) -> Result<bool, Halt> {
+    answered?;
+    Ok(true)
+}

@@ -2,7 +2,7 @@
 ghost use Rattle.std.specs.Prelude.{IfOk};
 ghost use Rattle.sdl_forward.specs.Boards.{IsBoardOf};
 
-use crate::calls::{Call, Halt, write_text};
+use crate::calls::{Call, Halt, understood, write_text};
 use crate::desk::{forward_call, left_call, put_call, take_call};
 use crate::queues::Queues;
 use crate::routing::call_routes;
@@ -10,7 +10,6 @@ use sdl_forward::{Board, Forwarder};
 use sdl_parts::Structure;
 use sdl_routes::Routes;
 use std::alloc::{AllocError, Global};
-use std::io;
 use std::io::Write;
 use std::sync::Wait;
 
@@ -104,28 +103,32 @@ fn board_call<W: Write>(
 {
     let routes = place.routes;
     let structure = place.structure;
-    let board = &mut desk.board;
     let name = name_of(call);
     if name == "put" {
-        put_call(
-            routes,
-            structure,
-            board,
-            &mut desk.queues.next,
-            call,
-            output,
-        )?;
+        let next = &mut desk.queues.next;
+        put_call(routes, structure, &mut desk.board, next, call, output)?;
     } else if name == "take" {
-        take_call(routes, structure, board, call, output)?;
+        take_call(routes, structure, &mut desk.board, call, output)?;
     } else if name == "forward" {
-        forward_call(routes, structure, board, &mut desk.forwarders, call, output)?;
+        let forwarders = &mut desk.forwarders;
+        forward_call(routes, structure, &mut desk.board, forwarders, call, output)?;
     } else if name == "left" {
-        left_call(place.alloc, routes, structure, board, output)?;
-        desk.forwarders = Vec::new(place.alloc);
+        clear_board(place, desk, output)?;
     } else {
         return Ok(false);
     }
     Ok(true)
+}
+
+/// `left`: what waits on the board. An empty board and forwarders that hold nothing are laid in its place.
+fn clear_board<W: Write>(place: &Place, desk: &mut Desk, output: &mut W) -> Result<(), Halt>
+    requires { IsBoardOf place.now.routes.now desk.old.board }
+    ensures { IfOk result (λ _. IsBoardOf place.now.routes.now desk.new.board) }
+{
+    let board = &mut desk.board;
+    left_call(place.alloc, place.routes, place.structure, board, output)?;
+    desk.forwarders = Vec::new(place.alloc);
+    Ok(())
 }
 
 /// The first word of the call.
@@ -140,24 +143,27 @@ pub fn name_of<'a>(call: Call<'a>) -> &'a str {
 fn write_note<W: Write>(call: Call, output: &mut W) -> Result<bool, Halt> {
     let name = name_of(call);
     if name == "help" {
-        for line in HELP {
-            write_text(output, line)?;
-        }
-        return Ok(true);
+        understood(write_help(output))
+    } else if name == "#" {
+        understood(write_words(output, call.words))
+    } else {
+        Ok(false)
     }
-    if name == "#" {
-        write_words(output, call.words)?;
-        return Ok(true);
+}
+
+fn write_help<W: Write>(output: &mut W) -> Result<(), Halt> {
+    for line in HELP {
+        write_text(output, line)?;
     }
-    Ok(false)
+    Ok(())
 }
 
 /// Writes the words of a line again.
-fn write_words<W: Write>(output: &mut W, words: &[&str]) -> io::Result<()> {
+fn write_words<W: Write>(output: &mut W, words: &[&str]) -> Result<(), Halt> {
     let mut before = "";
     for word in words {
         write!(output, "{before}{word}")?;
         before = " ";
     }
-    writeln!(output)
+    write_text(output, "")
 }

@@ -1,6 +1,6 @@
 //! The calls on a board: `put ITEM [along ROUTE] [after STATION]`, `take STATION`, `forward PATH` and `left`.
-ghost use Rattle.std.specs.Prelude.{◌<◌, length, IfOk};
-ghost use Rattle.sdl_forward.specs.Boards.{IsBoardOf};
+ghost use Rattle.std.specs.Prelude.{◌≡◌, ◌<◌, length, IfOk, Contains};
+ghost use Rattle.sdl_forward.specs.Boards.{IsBoardOf, stations_of};
 
 use crate::calls::{Call, Halt, write_meant, write_text};
 use crate::items::{Given, given_of};
@@ -36,9 +36,21 @@ pub fn put_along(
     let Some(station) = routes.next(route, after) else {
         return Ok(None);
     };
+    put_with_retry(board, station, item)?;
+    Ok(Some(station))
+}
+
+/// Puts the item. A refused put hands it back, so it is put once more.
+fn put_with_retry(board: &mut Board, station: Station, item: Item) -> Result<(), AllocError>
+    requires { Contains (stations_of board.old) station }
+    ensures { stations_of board.new ≡ stations_of board.old }
+{
     match board.put(station, item) {
-        Ok(()) => Ok(Some(station)),
-        Err((_, error)) => Err(error),
+        Ok(()) => Ok(()),
+        Err((item, _)) => match board.put(station, item) {
+            Ok(()) => Ok(()),
+            Err((_, error)) => Err(error),
+        },
     }
 }
 
@@ -144,9 +156,20 @@ pub fn forward_call<W: Write>(
     };
     let place = place_of(forwarders, path)?;
     let forwarder = &mut forwarders[place];
-    let forwarded = forwarder.step_serial(routes, board);
+    let forwarded = step_with_retry(routes, board, forwarder);
     write_forwarded(output, structure, forwarded, forwarder)?;
     Ok(())
+}
+
+/// A step of the forwarder. An item that it holds since memory was refused is tried once more.
+fn step_with_retry(routes: &Routes, board: &mut Board, forwarder: &mut Forwarder) -> Forwarded
+    requires { IsBoardOf routes.now board.old }
+    ensures { IsBoardOf routes.now board.new }
+{
+    match forwarder.step_serial(routes, board) {
+        Forwarded::Held => forwarder.step_serial(routes, board),
+        made => made,
+    }
 }
 
 fn path_after_name(structure: &Structure, words: &[&str]) -> Option<Hop> {

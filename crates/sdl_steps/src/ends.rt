@@ -1,4 +1,6 @@
 //! The ends of a queue and of a ring, kept together, so that they can be put together again.
+ghost use Rattle.sdl_queue.specs.Ends.{IsSameFeed};
+
 use sdl_queue::{
     Feed, Rejoined, RingFeed, RingRejoined, RingTap, Tap, queue_open, rejoin, ring_open,
     ring_rejoin,
@@ -36,7 +38,7 @@ impl QueueEnds {
         let Some(feed) = self.feeds.get_mut(feeder as usize) else {
             return Ok(false);
         };
-        match feed.put(rt, item) {
+        match put_with_retry(feed, rt, item) {
             Ok(()) => Ok(true),
             Err(_) => Err(AllocError),
         }
@@ -49,6 +51,16 @@ impl QueueEnds {
     pub fn rejoin<R: Wait>(self, rt: &R) -> Rejoined {
         let QueueEnds { feeds, tap } = self;
         rejoin(rt, feeds, tap)
+    }
+}
+
+/// Puts the item. A refused put hands it back, so it is put once more.
+fn put_with_retry<R: Wait>(feed: &mut Feed, rt: &R, item: Item) -> Result<(), Item>
+    ensures { IsSameFeed feed.old feed.new }
+{
+    match feed.put(rt, item) {
+        Ok(()) => Ok(()),
+        Err(item) => feed.put(rt, item),
     }
 }
 
@@ -79,10 +91,14 @@ impl RingEnds {
         Ok(RingEnds { feed, tap })
     }
 
+    /// Puts the item, once more after a refusal.
     pub fn put(&mut self, item: Item) -> Result<(), AllocError> {
         match self.feed.put(item) {
             Ok(()) => Ok(()),
-            Err((_, error)) => Err(error),
+            Err((item, _)) => match self.feed.put(item) {
+                Ok(()) => Ok(()),
+                Err((_, error)) => Err(error),
+            },
         }
     }
 

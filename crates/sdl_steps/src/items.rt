@@ -40,16 +40,20 @@ pub fn given_of(structure: &Structure, words: &[&str], next: u64) -> Option<Give
     };
     let route = RouteId(route.parse::<u32>().ok()?);
     let signal = signal_of(structure, signal)?;
-    let sorts = match structure.signals().get(signal.0 as usize) {
-        Some(signal) => signal.sorts.as_slice(),
-        None => &[],
-    };
     let mut given = blank(route, signal, next);
+    let sorts = sorts_of(structure, signal);
     let options = add_values(structure, &mut given.item, sorts, rest)?;
     if add_options(structure, &mut given, options) {
         Some(given)
     } else {
         None
+    }
+}
+
+fn sorts_of(structure: &Structure, signal: SignalId) -> &[Sort] {
+    match structure.signals().get(signal.0 as usize) {
+        Some(signal) => signal.sorts.as_slice(),
+        None => &[],
     }
 }
 

@@ -1,6 +1,6 @@
 //! The calls on queues, all on one thread. `serial ..` is for a queue of one thread, `queue ..` for one with separate ends, and
 //! `ring ..` for a ring; `rest ..` is for what was left when ends came back. An item is told by its origin, `WORKER.NUMBER`.
-use crate::calls::{Halt, write_meant, write_text};
+use crate::calls::{Halt, understood, write_meant, write_text};
 use crate::ends::{QueueEnds, RingEnds};
 use crate::items::{item_from, origin_of};
 use crate::texts::write_origin;
@@ -8,8 +8,8 @@ use sdl_queue::{Rest, SerialQueue};
 use sdl_signal::{Item, Origin};
 use std::alloc::{AllocError, Global};
 use std::io::Write;
+use std::mem;
 use std::sync::Wait;
-use std::{io, mem};
 
 const SERIAL: &str = "serial put [W.N] | serial take | serial len | serial left | serial leave";
 
@@ -56,18 +56,18 @@ impl Queues {
         let [kind, name, words @ ..] = words else {
             return Ok(false);
         };
-        let understood = if *kind == "serial" {
-            self.serial_call(alloc, name, words, output)?
+        let is_understood = if *kind == "serial" {
+            self.serial_call(alloc, name, words, output)
         } else if *kind == "queue" {
-            self.queue_call(rt, alloc, name, words, output)?
+            self.queue_call(rt, alloc, name, words, output)
         } else if *kind == "ring" {
-            self.ring_call(alloc, name, words, output)?
+            self.ring_call(alloc, name, words, output)
         } else if *kind == "rest" {
-            self.rest_call(rt, name, output)?
+            self.rest_call(rt, name, output)
         } else {
             return Ok(false);
         };
-        if !understood {
+        if !is_understood? {
             write_meant(output, line, meant_of(kind))?;
         }
         Ok(true)
@@ -94,25 +94,34 @@ impl Queues {
         output: &mut W,
     ) -> Result<bool, Halt> {
         if name == "put" {
-            let Some(item) = self.item(words) else {
-                return Ok(false);
-            };
-            self.serial.put(item).map_err(|(_, error)| error)?;
-            write_text(output, "put")?;
-        } else if name == "take" {
-            write_taken(output, self.serial.take())?;
+            return self.put_serial(words, output);
+        }
+        let answered = if name == "take" {
+            write_taken(output, self.serial.take())
         } else if name == "len" {
-            writeln!(output, "len {}", self.serial.len())?;
+            write_count(output, "len", self.serial.len())
         } else if name == "left" {
-            write_left(output, &self.serial)?;
+            write_left(output, &self.serial)
         } else if name == "leave" {
-            let empty = SerialQueue::new(alloc);
-            let queue = mem::replace(&mut self.serial, empty);
-            self.keep(Rest::Serial(queue), output)?;
+            self.leave_serial(alloc, output)
         } else {
             return Ok(false);
-        }
-        Ok(true)
+        };
+        understood(answered)
+    }
+
+    fn put_serial<W: Write>(&mut self, words: &[&str], output: &mut W) -> Result<bool, Halt> {
+        let Some(item) = self.item(words) else {
+            return Ok(false);
+        };
+        put_with_retry(&mut self.serial, item)?;
+        understood(write_text(output, "put"))
+    }
+
+    fn leave_serial<W: Write>(&mut self, alloc: Global, output: &mut W) -> Result<(), Halt> {
+        let empty = SerialQueue::new(alloc);
+        let queue = mem::replace(&mut self.serial, empty);
+        self.keep(Rest::Serial(queue), output)
     }
 
     fn queue_call<R: Wait, W: Write>(
@@ -128,19 +137,25 @@ impl Queues {
         } else if name == "put" {
             self.put_by(rt, words, output)
         } else if name == "take" {
-            match &mut self.queue {
-                Some(ends) => write_taken(output, ends.take(rt))?,
-                None => write_text(output, "no queue is open")?,
-            }
-            Ok(true)
+            understood(self.take_from_queue(rt, output))
         } else if name == "rejoin" {
-            match self.queue.take() {
-                Some(ends) => self.keep(Rest::Ruled(ends.rejoin(rt)), output)?,
-                None => write_text(output, "no queue is open")?,
-            }
-            Ok(true)
+            understood(self.rejoin_queue(rt, output))
         } else {
             Ok(false)
+        }
+    }
+
+    fn take_from_queue<R: Wait, W: Write>(&mut self, rt: &R, output: &mut W) -> Result<(), Halt> {
+        match &mut self.queue {
+            Some(ends) => write_taken(output, ends.take(rt)),
+            None => write_text(output, "no queue is open"),
+        }
+    }
+
+    fn rejoin_queue<R: Wait, W: Write>(&mut self, rt: &R, output: &mut W) -> Result<(), Halt> {
+        match self.queue.take() {
+            Some(ends) => self.keep(Rest::Ruled(ends.rejoin(rt)), output),
+            None => write_text(output, "no queue is open"),
         }
     }
 
@@ -158,8 +173,7 @@ impl Queues {
             return Ok(false);
         }
         self.queue = Some(QueueEnds::open(rt, alloc, feeders)?);
-        writeln!(output, "feeders {feeders}")?;
-        Ok(true)
+        understood(write_count(output, "feeders", feeders as usize))
     }
 
     /// A feeder puts an item.
@@ -178,11 +192,11 @@ impl Queues {
         let Some(item) = self.item(words) else {
             return Ok(false);
         };
-        match &mut self.queue {
-            Some(ends) => write_put(output, ends.put(rt, feeder, item)?)?,
-            None => write_text(output, "no queue is open")?,
-        }
-        Ok(true)
+        let answered = match &mut self.queue {
+            Some(ends) => write_put(output, ends.put(rt, feeder, item)?),
+            None => write_text(output, "no queue is open"),
+        };
+        understood(answered)
     }
 
     fn ring_call<W: Write>(
@@ -193,24 +207,23 @@ impl Queues {
         output: &mut W,
     ) -> Result<bool, Halt> {
         if name == "open" {
-            return self.open_ring(alloc, words, output);
-        }
-        if name == "put" {
-            return self.put_in_ring(words, output);
-        }
-        if name == "rejoin" {
-            match self.ring.take() {
-                Some(ends) => self.keep(Rest::Ring(ends.rejoin()), output)?,
-                None => write_text(output, "no ring is open")?,
+            self.open_ring(alloc, words, output)
+        } else if name == "put" {
+            self.put_in_ring(words, output)
+        } else if name == "rejoin" {
+            understood(self.rejoin_ring(output))
+        } else {
+            match &mut self.ring {
+                Some(ends) => use_ring(ends, name, output),
+                None => understood(write_text(output, "no ring is open")),
             }
-            return Ok(true);
         }
-        match &mut self.ring {
-            Some(ends) => use_ring(ends, name, output),
-            None => {
-                write_text(output, "no ring is open")?;
-                Ok(true)
-            }
+    }
+
+    fn rejoin_ring<W: Write>(&mut self, output: &mut W) -> Result<(), Halt> {
+        match self.ring.take() {
+            Some(ends) => self.keep(Rest::Ring(ends.rejoin()), output),
+            None => write_text(output, "no ring is open"),
         }
     }
 
@@ -227,27 +240,26 @@ impl Queues {
             return Ok(false);
         }
         self.ring = Some(RingEnds::open(alloc, slots as usize)?);
-        writeln!(output, "slots {slots}")?;
-        Ok(true)
+        understood(write_count(output, "slots", slots as usize))
     }
 
     fn put_in_ring<W: Write>(&mut self, words: &[&str], output: &mut W) -> Result<bool, Halt> {
         let Some(item) = self.item(words) else {
             return Ok(false);
         };
-        match &mut self.ring {
+        let answered = match &mut self.ring {
             Some(ends) => {
                 ends.put(item)?;
-                write_text(output, "put")?;
+                write_text(output, "put")
             }
-            None => write_text(output, "no ring is open")?,
-        }
-        Ok(true)
+            None => write_text(output, "no ring is open"),
+        };
+        understood(answered)
     }
 
     /// Keeps what was left, and answers how much it is.
     fn keep<W: Write>(&mut self, rest: Rest, output: &mut W) -> Result<(), Halt> {
-        writeln!(output, "left {}", rest.len())?;
+        write_count(output, "left", rest.len())?;
         self.rest = Some(rest);
         Ok(())
     }
@@ -259,23 +271,31 @@ impl Queues {
         output: &mut W,
     ) -> Result<bool, Halt> {
         if name == "len" {
-            match &self.rest {
-                Some(rest) => writeln!(output, "len {}", rest.len())?,
-                None => writeln!(output, "nothing is left")?,
-            }
-            Ok(true)
+            understood(write_rest(output, &self.rest))
         } else if name == "serial" {
-            match self.rest.take() {
-                Some(rest) => {
-                    self.serial = serial_of(rt, rest)?;
-                    writeln!(output, "len {}", self.serial.len())?;
-                }
-                None => write_text(output, "nothing is left")?,
-            }
-            Ok(true)
+            understood(self.rest_to_serial(rt, output))
         } else {
             Ok(false)
         }
+    }
+
+    fn rest_to_serial<R: Wait, W: Write>(&mut self, rt: &R, output: &mut W) -> Result<(), Halt> {
+        let Some(rest) = self.rest.take() else {
+            return write_text(output, "nothing is left");
+        };
+        self.serial = serial_of(rt, rest)?;
+        write_count(output, "len", self.serial.len())
+    }
+}
+
+/// Puts the item. A refused put hands it back, so it is put once more.
+fn put_with_retry(queue: &mut SerialQueue, item: Item) -> Result<(), AllocError> {
+    match queue.put(item) {
+        Ok(()) => Ok(()),
+        Err((item, _)) => match queue.put(item) {
+            Ok(()) => Ok(()),
+            Err((_, error)) => Err(error),
+        },
     }
 }
 
@@ -310,18 +330,28 @@ fn serial_of<R: Wait>(rt: &R, rest: Rest) -> Result<SerialQueue, AllocError> {
 /// `ring take` and `ring flush`.
 fn use_ring<W: Write>(ends: &mut RingEnds, name: &str, output: &mut W) -> Result<bool, Halt> {
     if name == "take" {
-        write_taken(output, ends.take())?;
-        Ok(true)
+        understood(write_taken(output, ends.take()))
     } else if name == "flush" {
         let text = if ends.flush() {
             "nothing waits for room"
         } else {
             "items wait for room"
         };
-        write_text(output, text)?;
-        Ok(true)
+        understood(write_text(output, text))
     } else {
         Ok(false)
+    }
+}
+
+fn write_count<W: Write>(output: &mut W, what: &str, count: usize) -> Result<(), Halt> {
+    writeln!(output, "{what} {count}")?;
+    Ok(())
+}
+
+fn write_rest<W: Write>(output: &mut W, rest: &Option<Rest>) -> Result<(), Halt> {
+    match rest {
+        Some(rest) => write_count(output, "len", rest.len()),
+        None => write_text(output, "nothing is left"),
     }
 }
 
@@ -341,11 +371,11 @@ fn write_taken<W: Write>(output: &mut W, item: Option<Item>) -> Result<(), Halt>
     Ok(())
 }
 
-fn write_left<W: Write>(output: &mut W, queue: &SerialQueue) -> io::Result<()> {
+fn write_left<W: Write>(output: &mut W, queue: &SerialQueue) -> Result<(), Halt> {
     write!(output, "left")?;
     for item in queue.left() {
         write!(output, " ")?;
         write_origin(output, item.origin)?;
     }
-    writeln!(output)
+    write_text(output, "")
 }

@@ -1,5 +1,5 @@
 //! The calls on routes: `routes`, `route N`, `next ROUTE [STATION]` and `choose SOURCE SIGNAL GOAL VIA PICK`.
-use crate::calls::{Call, Halt, write_meant};
+use crate::calls::{Call, Halt, understood, write_meant};
 use crate::naming::{
     channel_name, gate_name, goal_of, signal_name, signal_of, source_of, station_of, via_of,
 };
@@ -26,18 +26,19 @@ pub fn call_routes<W: Write>(
     let [name, words @ ..] = call.words else {
         return Ok(false);
     };
-    if *name == "routes" {
-        write_routes(output, structure, routes)?;
+    let line = call.line;
+    let answered = if *name == "routes" {
+        write_routes(output, structure, routes)
     } else if *name == "route" {
-        route_call(routes, structure, call.line, words, output)?;
+        route_call(routes, structure, line, words, output)
     } else if *name == "next" {
-        next_call(routes, structure, call.line, words, output)?;
+        next_call(routes, structure, line, words, output)
     } else if *name == "choose" {
-        choose_call(routes, structure, call.line, words, output)?;
+        choose_call(routes, structure, line, words, output)
     } else {
         return Ok(false);
-    }
-    Ok(true)
+    };
+    understood(answered)
 }
 
 /// `choose`: the route that is chosen, or `none`.
@@ -147,7 +148,7 @@ fn write_routes<W: Write>(
     output: &mut W,
     structure: &Structure,
     routes: &Routes,
-) -> io::Result<()> {
+) -> Result<(), Halt> {
     let mut number = 0u32;
     for _ in 0..routes.len() {
         if let Some(route) = routes.get(RouteId(number)) {
@@ -155,7 +156,8 @@ fn write_routes<W: Write>(
         }
         number = number.saturating_add(1);
     }
-    writeln!(output, "routes {}", routes.len())
+    writeln!(output, "routes {}", routes.len())?;
+    Ok(())
 }
 
 /// Writes a route as the command `routes` does: its number, its signal, the gate where it starts, its hops, and the gate where
@@ -168,11 +170,16 @@ fn write_route<W: Write>(
 ) -> io::Result<()> {
     write!(output, "{number} {}", signal_name(structure, route.signal))?;
     write_gate(output, structure, route.start)?;
-    for hop in route.hops.as_slice() {
-        write_hop(output, structure, *hop)?;
-    }
+    write_hops(output, structure, route.hops.as_slice())?;
     write_gate(output, structure, route.end_gate)?;
     writeln!(output)
+}
+
+fn write_hops<W: Write>(output: &mut W, structure: &Structure, hops: &[Hop]) -> io::Result<()> {
+    for hop in hops {
+        write_hop(output, structure, *hop)?;
+    }
+    Ok(())
 }
 
 fn write_gate<W: Write>(output: &mut W, structure: &Structure, gate: GateId) -> io::Result<()> {

@@ -31,18 +31,31 @@ pub fn write_origin<W: Write>(output: &mut W, origin: Origin) -> Result<()> {
 pub fn write_item<W: Write>(output: &mut W, structure: &Structure, item: &Item) -> Result<()> {
     let signal = signal_name(structure, item.signal.id);
     write!(output, "{} {signal}", item.route.0)?;
-    for value in item.signal.params.as_slice() {
+    write_values(output, structure, item.signal.params.as_slice())?;
+    if let Some(to) = item.to {
+        write_named_pid(output, structure, "to", to)?;
+    }
+    write_named_pid(output, structure, "sender", item.sender)?;
+    write!(output, " stamp {} origin ", item.stamp)?;
+    write_origin(output, item.origin)
+}
+
+fn write_values<W: Write>(output: &mut W, structure: &Structure, values: &[Value]) -> Result<()> {
+    for value in values {
         write!(output, " ")?;
         write_value(output, structure, value)?;
     }
-    if let Some(to) = item.to {
-        write!(output, " to ")?;
-        write_pid(output, structure, to)?;
-    }
-    write!(output, " sender ")?;
-    write_pid(output, structure, item.sender)?;
-    write!(output, " stamp {} origin ", item.stamp)?;
-    write_origin(output, item.origin)
+    Ok(())
+}
+
+fn write_named_pid<W: Write>(
+    output: &mut W,
+    structure: &Structure,
+    name: &str,
+    pid: Pid,
+) -> Result<()> {
+    write!(output, " {name} ")?;
+    write_pid(output, structure, pid)
 }
 
 /// Writes a station: a path, `inlet:BLOCK`, or `outlet`.

@@ -1,4 +1,4 @@
-use Rattle.std.proofs.Common.{ap, sym, subst, ◌∙◌}
+use Rattle.std.proofs.Common.{ap, sym, subst}
 use Rattle.std.specs.List.{All}
 use Rattle.std.proofs.lemmas.List.Elements.{All-nil}
 use Rattle.sdl_transition.specs.Rules.{block_rules}
@@ -6,21 +6,14 @@ use Rattle.sdl_instances.specs.Core.{IsLegalIn}
 use Rattle.sdl_instances.specs.CoreOf.{CanFire}
 use Rattle.sdl_instances.proofs.Systems.{sound_there}
 use Rattle.sdl_block.specs.Workers.{system_around}
-use Rattle.sdl_block_steps.specs.Stored.{IsStored}
 use Rattle.sdl_block_steps.proofs.at_rest.use_as_worker.Goals as goal
 
-pub use_worker-requires-clause-worker : goal.use_worker-requires-clause-worker
-use_worker-requires-clause-worker g c =
+pub begin_worker-end-requires-clause-worker : goal.begin_worker-end-requires-clause-worker
+begin_worker-end-requires-clause-worker g c =
     let may = g.S.Agents.may in
-    let rows = c.args.place.now.routes.now in
+    let rows = c.args.site.now.place.routes.now in
     record {
-      parts = subst (λ p. CanFire may p) (sym (c.new-worker.ensures.parts ∙ c.in_ok-core.ensures.parts)) c.take_at-parts.ensures.taken.fires;
-      sound = sound_there may _ _ rows _ _ (ap (λ w. w.core) c.new-worker.ensures.worker) (ap (λ p. block_rules p) c.new-worker.ensures.parts) (c.in_ok-core.ensures.sound rows);
+      parts = subst (λ p. CanFire may p) (sym c.new-worker.ensures.parts) c.requires.parts;
+      sound = sound_there may _ _ rows _ _ (ap (λ w. w.core) c.new-worker.ensures.worker) (ap (λ p. block_rules p) c.new-worker.ensures.parts) c.requires.sound;
       legal = subst (All (IsLegalIn (system_around c.new-worker.result rows))) (sym (ap (λ w. w.outgoing) c.new-worker.ensures.worker)) (All-nil (IsLegalIn (system_around c.new-worker.result rows)));
     }
-
-pub put_back-requires-clause-parts : goal.put_back-requires-clause-parts
-put_back-requires-clause-parts g c =
-    subst (λ p. IsStored g.S.Agents.may c.args.checked.now p)
-    (sym (c.into_parts-parts.ensures.parts ∙ (c.into_parts-core.ensures.parts ∙ (c.in_ok-end.ensures.parts ∙ (c.new-worker.ensures.parts ∙ c.in_ok-core.ensures.parts)))))
-    c.take_at-parts.ensures.taken

@@ -2,5 +2,5 @@ use Rattle.std.proofs.Common.{sym, subst}
 use Rattle.sdl_instances.specs.CoreOf.{CanFire}
 use Rattle.sdl_block_steps.proofs.cores.use_core.Goals as goal
 
-pub core_call-requires-clause-parts : goal.core_call-requires-clause-parts
-core_call-requires-clause-parts g c = subst (λ p. CanFire g.S.Agents.may p) (sym c.calls.invariant.2) c.requires.parts
+pub core_line-requires-clause-parts : goal.core_line-requires-clause-parts
+core_line-requires-clause-parts g c = subst (λ p. CanFire g.S.Agents.may p) (sym c.calls.invariant.2) c.requires.parts
