@@ -1,5 +1,5 @@
-//! Whole runs of Ring, and of Echo where a schedule chooses, many signals wait, or the writer fails. Runs of Relay in threads where
-//! steps wait for one another. The environment of Echo at work through ends of its own.
+//! Whole runs of Ring, and of Echo where a schedule chooses or the writer fails. Runs of Relay in threads where steps wait for one
+//! another. How workers in threads come to rest, a queue whose ends are in threads, and a pile of saved signals.
 #![tactic(auto)]
 
 #[cfg(test)]
@@ -9,22 +9,26 @@ mod counted;
 #[cfg(test)]
 mod echo;
 #[cfg(test)]
-mod environment_step;
-#[cfg(test)]
 mod failing_writer;
 #[cfg(test)]
 mod gates;
 #[cfg(test)]
 mod held;
 #[cfg(test)]
+mod jobs;
+#[cfg(test)]
+mod piles;
+#[cfg(test)]
 mod plan;
+#[cfg(test)]
+mod queue;
+#[cfg(test)]
+mod resting;
 #[cfg(test)]
 mod ring;
 #[cfg(test)]
 mod ring_left;
 #[cfg(test)]
 mod runs;
-#[cfg(test)]
-mod thousand;
 #[cfg(test)]
 mod threaded;

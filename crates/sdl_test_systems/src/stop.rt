@@ -4,7 +4,7 @@ use sdl_structure::FileFault;
 use sdl_transition::BindFault;
 use std::alloc::{AllocError, AllocFailed};
 
-/// Memory was refused before there was a core or for the second time, or something is not as the test expects.
+/// Memory was refused, or something is not as the test expects.
 #[derive(Debug, Drop)]
 pub enum Stop {
     Memory,

@@ -1,9 +1,11 @@
 //! Which fault is named, and that all parts are handed back.
+use super::anything::store_anything;
 use super::drafts::{Draft, RowDraft, bind_drafts};
 use super::outcomes::{Found, Outcome};
 use sdl_examples::{ECHO, RELAY};
 use sdl_signal::{GateId, SetId, Sort};
 use sdl_transition::{BindFault, Kind, Via};
+use std::test::Fail;
 
 const PING: RowDraft = RowDraft {
     state: 0,
@@ -257,4 +259,10 @@ fn binds_after_a_refusal(rt: HostRuntime) {
         None => bind_drafts(rt.alloc(), RELAY, ALL),
     };
     assert!(rt; outcome == of_relay(None));
+}
+
+#[test]
+fn a_stored_transition_keeps_its_number(rt: HostRuntime) -> Result<(), Fail> {
+    assert!(rt; store_anything(rt.alloc())? == 9);
+    Ok(())
 }

@@ -5,10 +5,8 @@ use super::anything::Anything;
 use super::outcomes::{Outcome, bind_or_retry};
 use arrayvec::ArrayVec;
 use sdl_agents::steps::idle;
-use sdl_parts::check;
-use sdl_routes::Routes;
 use sdl_signal::{Name, SetId, SignalId, Sort, StateId};
-use sdl_structure::read_structure;
+use sdl_test_systems::routes_of;
 use sdl_transition::{
     Behaviour, Frame, Kind, Named, Offer, OfferedOutput, Row, Run, Save, SignalSorts, Transition,
     Via,
@@ -92,10 +90,10 @@ fn bind_to_file(
     file: &str,
     behaviours: Vec<Behaviour<Anything>>,
 ) -> Option<Outcome> {
-    let structure = read_structure(alloc, file).ok()?;
-    let checked = check(structure).ok()?;
-    let routes = Routes::build(alloc, &checked).ok()?;
-    Some(bind_or_retry(alloc, checked, routes, behaviours))
+    match routes_of(alloc, file) {
+        Ok((checked, routes)) => Some(bind_or_retry(alloc, checked, routes, behaviours)),
+        Err(_) => None,
+    }
 }
 
 /// The numbers that a draft uses, with their names.
@@ -114,12 +112,39 @@ fn states() -> Option<ArrayVec<Name, 16>> {
     Some(states)
 }
 
+fn saves_of(alloc: Global, draft: &Draft) -> Option<Vec<Save>> {
+    let mut saves = Vec::new(alloc);
+    for (state, signal) in draft.saves {
+        let save = Save {
+            state: StateId(*state),
+            signal: SignalId(*signal),
+        };
+        saves.push(save).ok()?;
+    }
+    Some(saves)
+}
+
+/// What a behaviour has beside its transitions.
+#[derive(Drop)]
+struct Plain {
+    uses: Vec<Named>,
+    states: ArrayVec<Name, 16>,
+    saves: Vec<Save>,
+}
+
+fn plain_of(alloc: Global, draft: &Draft) -> Option<Plain> {
+    Some(Plain {
+        uses: uses_of(alloc, draft)?,
+        states: states()?,
+        saves: saves_of(alloc, draft)?,
+    })
+}
+
 /// Makes the closures, stores them and binds the behaviours. `None` where memory was refused before that.
 pub fn bind_drafts(alloc: Global, file: &str, drafts: &[Draft]) -> Option<Outcome> {
     let mut behaviours = Vec::new(alloc);
     for draft in drafts {
-        let uses = uses_of(alloc, draft)?;
-        let states = states()?;
+        let plain = plain_of(alloc, draft)?;
         let run: Run = Box::new(alloc, |_frame: &Frame| idle(ArrayVec::new())).ok()?;
         let start: Transition<Anything> = Transition::store(0, offer_of(draft.sets, None), run);
         let mut rows = Vec::new(alloc);
@@ -133,14 +158,11 @@ pub fn bind_drafts(alloc: Global, file: &str, drafts: &[Draft]) -> Option<Outcom
             })
             .ok()?;
         }
-        let mut saves = Vec::new(alloc);
-        for (state, signal) in draft.saves {
-            let save = Save {
-                state: StateId(*state),
-                signal: SignalId(*signal),
-            };
-            saves.push(save).ok()?;
-        }
+        let Plain {
+            uses,
+            states,
+            saves,
+        } = plain;
         behaviours
             .push(Behaviour {
                 set: SetId(draft.set),

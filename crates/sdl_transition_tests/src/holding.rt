@@ -5,10 +5,8 @@ ghost use Rattle.sdl_behaviour.specs.Transitions.{IsAllowedBehaviour};
 
 use sdl_agents::{Runner, hold};
 use sdl_examples::HOLD;
-use sdl_parts::check;
-use sdl_routes::Routes;
 use sdl_signal::{SetId, SignalId, StateId};
-use sdl_structure::read_structure;
+use sdl_test_systems::routes_of;
 use sdl_transition::{Agents, Behaviour, BindFault, bind};
 use std::alloc::{AllocError, Global};
 
@@ -25,12 +23,12 @@ type Found = Option<Option<BindFault>>;
 fn bind_hold<S: Agents + Drop>(alloc: Global, behaviours: Vec<Behaviour<S>>) -> Found
     requires { AllByRecursion (IsAllowedBehaviour S.may) behaviours.items }
 {
-    let structure = read_structure(alloc, HOLD).ok()?;
-    let checked = check(structure).ok()?;
-    let routes = Routes::build(alloc, &checked).ok()?;
-    match bind(alloc, checked, routes, behaviours) {
-        Ok(_) => Some(None),
-        Err(unbound) => Some(Some(unbound.fault)),
+    match routes_of(alloc, HOLD) {
+        Ok((checked, routes)) => match bind(alloc, checked, routes, behaviours) {
+            Ok(_) => Some(None),
+            Err(unbound) => Some(Some(unbound.fault)),
+        },
+        Err(_) => None,
     }
 }
 

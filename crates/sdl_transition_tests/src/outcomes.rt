@@ -46,8 +46,32 @@ fn count(
     }
 }
 
-/// What came of binding these, and where memory was refused, what comes of it when it is tried again with what was handed
-/// back.
+fn unbound_outcome(unbound: &Unbound<Anything>) -> Outcome {
+    count(
+        &unbound.checked,
+        &unbound.routes,
+        unbound.behaviours.len(),
+        Some(unbound.fault),
+    )
+}
+
+/// What comes of it when it is tried again with what was handed back.
+fn retried(alloc: Global, unbound: Unbound<Anything>) -> Outcome
+    requires { AreRoutesOf unbound.checked unbound.routes }
+{
+    let Unbound {
+        checked,
+        routes,
+        behaviours,
+        fault: _,
+    } = unbound;
+    match bind(alloc, checked, routes, behaviours) {
+        Ok(bound) => bound_outcome(bound),
+        Err(same) => unbound_outcome(&same),
+    }
+}
+
+/// What came of binding these, and where memory was refused, what comes of it when it is tried again.
 pub fn bind_or_retry(
     alloc: Global,
     checked: Checked,
@@ -56,27 +80,15 @@ pub fn bind_or_retry(
 ) -> Outcome
     requires { AreRoutesOf checked routes }
 {
-    let unbound = match bind(alloc, checked, routes, behaviours) {
-        Ok(bound) => return bound_outcome(bound),
-        Err(unbound) => unbound,
-    };
-    let Unbound {
-        checked,
-        routes,
-        behaviours,
-        fault,
-    } = unbound;
-    if fault != BindFault::Memory {
-        return count(&checked, &routes, behaviours.len(), Some(fault));
-    }
     match bind(alloc, checked, routes, behaviours) {
         Ok(bound) => bound_outcome(bound),
-        Err(same) => count(
-            &same.checked,
-            &same.routes,
-            same.behaviours.len(),
-            Some(same.fault),
-        ),
+        Err(unbound) => {
+            if unbound.fault == BindFault::Memory {
+                retried(alloc, unbound)
+            } else {
+                unbound_outcome(&unbound)
+            }
+        }
     }
 }
 

@@ -1,2 +1,0 @@
-pub mod AtWork
-pub mod Ways

@@ -1,2 +1,0 @@
-pub mod InUse
-pub mod Crews

@@ -1,2 +1,0 @@
-pub mod Use
-pub mod Crew
