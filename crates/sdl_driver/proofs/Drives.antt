@@ -62,7 +62,7 @@ workers_count may plan site work =
     let f = work.blocks in
     omega arith
 
-pub workers_few : (plan : Plan) → IsPlan plan → length (workers_of plan) ≤ 145
+pub workers_few : (plan : Plan) → IsPlan plan → length (workers_of plan) ≤ 193
 workers_few plan ok =
     let a = length-append (blocks_from 0 (blocks_in plan)) (Environment ∷ map Forwarder (lines_of plan)) in
     let b = count_blocks 0 (blocks_in plan) in

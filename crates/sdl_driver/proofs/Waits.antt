@@ -42,7 +42,7 @@ module _ {S K I : Type 0} {F : I → Type 0} {g : _} (blocks : List (BlockWorker
       ∙ (ap (λ (ss : List State). sum_by (λ (s : State). waiting s.living) ss) (map_map (λ (w : Working). w.core.state) worker_of blocks)
       ∙ sum_map (λ (s : State). waiting s.living) (λ w. (worker_of w).core.state) blocks)
 
-  pub few_wait : (may : ℕ → Frame → Step → Type 0) (plan : Plan) → IsPlan plan → IsAtWork may plan site → sum_by at_block blocks ≤ 128016384
+  pub few_wait : (may : ℕ → Frame → Step → Type 0) (plan : Plan) → IsPlan plan → IsAtWork may plan site → sum_by at_block blocks ≤ 512016384
   few_wait may plan ok work =
-      subst (λ (n : ℕ). n ≤ 128016384) all_wait
+      subst (λ (n : ℕ). n ≤ 512016384) all_wait
       (few_waits may plan (outcome_of site) (finals_of site) (traced may plan ok site work) (limited may plan ok site work))

@@ -51,7 +51,7 @@ impl<S: Agents, K: Keeps> Driver<S, K> {
     fn workers(&self) -> u32
         requires { IsDriving S.may self.now }
         ensures count { result ≡ length (workers_of (plan_of self.now)) }
-        ensures few { result ≤ 145 }
+        ensures few { result ≤ 193 }
         ensures some { 0 < result }
     {
         (self.blocks.len() + 1 + self.forwarders.len()) as u32

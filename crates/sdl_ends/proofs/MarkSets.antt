@@ -20,10 +20,10 @@ kept_bit : (ws : List ℕ) (k x m : ℕ) → m / 64 ≢ k → bit (set ws k x) m
 kept_bit ws k x m other = ap (λ w. bit_at w (m % 64)) (get_or-set_other ws k (m / 64) x 0 other)
 
 -- with its bit set, a mark is in the words beside those that were
-pub added : (ws : List ℕ) (mark m : ℕ) → length ws ≡ 3
-    → (bit (set ws (mark / 64 % 3) (bit_or (get_or ws (mark / 64 % 3) 0) (1 * 2 ^ (mark % 64) % 2 ^ 64))) m ≡ 1) ↔ ((bit ws m ≡ 1) ⊎ (m ≡ mark % 192))
-added ws mark m three =
-    let k : ℕ = mark / 64 % 3 in
+pub added : (ws : List ℕ) (mark m : ℕ) → length ws ≡ 4
+    → (bit (set ws (mark / 64 % 4) (bit_or (get_or ws (mark / 64 % 4) 0) (1 * 2 ^ (mark % 64) % 2 ^ 64))) m ≡ 1) ↔ ((bit ws m ≡ 1) ⊎ (m ≡ mark % 256))
+added ws mark m four =
+    let k : ℕ = mark / 64 % 4 in
     let word : ℕ = get_or ws k 0 in
     let x : ℕ = bit_or word (1 * 2 ^ (mark % 64) % 2 ^ 64) in
     let within : k < length ws = omega arith in
@@ -58,32 +58,33 @@ none_has ws each m h =
     let zero : bit ws m ≡ 0 = ap (λ w. bit_at w (m % 64)) (each (m / 64)) ∙ bit_at-zero (m % 64) in
     omega arith
 
--- three words of no mark
+-- four words of no mark
 abbrev pub zero_words : List ℕ
-zero_words = 0 ∷ 0 ∷ 0 ∷ []
+zero_words = 0 ∷ 0 ∷ 0 ∷ 0 ∷ []
 
 -- each of them is zero
 pub zeros : (j : ℕ) → get_or zero_words j 0 ≡ 0
 zeros zero = refl
 zeros (suc zero) = refl
 zeros (suc (suc zero)) = refl
-zeros (suc (suc (suc j))) = refl
+zeros (suc (suc (suc zero))) = refl
+zeros (suc (suc (suc (suc j)))) = refl
 
--- past three words there is nothing
-pub past_three : (ws : List ℕ) → length ws ≡ 3 → (j : ℕ) → 3 ≤ j → get_or ws j 0 ≡ 0
-past_three ws three j past = get_or_past ws j 0 (omega arith)
+-- past four words there is nothing
+pub past_four : (ws : List ℕ) → length ws ≡ 4 → (j : ℕ) → 4 ≤ j → get_or ws j 0 ≡ 0
+past_four ws four j past = get_or_past ws j 0 (omega arith)
 
--- what holds of the three words holds of each place
-pub each_or : (ws others new : List ℕ) → length ws ≡ 3 → length others ≡ 3 → length new ≡ 3
-    → ((j : ℕ) → j < 3 → get_or new j 0 ≡ bit_or (get_or ws j 0) (get_or others j 0))
+-- what holds of the four words holds of each place
+pub each_or : (ws others new : List ℕ) → length ws ≡ 4 → length others ≡ 4 → length new ≡ 4
+    → ((j : ℕ) → j < 4 → get_or new j 0 ≡ bit_or (get_or ws j 0) (get_or others j 0))
     → (j : ℕ) → get_or new j 0 ≡ bit_or (get_or ws j 0) (get_or others j 0)
 each_or ws others new a b c each j =
     ⊎_elim (each j)
-    (λ past. past_three new c j past ∙ (λ i. bit_or (sym (past_three ws a j past) i) (sym (past_three others b j past) i)))
-    (cases_lt j 3)
+    (λ past. past_four new c j past ∙ (λ i. bit_or (sym (past_four ws a j past) i) (sym (past_four others b j past) i)))
+    (cases_lt j 4)
 
 -- the lowest mark of the word p, below which all are zero
-module _ (ws : List ℕ) (p : ℕ) (three : length ws ≡ 3) (within : p < 3) (low : (j : ℕ) → j < p → get_or ws j 0 ≡ 0) (some : 0 < get_or ws p 0) (fits : get_or ws p 0 < 2 ^ 64) where
+module _ (ws : List ℕ) (p : ℕ) (four : length ws ≡ 4) (within : p < 4) (low : (j : ℕ) → j < p → get_or ws j 0 ≡ 0) (some : 0 < get_or ws p 0) (fits : get_or ws p 0 < 2 ^ 64) where
   abbrev word : ℕ
   word = get_or ws p 0
 
@@ -151,20 +152,26 @@ word_is_zero ws j fits none =
       | inr other ↦ omega (arith, bit_at-lt (get_or ws j 0) i, bit_at-zero i)
     ])
 
--- three words have no mark exactly where their union is zero
-module _ (ws : List ℕ) (three : length ws ≡ 3) where
+-- four words have no mark exactly where their union is zero
+module _ (ws : List ℕ) (four : length ws ≡ 4) where
+  abbrev first_three : ℕ
+  first_three = bit_or (bit_or (get_or ws 0 0) (get_or ws 1 0)) (get_or ws 2 0)
+
   abbrev union : ℕ
-  union = bit_or (bit_or (get_or ws 0 0) (get_or ws 1 0)) (get_or ws 2 0)
+  union = bit_or first_three (get_or ws 3 0)
 
   each_zero : union ≡ 0 → (j : ℕ) → get_or ws j 0 ≡ 0
-  each_zero none zero = omega (arith, none, le_or_l (bit_or (get_or ws 0 0) (get_or ws 1 0)) (get_or ws 2 0), le_or_l (get_or ws 0 0) (get_or ws 1 0))
-  each_zero none (suc zero) = omega (arith, none, le_or_l (bit_or (get_or ws 0 0) (get_or ws 1 0)) (get_or ws 2 0), le_or_r (get_or ws 0 0) (get_or ws 1 0))
-  each_zero none (suc (suc zero)) = omega (arith, none, le_or_r (bit_or (get_or ws 0 0) (get_or ws 1 0)) (get_or ws 2 0))
-  each_zero none (suc (suc (suc j))) = past_three ws three (suc (suc (suc j))) (omega arith)
+  each_zero none zero =
+      omega (arith, none, le_or_l first_three (get_or ws 3 0), le_or_l (bit_or (get_or ws 0 0) (get_or ws 1 0)) (get_or ws 2 0), le_or_l (get_or ws 0 0) (get_or ws 1 0))
+  each_zero none (suc zero) =
+      omega (arith, none, le_or_l first_three (get_or ws 3 0), le_or_l (bit_or (get_or ws 0 0) (get_or ws 1 0)) (get_or ws 2 0), le_or_r (get_or ws 0 0) (get_or ws 1 0))
+  each_zero none (suc (suc zero)) = omega (arith, none, le_or_l first_three (get_or ws 3 0), le_or_r (bit_or (get_or ws 0 0) (get_or ws 1 0)) (get_or ws 2 0))
+  each_zero none (suc (suc (suc zero))) = omega (arith, none, le_or_r first_three (get_or ws 3 0))
+  each_zero none (suc (suc (suc (suc j)))) = past_four ws four (suc (suc (suc (suc j)))) (omega arith)
 
-  pub empty_tells : get_or ws 0 0 < 2 ^ 64 → get_or ws 1 0 < 2 ^ 64 → get_or ws 2 0 < 2 ^ 64
+  pub empty_tells : get_or ws 0 0 < 2 ^ 64 → get_or ws 1 0 < 2 ^ 64 → get_or ws 2 0 < 2 ^ 64 → get_or ws 3 0 < 2 ^ 64
       → (union ≡ 0) ↔ ((m : ℕ) → bit ws m ≡ 1 → ⊥)
-  empty_tells a b c = (
+  empty_tells a b c d = (
     λ none. none_has ws (each_zero none),
-    λ none. (λ i. bit_or (bit_or (word_is_zero ws 0 a none i) (word_is_zero ws 1 b none i)) (word_is_zero ws 2 c none i)),
+    λ none. (λ i. bit_or (bit_or (bit_or (word_is_zero ws 0 a none i) (word_is_zero ws 1 b none i)) (word_is_zero ws 2 c none i)) (word_is_zero ws 3 d none i)),
   )

@@ -1,4 +1,4 @@
--- The marks of stations, numbers below 145, and sets of marks. (This project's own.)
+-- The marks of stations, numbers below 193, and sets of marks. (This project's own.)
 use Rattle.std.specs.Prelude.{◌≡◌, ◌≢◌, ℕ, ◌+◌, ◌*◌, ◌/◌, ◌%◌, ◌<◌, ◌↔◌, if◌then◌else◌, slice_index}
 use Rattle.std.specs.Int.{bit_at}
 use Rattle.sdl_routes.specs.declared.route.Station.{Station}
@@ -7,9 +7,9 @@ use Rattle.sdl_ends.specs.declared.marks.Marks.{Marks}
 
 -- inlets by block, the outlet, paths by channel, forth and back
 abbrev pub mark : Station → ℕ
-mark (Inlet b) = b.0 % 16
-mark Outlet = 16
-mark (Line h) = 17 + (h.channel.0 % 64) * 2 + (if h.back then 1 else 0)
+mark (Inlet b) = b.0 % 64
+mark Outlet = 64
+mark (Line h) = 65 + (h.channel.0 % 64) * 2 + (if h.back then 1 else 0)
 
 -- the set has the mark: a bit of one of its words
 unfoldable pub HasMark : Marks → ℕ → Type 0

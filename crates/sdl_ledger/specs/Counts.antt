@@ -123,9 +123,9 @@ pub record IsLimited (o : Outcome) : Type 0 where
   pub few_outputs : AllByRecursion (λ (log : List Event). length (origins log) ≤ 8 * turns log) o.logs
   pub few_lines : length o.env_put ≤ most_lines
 
--- the most outputs that a run may have: eight a turn of sixteen blocks, and one a line
+-- the most outputs that a run may have: eight a turn of 64 blocks, and one a line
 abbrev pub most_outputs : ℕ
-most_outputs = 128016384
+most_outputs = 512016384
 
 -- What each part of a run adds to a ledger, as a ledger of its own.
 abbrev pub no_counts : Ledger

@@ -44,7 +44,7 @@ lines_few n (c ∷ cs) =
     let more = lines_few (n + 1) cs in
     omega arith
 
-pub workers_few : (s : Structure) (workers : List Worker) → IsStructure s → workers ≡ workers_in s → length workers ≤ 145
+pub workers_few : (s : Structure) (workers : List Worker) → IsStructure s → workers ≡ workers_in s → length workers ≤ 193
 workers_few s workers ok is =
     let a = length-append (blocks_from 0 (length s.blocks)) (Environment ∷ map Forwarder (lines_from 0 s.channels)) in
     let b = count_blocks 0 (length s.blocks) in

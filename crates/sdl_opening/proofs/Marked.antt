@@ -34,30 +34,30 @@ unfolding Rises
 rises_once n [] up = tt
 rises_once n (m ∷ ms) up = (above m (m + 1) ms (omega arith) up.1, rises_once (m + 1) ms up.1)
 
-blocks_rise : (n k : ℕ) (more : List Worker) → n + k ≤ 16 → Rises 16 (map mark_at more) → Rises n (map mark_at (blocks_from n k ++ more))
+blocks_rise : (n k : ℕ) (more : List Worker) → n + k ≤ 64 → Rises 64 (map mark_at more) → Rises n (map mark_at (blocks_from n k ++ more))
 unfolding Rises
-blocks_rise n zero more few up = lower n 16 (map mark_at more) (omega arith) up
+blocks_rise n zero more few up = lower n 64 (map mark_at more) (omega arith) up
 blocks_rise n (suc k) more few up =
-    (omega arith, lower (n % 16 + 1) (n + 1) (map mark_at (blocks_from (n + 1) k ++ more)) (omega arith) (blocks_rise (n + 1) k more (omega arith) up))
+    (omega arith, lower (n % 64 + 1) (n + 1) (map mark_at (blocks_from (n + 1) k ++ more)) (omega arith) (blocks_rise (n + 1) k more (omega arith) up))
 
 -- a channel's paths, forth before back
-paths_rise : (n : ℕ) (forth back : List SignalId) (hs : List Hop) → n < 64 → Rises (17 + (n + 1) * 2) (map mark_at (map Forwarder hs))
-    → Rises (17 + n * 2) (map mark_at (map Forwarder ((path_line n false forth ++ path_line n true back) ++ hs)))
+paths_rise : (n : ℕ) (forth back : List SignalId) (hs : List Hop) → n < 64 → Rises (65 + (n + 1) * 2) (map mark_at (map Forwarder hs))
+    → Rises (65 + n * 2) (map mark_at (map Forwarder ((path_line n false forth ++ path_line n true back) ++ hs)))
 unfolding Rises
-paths_rise n [] [] hs less up = lower (17 + n * 2) (17 + (n + 1) * 2) (map mark_at (map Forwarder hs)) (omega arith) up
-paths_rise n (f ∷ fs) [] hs less up = (omega arith, lower (17 + n % 64 * 2 + 0 + 1) (17 + (n + 1) * 2) (map mark_at (map Forwarder hs)) (omega arith) up)
-paths_rise n [] (b ∷ bs) hs less up = (omega arith, lower (17 + n % 64 * 2 + 1 + 1) (17 + (n + 1) * 2) (map mark_at (map Forwarder hs)) (omega arith) up)
+paths_rise n [] [] hs less up = lower (65 + n * 2) (65 + (n + 1) * 2) (map mark_at (map Forwarder hs)) (omega arith) up
+paths_rise n (f ∷ fs) [] hs less up = (omega arith, lower (65 + n % 64 * 2 + 0 + 1) (65 + (n + 1) * 2) (map mark_at (map Forwarder hs)) (omega arith) up)
+paths_rise n [] (b ∷ bs) hs less up = (omega arith, lower (65 + n % 64 * 2 + 1 + 1) (65 + (n + 1) * 2) (map mark_at (map Forwarder hs)) (omega arith) up)
 paths_rise n (f ∷ fs) (b ∷ bs) hs less up =
-    (omega arith, (omega arith, lower (17 + n % 64 * 2 + 1 + 1) (17 + (n + 1) * 2) (map mark_at (map Forwarder hs)) (omega arith) up))
+    (omega arith, (omega arith, lower (65 + n % 64 * 2 + 1 + 1) (65 + (n + 1) * 2) (map mark_at (map Forwarder hs)) (omega arith) up))
 
-lines_rise : (n : ℕ) (cs : List Channel) → n + length cs ≤ 64 → Rises (17 + n * 2) (map mark_at (map Forwarder (lines_from n cs)))
+lines_rise : (n : ℕ) (cs : List Channel) → n + length cs ≤ 64 → Rises (65 + n * 2) (map mark_at (map Forwarder (lines_from n cs)))
 unfolding Rises
 lines_rise n [] few = tt
 lines_rise n (c ∷ cs) few =
-    let more : Rises (17 + (n + 1) * 2) (map mark_at (map Forwarder (lines_from (n + 1) cs))) = lines_rise (n + 1) cs (omega arith) in
+    let more : Rises (65 + (n + 1) * 2) (map mark_at (map Forwarder (lines_from (n + 1) cs))) = lines_rise (n + 1) cs (omega arith) in
     cond_both c.nodelay [] (path_line n false c.forth.items ++ path_line n true c.back.items)
-    (λ (hs : List Hop). Rises (17 + n * 2) (map mark_at (map Forwarder (hs ++ lines_from (n + 1) cs))))
-    (λ e. lower (17 + n * 2) (17 + (n + 1) * 2) (map mark_at (map Forwarder (lines_from (n + 1) cs))) (omega arith) more)
+    (λ (hs : List Hop). Rises (65 + n * 2) (map mark_at (map Forwarder (hs ++ lines_from (n + 1) cs))))
+    (λ e. lower (65 + n * 2) (65 + (n + 1) * 2) (map mark_at (map Forwarder (lines_from (n + 1) cs))) (omega arith) more)
     (λ e. paths_rise n c.forth.items c.back.items (lines_from (n + 1) cs) (omega arith) more)
 
 pub marks_once : (s : Structure) → IsStructure s → EachOnce (map mark_at (workers_in s))

@@ -64,7 +64,7 @@ fn open_station<R: Wait>(
     shelf: &mut Shelf,
 ) -> Result<(), AllocError>
     requires taker { Among (taker_of station) workers.now }
-    requires few { length workers.now ≤ 145 }
+    requires few { length workers.now ≤ 193 }
     requires marks { length marks.now ≡ length workers.now }
     requires shares { length shares.old.items ≡ length workers.now }
     ensures { OnOk result (AddsQueue workers.now marks.now station shares.old.items shares.new.items shelf.old shelf.new) }

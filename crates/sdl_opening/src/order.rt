@@ -9,11 +9,11 @@ use sdl_routes::Hop;
 use sdl_signal::{BlockId, ChannelId, SignalId};
 use std::alloc::{AllocError, Global};
 
-/// The workers of a structure, at most 145: the blocks by number, the environment, and a forwarder for each delaying path that
+/// The workers of a structure, at most 193: the blocks by number, the environment, and a forwarder for each delaying path that
 /// carries a signal, by channel, forth before back (this project's own).
 pub fn workers_of(alloc: Global, structure: &Structure) -> Result<Vec<Worker>, AllocError>
     ensures workers { IfOk result (λ workers. workers.items ≡ workers_in structure.now) }
-    ensures few { IfOk result (λ workers. length workers.items ≤ 145) }
+    ensures few { IfOk result (λ workers. length workers.items ≤ 193) }
 {
     structure.parts_agree();
     let mut workers = blocks_of(alloc, structure.blocks().len())?;
@@ -24,7 +24,7 @@ pub fn workers_of(alloc: Global, structure: &Structure) -> Result<Vec<Worker>, A
 
 /// The workers of so many blocks.
 fn blocks_of(alloc: Global, count: usize) -> Result<Vec<Worker>, AllocError>
-    requires { count ≤ 16 }
+    requires { count ≤ 64 }
     ensures { IfOk result (λ workers. workers.items ≡ blocks_from 0 count) }
 {
     let mut workers = Vec::new(alloc);

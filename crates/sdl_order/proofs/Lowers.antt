@@ -40,12 +40,12 @@ from_most : (s : Station) (ss : List Station) → stations_from s ss ≤ length 
 from_most s [] = omega arith
 from_most s (x ∷ xs) = cond_both (same_station x s) (suc (length xs)) (stations_from s xs) (λ (k : ℕ). k ≤ suc (length xs)) (λ t. omega arith) (λ t. let h = from_most s xs in omega arith)
 
--- a route has at most four stations
-short_row : (plan : Plan) → IsPlan plan → (r : ℕ) (o : Option TableRow) → slice_get plan.routes r ≡ o → length (elim o as (λ _. List Station) [ None ↦ [] | Some row ↦ row.route.stations.items ]) ≤ 4
+-- a route has at most ten stations
+short_row : (plan : Plan) → IsPlan plan → (r : ℕ) (o : Option TableRow) → slice_get plan.routes r ≡ o → length (elim o as (λ _. List Station) [ None ↦ [] | Some row ↦ row.route.stations.items ]) ≤ 10
 short_row plan ok r None at = omega arith
 short_row plan ok r (Some row) at = (all_at IsTableRoute plan.routes r row ok.table.shown at).few_stations
 
-short_way : (plan : Plan) → IsPlan plan → (r : ℕ) → length ((ways_of plan).stations r) ≤ 4
+short_way : (plan : Plan) → IsPlan plan → (r : ℕ) → length ((ways_of plan).stations r) ≤ 10
 short_way plan ok r = short_row plan ok r (slice_get plan.routes r) refl
 
 -- the stations of the items' routes
@@ -60,7 +60,7 @@ out_is t (i ∷ items) =
     let c = out_is t items in
     omega arith
 
-pub out_short : (plan : Plan) → IsPlan plan → (items : List Item) → to_go_out (ways_of plan) items ≤ 5 * length items
+pub out_short : (plan : Plan) → IsPlan plan → (items : List Item) → to_go_out (ways_of plan) items ≤ 11 * length items
 out_short plan ok [] = omega arith
 out_short plan ok (i ∷ items) =
     let a = sum_by-cons (λ (j : Item). length ((ways_of plan).stations j.route.0) + 1) i items in
@@ -174,9 +174,9 @@ module _ (may : ℕ → Frame → Step → Type 0) (plan : Plan) (ok : IsPlan pl
       at_least (ways_of plan) (Inlet (block n)) (arrived works.events) (all_end P (arrived was.core.log) (arrived works.events) (subst (AllByRecursion P) split all))
 
   abbrev lower : ℕ
-  lower = to_go (ways_of plan) (Inlet (block n)) (arrived works.events) + to_go_out (ways_of plan) works.put + (41 * turns works.events - to_go_out (ways_of plan) (sent works.events))
+  lower = to_go (ways_of plan) (Inlet (block n)) (arrived works.events) + to_go_out (ways_of plan) works.put + (89 * turns works.events - to_go_out (ways_of plan) (sent works.events))
 
-  sent_few : to_go_out (ways_of plan) (sent works.events) ≤ 40 * turns works.events
+  sent_few : to_go_out (ways_of plan) (sent works.events) ≤ 88 * turns works.events
   sent_few = let a = out_short plan ok (sent works.events) in let b = works.few in omega arith
 
   load_here : fuller here ≡ load plan then here + lower

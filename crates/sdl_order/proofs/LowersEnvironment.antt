@@ -92,9 +92,9 @@ module _ (may : ℕ → Frame → Step → Type 0) (plan : Plan) (ok : IsPlan pl
   less = reads_less plan.structure plan.routes (blocks_in plan) old.environment works.outs is works.sound.few works.reads
 
   abbrev lower : ℕ
-  lower = to_go (ways_of plan) Outlet works.taken + to_go_out (ways_of plan) works.put + (41 * less.0 - to_go_out (ways_of plan) (env_sent works.outs))
+  lower = to_go (ways_of plan) Outlet works.taken + to_go_out (ways_of plan) works.put + (89 * less.0 - to_go_out (ways_of plan) (env_sent works.outs))
 
-  out_few : to_go_out (ways_of plan) (env_sent works.outs) ≤ 40 * less.0
+  out_few : to_go_out (ways_of plan) (env_sent works.outs) ≤ 88 * less.0
   out_few = let a = out_short plan ok (env_sent works.outs) in let b = sent_few works.outs in let c = less.2 in omega arith
 
   load_here : fuller Environment ≡ load plan then Environment + lower

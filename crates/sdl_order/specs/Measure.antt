@@ -37,13 +37,13 @@ turns_left budget ws env (Block b) = elim (slice_get ws b.0) [ None ↦ 0 | Some
 turns_left budget ws env Environment = lines_left env
 turns_left budget ws env (Forwarder h) = 0
 
--- What one worker has before it. A turn sends at most eight items, of at most four stations each, which is 40 steps: so a
--- turn that may still be made counts 41. A line sends at most one item, and counts as much.
+-- What one worker has before it. A turn sends at most eight items, of at most ten stations each, which is 88 steps: so a
+-- turn that may still be made counts 89. A line sends at most one item, and counts as much.
 abbrev pub load : Plan → Site → Worker → ℕ
 load plan site w =
     to_go (ways_of plan) (place w) (standing (site_books site) (place w))
     + to_go_out (ways_of plan) ((site_books site).outgoing w)
-    + 41 * turns_left plan.budget site.blocks site.environment w
+    + 89 * turns_left plan.budget site.blocks site.environment w
 
 abbrev pub work_left : Plan → Site → ℕ
 work_left plan site = sum_by (load plan site) (workers_of plan)

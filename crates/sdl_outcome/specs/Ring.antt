@@ -63,7 +63,7 @@ ring =
       system = codes "Ring";
       budget = 2;
       signals = record { name = named (codes "tok"); sorts = record { items = sort.Integer ∷ [] } } ∷ [];
-      blocks = record { name = named (codes "P") } ∷ record { name = named (codes "Q") } ∷ [];
+      blocks = record { name = named (codes "P"); scope = scope.System; depth = 1 } ∷ record { name = named (codes "Q"); scope = scope.System; depth = 1 } ∷ [];
       sets =
           record { name = named (codes "X"); block = block 0; initial = 1; maximum = 1 }
           ∷ record { name = named (codes "Y"); block = block 1; initial = 1; maximum = 1 } ∷ [];

@@ -56,7 +56,7 @@ system initial maximum gates channels = record {
   signals =
       record { name = named (codes "ping"); sorts = record { items = sort.Integer ∷ [] } }
       ∷ record { name = named (codes "pong"); sorts = record { items = sort.Integer ∷ [] } } ∷ [];
-  blocks = record { name = named (codes "B") } ∷ [];
+  blocks = record { name = named (codes "B"); scope = scope.System; depth = 1 } ∷ [];
   sets = record { name = named (codes "E"); block = record { 0 = 0 }; initial = initial; maximum = maximum } ∷ [];
   gates = gates;
   channels = channels;

@@ -1,6 +1,7 @@
 -- A structure: lists of signals, blocks, sets, gates and channels.
 use Rattle.std.specs.Prelude.{◌≡◌, ℕ, ◌+◌, ◌*◌, ◌^◌, ◌<◌, ◌≤◌, List, [], ◌∷◌, map, filter_map, length, Option, Some, None, option_map, slice_get, IsSomeAnd, All, ⊤}
 use Rattle.std.specs.List.{AllByRecursion}
+use Rattle.sdl_signal.specs.declared.ids.BlockId.{BlockId}
 use Rattle.sdl_signal.specs.declared.ids.SetId.{SetId}
 use Rattle.sdl_signal.specs.declared.ids.SignalId.{SignalId}
 use Rattle.sdl_signal.specs.declared.ids.GateId.{GateId}
@@ -32,6 +33,9 @@ pub record Structure : Type 0 where
   pub channels : List Channel
 
 -- the parts by their numbers
+abbrev pub block_at : Structure → BlockId → Option Block
+block_at s block = slice_get s.blocks block.0
+
 abbrev pub set_at : Structure → SetId → Option Set
 set_at s set = slice_get s.sets set.0
 
@@ -65,12 +69,12 @@ abbrev pub other_side : Side → Side
 other_side Outer = Inner
 other_side Inner = Outer
 
--- A channel of the system joins inner sides of system gates and outer sides of block gates.
--- A channel of a block joins inner sides of its gates and outer sides of its sets' gates.
+-- A channel of the system joins inner sides of system gates and outer sides of the gates of the blocks that lie in the system.
+-- A channel of a block joins inner sides of its gates and outer sides of the gates of the sets and blocks that lie in it.
 abbrev pub JoinsAt : Structure → Scope → Owner → Side → Type 0
 JoinsAt s scope.System owner.System Inner = ⊤
-JoinsAt s scope.System (owner.Block b) Outer = ⊤
 JoinsAt s (scope.Block b) (owner.Block c) Inner = c ≡ b
+JoinsAt s scope (owner.Block b) Outer = IsSomeAnd (block_at s b) (λ block. block.scope ≡ scope)
 JoinsAt s (scope.Block b) (owner.Set t) Outer = IsSomeAnd (set_at s t) (λ set. set.block ≡ b)
 JoinsAt s _ _ _ = ⊥
 
@@ -94,6 +98,15 @@ abbrev pub AreSystemFirst : List Gate → Type 0
 AreSystemFirst [] = ⊤
 AreSystemFirst (g ∷ gates) = AllByRecursion (λ h. h.owner ≡ owner.System → g.owner ≡ owner.System) gates × AreSystemFirst gates
 
+-- how deep what lies in the scope lies: in the system 1, and in a block one more than that block
+abbrev pub IsDepthIn : List Block → Scope → ℕ → Type 0
+IsDepthIn blocks scope.System depth = depth ≡ 1
+IsDepthIn blocks (scope.Block b) depth = IsSomeAnd (slice_get blocks b.0) (λ around. depth ≡ around.depth + 1)
+
+-- a block lies at most four deep
+abbrev pub LiesIn : List Block → Block → Type 0
+LiesIn blocks b = IsDepthIn blocks b.scope b.depth × (b.depth ≤ 4)
+
 -- a set may have an instance, and starts with at most 1024 of them and never has more
 pub record HasFewInstances (t : Set) : Type 0 where
   pub initial : t.initial ≤ 1024
@@ -104,10 +117,11 @@ pub record HasFewInstances (t : Set) : Type 0 where
 -- What one part names of the others is there, and each end of a channel is where the channel may end.
 pub record IsStructure (s : Structure) : Type 0 where
   pub few_signals : length s.signals ≤ 64
-  pub few_blocks : length s.blocks ≤ 16
+  pub few_blocks : length s.blocks ≤ 64
   pub few_sets : length s.sets ≤ 64
   pub few_gates : length s.gates ≤ 8 * (1 + length s.blocks + length s.sets)
   pub few_channels : length s.channels ≤ 64
+  pub blocks : AllByRecursion (LiesIn s.blocks) s.blocks
   pub sets : AllByRecursion (λ t. t.block.0 < length s.blocks) s.sets
   pub instances : AllByRecursion HasFewInstances s.sets
   pub gates : AllByRecursion (λ g. OwnerExists s g.owner × SignalsExist s g.inward.items × SignalsExist s g.outward.items) s.gates

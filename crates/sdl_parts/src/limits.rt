@@ -7,7 +7,13 @@ pub const MOST_SIGNALS: usize = 64;
 pub const MOST_PARAMETERS: usize = 4;
 
 /// The most blocks of a structure.
-pub const MOST_BLOCKS: usize = 16;
+pub const MOST_BLOCKS: usize = 64;
+
+/// The most blocks of a structure file of version 1.
+pub const MOST_BLOCKS_OF_VERSION_1: usize = 16;
+
+/// How deep a block may lie: a block of the system has depth 1.
+pub const MOST_DEPTH: u32 = 4;
 
 /// The most sets of a structure.
 pub const MOST_SETS: usize = 64;

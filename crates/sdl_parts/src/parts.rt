@@ -12,10 +12,14 @@ pub struct SignalDecl {
     pub sorts: ArrayVec<Sort, 4>,
 }
 
-/// A block.
+/// A block, which lies in the system or in another block.
 #[derive(Drop)]
 pub struct Block {
     pub name: Name,
+    /// Where it lies.
+    pub scope: Scope,
+    /// How deep: 1 in the system, and in a block one more than that block.
+    pub depth: u32,
 }
 
 /// A set of process instances in a block. It has the number of instances that a run begins with, and the most that may live at a

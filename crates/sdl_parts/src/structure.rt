@@ -113,7 +113,7 @@ impl Structure {
         self.signals.as_slice()
     }
 
-    /// The blocks, at most 16. A block's number is its place here.
+    /// The blocks, at most 64, each behind the block in which it lies. A block's number is its place here.
     pub fn blocks(&self) -> &[Block]
         ensures { result.now ≡ self.now.blocks }
     {

@@ -37,7 +37,7 @@ echo = record {
   signals =
       record { name = named (codes "ping"); sorts = record { items = sort.Integer ∷ [] } }
       ∷ record { name = named (codes "pong"); sorts = record { items = sort.Integer ∷ [] } } ∷ [];
-  blocks = record { name = named (codes "B") } ∷ [];
+  blocks = record { name = named (codes "B"); scope = scope.System; depth = 1 } ∷ [];
   sets = record { name = named (codes "E"); block = record { 0 = 0 }; initial = 1; maximum = 1024 } ∷ [];
   gates = gate_of (codes "line") owner.System ∷ gate_of (codes "g") (owner.Block (record { 0 = 0 })) ∷ gate_of (codes "p") (owner.Set (record { 0 = 0 })) ∷ [];
   channels =

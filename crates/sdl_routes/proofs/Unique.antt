@@ -24,7 +24,7 @@ same_value : {X Y : Type 0} (o : Option X) (f : X → Y) (a b : Y) → IsSomeAnd
 same_value None f a b p q = absurd p
 same_value (Some x) f a b p q = sym p ∙ q
 
-start_unique : (s : Structure) (hops : List Hop) (a b : GateId) → StartsAtGate s hops a → StartsAtGate s hops b → a ≡ b
+pub start_unique : (s : Structure) (hops : List Hop) (a b : GateId) → StartsAtGate s hops a → StartsAtGate s hops b → a ≡ b
 start_unique s [] a b p q = absurd p
 start_unique s (h ∷ hops) a b p q = same_value (hop_path s h) (λ p. p.start.gate) a b p q
 

@@ -3,6 +3,7 @@ use Rattle.std.proofs.Common.{◌≡◌, ◌≢◌, ℕ, zero, suc, ◌+◌, ◌
 use Rattle.std.specs.List.{AllByRecursion}
 use Rattle.std.proofs.lemmas.List.{map-append, length-append}
 use Rattle.sdl_signal.specs.declared.ids.SignalId.{SignalId}
+use Rattle.sdl_signal.specs.declared.ids.GateId.{GateId}
 use Rattle.sdl_parts.specs.declared.parts.Channel.{Channel}
 use Rattle.sdl_parts.specs.declared.parts.Direction.{Direction}
 use Rattle.sdl_parts.specs.declared.parts.Direction.TheVariants.{Forth, Back}
@@ -10,7 +11,8 @@ use Rattle.sdl_parts.specs.Structure.{Structure, IsStructure, path_of, channel_a
 use Rattle.sdl_parts.specs.Rules.{IsWellFormed}
 use Rattle.sdl_routes.specs.declared.route.Hop.{Hop}
 use Rattle.sdl_routes.specs.declared.route.TableRow.{TableRow}
-use Rattle.sdl_routes.specs.Routes.{hop_direction, Carries, Joins, JoinsLast, IsWalk, IsRoute, AreRoutesOf, HasTooMany, hop_number, place, row_place}
+use Rattle.sdl_routes.specs.declared.route.Source.{Source}
+use Rattle.sdl_routes.specs.Routes.{hop_direction, Carries, MayStart, StartsAtGate, IsSource, Joins, JoinsLast, IsWalk, IsRoute, AreRoutesOf, HasTooMany, hop_number, place, row_place}
 use Rattle.sdl_routes.specs.Found.{place_behind, Begins, HasFound}
 use Rattle.sdl_routes.proofs.Places.{after_one}
 use Rattle.sdl_routes.proofs.Found.{each_of, found_skip, found_push}
@@ -23,9 +25,9 @@ walk_more s x k (h ∷ j ∷ hops) walk carries joins = (walk.0, walk.1, walk_mo
 
 -- so there is room for it
 pub room_for : (s : Structure) → IsStructure s → IsWellFormed s → (x : SignalId) (k : Hop) (hops : List Hop) → IsWalk s x hops → Carries s k x → JoinsLast s hops k
-    → length hops < 3
+    → length hops < 9
 room_for s is wf x k hops walk carries joins =
-    let short : length (hops ++ k ∷ []) ≤ 3 = (short_walk s is wf x (hops ++ k ∷ []) (walk_more s x k hops walk carries joins)).0 in
+    let short : length (hops ++ k ∷ []) ≤ 9 = (short_walk s is wf x (hops ++ k ∷ []) (walk_more s x k hops walk carries joins)).0 in
     let e : length (hops ++ k ∷ []) ≡ length hops + 1 = length-append hops (k ∷ []) in
     omega arith
 
@@ -79,12 +81,18 @@ none_begins s x k (h ∷ hops) known refused row route begins =
     let walk : IsWalk s x row.route.hops.items = subst (λ (y : SignalId). IsWalk s y row.route.hops.items) same route.walk in
     refused (walk_begins s x k h hops row.route.hops.items walk begins.1)
 
-none_begins_at : (s : Structure) (x : SignalId) (k : Hop) → ¬ Carries s k x
+-- what a walk of a route starts with may start a route
+may_start : (s : Structure) (k : Hop) (walk : List Hop) (gate : GateId) (src : Source) → StartsAtGate s walk gate → IsSource s gate src
+    → Begins (hop_number k ∷ []) (map hop_number walk) → MayStart s k
+may_start s k [] gate src start is begins = absurd begins
+may_start s k (r ∷ rest) gate src start is begins = subst (λ (y : Hop). MayStart s y) (hop_from_number r k begins.0) (gate, src, start, is)
+
+none_begins_at : (s : Structure) (x : SignalId) (k : Hop) → ¬ (MayStart s k × Carries s k x)
     → (row : TableRow) → IsRoute s row → ¬ Begins (x.0 ∷ hop_number k ∷ []) (row_place row)
 none_begins_at s x k refused row route begins =
     let same : row.route.signal ≡ x = signal_from_number row.route.signal x begins.0 in
     let walk : IsWalk s x row.route.hops.items = subst (λ (y : SignalId). IsWalk s y row.route.hops.items) same route.walk in
-    refused (walk_begins_at s x k row.route.hops.items walk begins.1)
+    refused (may_start s k row.route.hops.items row.route.start row.source route.start route.source begins.1, walk_begins_at s x k row.route.hops.items walk begins.1)
 
 no_empty_walk : (s : Structure) (x : SignalId) (m n : ℕ) (hops : List Hop) → IsWalk s x hops → m ∷ map hop_number hops ≢ n ∷ []
 no_empty_walk s x m n [] walk e = absurd walk
@@ -155,7 +163,7 @@ step_skipped s x hops k n rows walk refused number found =
     (found_skip s (place x hops ++ hop_number k ∷ []) rows (none_begins s x k hops walk refused) (subst P (sym number) found))
 
 pub first_skipped : (s : Structure) (x : SignalId) (k : Hop) (n : ℕ) (rows : List TableRow)
-    → ¬ Carries s k x → hop_number k ≡ n → HasFound s (x.0 ∷ n ∷ []) rows → HasFound s (x.0 ∷ (n + 1) ∷ []) rows
+    → ¬ (MayStart s k × Carries s k x) → hop_number k ≡ n → HasFound s (x.0 ∷ n ∷ []) rows → HasFound s (x.0 ∷ (n + 1) ∷ []) rows
 first_skipped s x k n rows refused number found =
     let P : ℕ → Type 0 = λ m. HasFound s (x.0 ∷ m ∷ []) rows in
     let at : place_behind (x.0 ∷ hop_number k ∷ []) ≡ x.0 ∷ (n + 1) ∷ [] =

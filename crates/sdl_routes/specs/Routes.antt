@@ -91,6 +91,10 @@ abbrev pub IsSource : Structure → GateId → Source → Type 0
 IsSource s gate (source.Set t) = IsSomeAnd (gate_at s gate) (λ g. g.owner ≡ owner.Set t)
 IsSource s gate (source.Gate e) = (e ≡ gate) × IsSomeAnd (gate_at s gate) (λ g. g.owner ≡ owner.System)
 
+-- a route may start with the hop: it starts at a gate of a set or of the system
+abbrev pub MayStart : Structure → Hop → Type 0
+MayStart s h = (gate : GateId) × (src : Source) × StartsAtGate s (h ∷ []) gate × IsSource s gate src
+
 -- A route of the structure: a signal with hops, each of which carries it and joins the next; it leads from a gate of a set or of
 -- the system to such a gate. Its stations are its delaying hops in order, and then the inlet of the last set's block, or the
 -- outlet.
@@ -107,10 +111,10 @@ abbrev pub EachOnce : {X : Type 0} → List X → Type 0
 EachOnce [] = ⊤
 EachOnce (x ∷ xs) = AllByRecursion (λ y. x ≢ y) xs × EachOnce xs
 
--- a route has at most three hops and four stations, and each station stands in it once
+-- a route has at most nine hops and ten stations, and each station stands in it once
 abbrev pub AreRoutesShort : Structure → Type 0
 AreRoutesShort s = (row : TableRow) → IsRoute s row →
-    (length row.route.hops.items ≤ 3) × (length row.route.stations.items ≤ 4) × EachOnce row.route.hops.items × EachOnce row.route.stations.items
+    (length row.route.hops.items ≤ 9) × (length row.route.stations.items ≤ 10) × EachOnce row.route.hops.items × EachOnce row.route.stations.items
 
 -- routes stand by signal number, then by the list of hops, a hop by its channel and forth before back
 abbrev pub hop_number : Hop → ℕ

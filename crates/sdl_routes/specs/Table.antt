@@ -37,9 +37,9 @@ AreStationsOf r =
 pub record IsTableRoute (row : TableRow) : Type 0 where
   pub signal : row.route.signal.0 < 64
   pub some_hops : 0 < length row.route.hops.items
-  pub few_hops : length row.route.hops.items ≤ 3
+  pub few_hops : length row.route.hops.items ≤ 9
   pub hops_once : EachOnce row.route.hops.items
-  pub few_stations : length row.route.stations.items ≤ 4
+  pub few_stations : length row.route.stations.items ≤ 10
   pub stations_once : EachOnce row.route.stations.items
   pub stations : AreStationsOf row.route
   pub source : IsSourceGate row.source row.route.start

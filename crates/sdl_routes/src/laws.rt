@@ -6,7 +6,7 @@ ghost use Rattle.sdl_routes.specs.Table.{IsTableRoute};
 
 use sdl_parts::Checked;
 
-/// A route has at most three hops and four stations, and no station twice. What a table shows of its routes holds of each.
+/// A route has at most nine hops and ten stations, and no station twice. What a table shows of its routes holds of each.
 pub fn routes_are_short(checked: &Checked)
     ensures short { AreRoutesShort checked.now }
     ensures shown { (row : TableRow) → IsRoute checked.now row → IsTableRoute row }

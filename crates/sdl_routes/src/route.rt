@@ -37,12 +37,12 @@ pub struct Route {
     pub signal: SignalId,
     /// The gate at which the first hop starts.
     pub start: GateId,
-    pub hops: ArrayVec<Hop, 3>,
+    pub hops: ArrayVec<Hop, 9>,
     pub end: EndPoint,
     /// The gate at which the last hop ends.
     pub end_gate: GateId,
     /// The delaying hops in order, and then the inlet of the last set's block, or the outlet.
-    pub stations: ArrayVec<Station, 4>,
+    pub stations: ArrayVec<Station, 10>,
 }
 
 /// Where an output comes from: an instance of a set, or the environment at this gate of the system.

@@ -1,6 +1,6 @@
 //! The route of a walk: its gates, its source and end, and its stations.
-ghost use Rattle.std.specs.Prelude.{◌≡◌, ◌≢◌, ◌≤◌, [], ◌∷◌, ◌++◌, length, IfSome, IfNone};
-ghost use Rattle.sdl_routes.specs.Routes.{IsRoute, IsWalk, StartsAtGate, EndsAtGate, IsSource, IsEndPoint, IsLastStation, delaying};
+ghost use Rattle.std.specs.Prelude.{◌≡◌, ◌≢◌, ◌≤◌, ◌↔◌, [], ◌∷◌, ◌++◌, length, IfSome, IfNone, IsTrue};
+ghost use Rattle.sdl_routes.specs.Routes.{IsRoute, IsWalk, MayStart, StartsAtGate, EndsAtGate, IsSource, IsEndPoint, IsLastStation, delaying};
 ghost use Rattle.sdl_routes.specs.Finding.{Finds};
 
 use crate::hops::{finish_of, is_delaying, last_hop, start_of};
@@ -49,6 +49,20 @@ fn source_at(structure: &Structure, gate: GateId) -> Option<Source>
     }
 }
 
+/// Whether a route may start with the hop: at a gate of a set or of the system. A walk from any other gate is part of a route at
+/// most, and there may be very many.
+pub fn may_start(structure: &Structure, hop: Hop) -> bool
+    ensures { IsTrue result ↔ MayStart structure.now hop }
+{
+    match start_gate(structure, &[hop]) {
+        Some(gate) => match source_at(structure, gate) {
+            Some(_) => true,
+            None => false,
+        },
+        None => false,
+    }
+}
+
 /// Where a route ends that ends at the gate.
 fn end_point_at(structure: &Structure, gate: GateId) -> Option<EndPoint>
     ensures { Finds (IsEndPoint structure.now gate) result }
@@ -77,8 +91,8 @@ fn last_station(structure: &Structure, end: EndPoint) -> Option<Station>
 }
 
 /// The delaying hops, and the last station.
-fn stations_of(structure: &Structure, hops: &[Hop], last: Station) -> ArrayVec<Station, 4>
-    requires { length hops.now ≤ 3 }
+fn stations_of(structure: &Structure, hops: &[Hop], last: Station) -> ArrayVec<Station, 10>
+    requires { length hops.now ≤ 9 }
     ensures { result.items ≡ delaying structure.now hops.now ++ last ∷ [] }
 {
     let mut stations = ArrayVec::new();
@@ -92,8 +106,8 @@ fn stations_of(structure: &Structure, hops: &[Hop], last: Station) -> ArrayVec<S
 }
 
 /// The same hops in a list of their own.
-pub fn copied(hops: &[Hop]) -> ArrayVec<Hop, 3>
-    requires { length hops.now ≤ 3 }
+pub fn copied(hops: &[Hop]) -> ArrayVec<Hop, 9>
+    requires { length hops.now ≤ 9 }
     ensures { result.items ≡ hops.now }
 {
     let mut copy = ArrayVec::new();
@@ -106,7 +120,7 @@ pub fn copied(hops: &[Hop]) -> ArrayVec<Hop, 3>
 /// The route of this walk, where it begins and ends at gates of sets or of the system.
 pub fn row_of(structure: &Structure, signal: SignalId, hops: &[Hop]) -> Option<TableRow>
     requires walk { IsWalk structure.now signal hops.now }
-    requires few { length hops.now ≤ 3 }
+    requires few { length hops.now ≤ 9 }
     ensures route { IfSome result (λ row. IsRoute structure.now row × (row.route.signal ≡ signal) × (row.route.hops.items ≡ hops.now)) }
     ensures none { IfNone result ((other : TableRow) → IsRoute structure.now other → other.route.hops.items ≢ hops.now) }
 {

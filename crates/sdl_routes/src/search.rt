@@ -8,7 +8,7 @@ ghost use Rattle.sdl_routes.specs.Collected.{HasCollected, AddsRoute};
 
 use crate::hops::{carries, last_joins};
 use crate::route::{Hop, TableRow};
-use crate::rows::{copied, row_of};
+use crate::rows::{copied, may_start, row_of};
 use crate::table::RouteFault;
 use arrayvec::ArrayVec;
 use sdl_parts::Structure;
@@ -60,8 +60,8 @@ impl Hop {
 }
 
 /// The hops with one more.
-fn with_hop(hops: &[Hop], hop: Hop) -> ArrayVec<Hop, 3>
-    requires { length hops.now < 3 }
+fn with_hop(hops: &[Hop], hop: Hop) -> ArrayVec<Hop, 9>
+    requires { length hops.now < 9 }
     ensures { result.items ≡ hops.now ++ hop ∷ [] }
 {
     let mut longer = copied(hops);
@@ -69,7 +69,8 @@ fn with_hop(hops: &[Hop], hop: Hop) -> ArrayVec<Hop, 3>
     longer
 }
 
-/// Adds the routes that begin with these hops to the routes before them.
+/// Adds the routes that begin with these hops to the routes before them. As each signal that reaches a block's gate goes further,
+/// each of these walks is the beginning of a route.
 fn extend(
     structure: &Structure,
     signal: SignalId,
@@ -115,7 +116,7 @@ pub fn all_routes(alloc: Global, structure: &Structure) -> Result<Vec<TableRow>,
         let signal = SignalId(signal_number as u32);
         for number in 0..end {
             let hop = Hop::numbered(number);
-            if carries(structure, signal, hop) {
+            if may_start(structure, hop) && carries(structure, signal, hop) {
                 extend(structure, signal, &[hop], &mut collected)?;
             }
         }

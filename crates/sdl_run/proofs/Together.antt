@@ -174,7 +174,7 @@ module _ {S K I : Type 0} {F : I → Type 0} {g : _} (may : ℕ → Frame → St
     pub ends_enough : length all ≡ length d.blocks.items + (length d.forwarders.items + 1)
     ends_enough = (let a = ends_count d.checked d.routes all shelf d.forwarders.items opened forwarders in let b = blocks_known in omega (arith, a, b))
 
-    pub few_workers : length d.blocks.items + length d.forwarders.items ≤ 144
+    pub few_workers : length d.blocks.items + length d.forwarders.items ≤ 192
     few_workers = (let a = ends_enough in let b = workers_few (plan_of d) is_plan in let c = opened.number in omega (arith, a, b, c))
 
     module _ (ws : List (Kind (BlockThread S K I F g) ForwarderThread)) (own : WorkerEnds) (given : GivesOut d.budget d.blocks.items d.forwarders.items all ws own) where

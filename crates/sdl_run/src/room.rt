@@ -56,7 +56,7 @@ fn make_apart_room<S: Agents, K: Keeps>(
     blocks: usize,
     forwarders: usize,
 ) -> Result<ApartRoom<S, K>, AllocError>
-    requires blocks { blocks ≤ 16 }
+    requires blocks { blocks ≤ 64 }
     requires forwarders { forwarders < 2 ^ 63 }
     ensures { IfOk result (HasApartRoom blocks forwarders) }
 {

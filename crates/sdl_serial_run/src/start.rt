@@ -54,7 +54,7 @@ pub(crate) fn make_start_room<S: Agents, K: Keeps>(
     routes: &Routes,
     blocks: usize,
 ) -> Result<StartRoom<S, K>, AllocError>
-    requires { blocks ≤ 16 }
+    requires { blocks ≤ 64 }
     ensures { IfOk result (IsStartRoom checked.now routes.now blocks) }
 {
     let structure = checked.structure();

@@ -1,6 +1,7 @@
 -- Blocks and sets: one more of them is read.
 use Rattle.std.proofs.Common.{◌≡◌, ℕ, suc, ◌+◌, ◌<◌, List, [], ◌∷◌, ◌++◌, length, take, get_or, map, refl, sym, ap, ◌∙◌, arith}
 use Rattle.std.proofs.lemmas.List.{take_more, append_assoc, length-append}
+use Rattle.std.proofs.lemmas.Grind.{flat_map-append}
 use Rattle.std.specs.List.{AllZip}
 use Rattle.toml.specs.Data.{Members, no_members}
 use Rattle.sdl_parts.specs.declared.parts.Owner.TheVariants as owner
@@ -121,3 +122,23 @@ length-block_channels b (t ∷ ts) = joined_len (channels_in (scope.Block (recor
 -- the first blocks and the next one
 pub take_next : (ts : List Members) (b : ℕ) → b < length ts → take (b + 1) ts ≡ take b ts ++ get_or ts b no_members ∷ []
 take_next ts b h = take_more ts b no_members h
+
+-- the channels of some blocks, and of others after them
+pub channel_names-append : (xs ys : List Members) → channel_names (xs ++ ys) ≡ channel_names xs ++ channel_names ys
+channel_names-append xs ys = flat_map-append (λ t. names_of (tables_at key.Channel t)) xs ys
+
+pub length-channel_names : (ts : List Members) → length (channel_names ts) ≡ total key.Channel ts
+length-channel_names [] = refl
+length-channel_names (t ∷ ts) = joined_len (names_of (tables_at key.Channel t)) (channel_names ts) (length (tables_at key.Channel t)) (total key.Channel ts) (map_len (text_at key.Name) (tables_at key.Channel t)) (length-channel_names ts)
+
+pub block_channels-append : (b : ℕ) (xs ys : List Members) → block_channels b (xs ++ ys) ≡ block_channels b xs ++ block_channels (b + length xs) ys
+block_channels-append b [] ys = ap (λ k. block_channels k ys) here
+  where
+    here : b ≡ b + 0
+    here = omega arith
+block_channels-append b (x ∷ xs) ys =
+    ap (λ z. channels_in (scope.Block (record { 0 = b })) x ++ z) (block_channels-append (b + 1) xs ys ∙ ap (λ k. block_channels (b + 1) xs ++ block_channels k ys) there)
+    ∙ sym (append_assoc (channels_in (scope.Block (record { 0 = b })) x) (block_channels (b + 1) xs) (block_channels (b + length (x ∷ xs)) ys))
+  where
+    there : b + 1 + length xs ≡ b + length (x ∷ xs)
+    there = omega arith

@@ -1,9 +1,11 @@
 -- The draft as the walk goes on: one more set, one more block.
-use Rattle.std.proofs.Common.{◌≡◌, ◌≢◌, ℕ, zero, suc, ◌+◌, ◌<◌, ◌≤◌, List, [], ◌∷◌, ◌++◌, length, take, get_or, map, All, AllPairs, Option, Some, None, IsSomeAnd, slice_get, refl, sym, ap, subst, inl, inr, ◌∙◌, arith}
-use Rattle.std.proofs.lemmas.List.{append_assoc, length-append}
+use Rattle.std.proofs.Common.{◌≡◌, ◌≢◌, ℕ, zero, suc, ◌+◌, ◌<◌, ◌≤◌, List, [], ◌∷◌, ◌++◌, length, take, get_or, map, All, AllPairs, true, Option, Some, None, IsSomeAnd, slice_get, refl, sym, ap, subst, inl, inr, ◌∙◌, arith}
+use Rattle.std.proofs.lemmas.List.{append_assoc, length-append, length-map, map-append}
 use Rattle.std.proofs.lemmas.Slice.Zip.{all_zipped_more}
 use Rattle.std.specs.List.{AllZip}
 use Rattle.toml.specs.Data.{Data, Members, no_members, as_str}
+use Rattle.toml.specs.View.{view}
+use Rattle.toml.specs.declared.value.Value.{Value}
 use Rattle.sdl_parts.specs.declared.parts.SignalDecl.{SignalDecl}
 use Rattle.sdl_parts.specs.declared.parts.Block.{Block}
 use Rattle.sdl_parts.specs.declared.parts.Set.{Set}
@@ -15,44 +17,54 @@ use Rattle.sdl_parts.specs.declared.parts.Owner.TheVariants as owner
 use Rattle.sdl_parts.specs.declared.parts.Scope.{Scope}
 use Rattle.sdl_parts.specs.declared.parts.Scope.TheVariants as scope
 use Rattle.sdl_tables.specs.declared.place.Key.TheVariants as key
+use Rattle.sdl_tables.specs.declared.place.Part.{Part}
 use Rattle.sdl_tables.specs.declared.place.Part.TheVariants as part
+use Rattle.sdl_tables.specs.declared.version.Version.{Version}
+use Rattle.sdl_tables.specs.declared.version.Version.TheVariants.{One, Two}
 use Rattle.sdl_tables.specs.declared.place.Place.{Place}
 use Rattle.sdl_tables.specs.declared.fault.FileFault.TheVariants as fault
 use Rattle.sdl_structure.specs.declared.reading.draft.Draft.{Draft}
 use Rattle.sdl_tables.specs.declared.walk.Walk.{Walk}
-use Rattle.sdl_tables.specs.Keys.{is_key}
-use Rattle.sdl_tables.specs.Tables.{text_at, tables_at, names_of, agent_names, channel_names, total}
-use Rattle.sdl_tables.specs.Places.{table_of, Exists}
-use Rattle.sdl_structure.specs.File.{IsBlockTable, IsSetTable, IsGateTable, IsChannelTable, IsAgent, NamesEnd, sets_of, owned, set_gates, block_gates, gates_of, channels_in, block_channels}
-use Rattle.sdl_tables.specs.Faults.{IsBroken, so_far}
+use Rattle.sdl_tables.specs.Keys.{is_key, needs_some}
+use Rattle.sdl_tables.specs.Versions.{most_blocks}
+use Rattle.sdl_tables.specs.Tables.{text_at, elements_at, tables_at, names_of, agent_names, total, HasKindAt}
+use Rattle.sdl_tables.specs.Blocks.{BlockTable, blocks_of, block_tables, inner_tables, listed_in}
+use Rattle.sdl_tables.specs.Places.{table_at, IsPlace, block_place, inside, names_before}
+use Rattle.sdl_structure.specs.File.{IsBlockTable, IsSetTable, IsGateTable, IsChannelTable, IsAgent, NamesEnd, sets_of, owned, set_gates, block_gates, gates_of}
+use Rattle.sdl_tables.specs.Faults.{IsBroken, IsDeepest, so_far}
 use Rattle.sdl_tables.specs.Walks.{file_of, own, IsHere, name_texts}
-use Rattle.sdl_structure.specs.Drafts.{HasSignals, HasChannels, HasBlocks, HasSets, IsSetRead, Grows}
+use Rattle.sdl_structure.specs.Drafts.{HasSignals, HasAgents, HasSets, IsSetRead, Grows, tables_of}
 use Rattle.sdl_tables.proofs.FaultLemmas.{breaks}
+use Rattle.sdl_tables.proofs.PlaceLemmas.{before_set}
 use Rattle.sdl_tables.proofs.ListLemmas.{zip_length, name_texts-more, names_of-more, apart-more}
-use Rattle.sdl_structure.proofs.BlockLemmas.{zip_append, sets_of-more, set_gates-more, block_gates-more, block_channels-more, agent_names-more, channel_names-more, total-more, length-sets_of, length-block_channels, take_next, nil_after}
+use Rattle.sdl_structure.proofs.LimitRules.{length_tables, no_elements}
+use Rattle.sdl_structure.proofs.BlockLemmas.{zip_append, sets_of-more, set_gates-more, block_gates-more, agent_names-more, total-more, length-sets_of, take_next, nil_after}
 
 -- the table of a block, and the blocks before it
-pub block_within : (w : Walk) → IsHere w → w.place.part ≡ part.Block → w.place.block < length (tables_at key.Block (file_of w))
-block_within w here at = (subst (λ q. Exists (file_of w) q w.place.block w.place.set w.place.item) at here.place).0
+pub block_within : (w : Walk) (b : ℕ) → IsHere w → w.place ≡ block_place b → b < length (block_tables (file_of w))
+block_within w b here at = (subst (λ p. IsPlace (file_of w) p) at here.place).0
 
-pub block_is : (w : Walk) → IsHere w → w.place.part ≡ part.Block → own w ≡ get_or (tables_at key.Block (file_of w)) w.place.block no_members
-block_is w here at = sym here.table ∙ ap (λ q. table_of (file_of w) q w.place.block w.place.set w.place.item) at
+pub block_is : (w : Walk) (b : ℕ) → IsHere w → w.place ≡ block_place b → get_or (block_tables (file_of w)) b no_members ≡ own w
+block_is w b here at = sym (ap (λ p. table_at (file_of w) p) at) ∙ here.table
 
-pub blocks_next : (w : Walk) (b : ℕ) → IsHere w → w.place.part ≡ part.Block → b ≡ w.place.block → take (b + 1) (tables_at key.Block (file_of w)) ≡ take b (tables_at key.Block (file_of w)) ++ own w ∷ []
-blocks_next w b here at number =
-    let inside : b < length (tables_at key.Block (file_of w)) = rw number (block_within w here at) in
-    let is : get_or (tables_at key.Block (file_of w)) b no_members ≡ own w = ap (λ k. get_or (tables_at key.Block (file_of w)) k no_members) number ∙ sym (block_is w here at) in
-    take_next (tables_at key.Block (file_of w)) b inside ∙ ap (λ t. take b (tables_at key.Block (file_of w)) ++ t ∷ []) is
+pub blocks_next : (w : Walk) (b : ℕ) → IsHere w → w.place ≡ block_place b → take (b + 1) (block_tables (file_of w)) ≡ take b (block_tables (file_of w)) ++ own w ∷ []
+blocks_next w b here at =
+    take_next (block_tables (file_of w)) b (block_within w b here at) ∙ ap (λ t. take b (block_tables (file_of w)) ++ t ∷ []) (block_is w b here at)
 
 length_first : (ts : List Members) (b : ℕ) → b < length ts → length (take b ts) ≡ b
 length_first [] b h = absurd (omega arith)
 length_first (t ∷ ts) zero h = refl
 length_first (t ∷ ts) (suc b) h = ap suc (length_first ts b (omega arith))
 
-pub length_before : (w : Walk) (b : ℕ) → IsHere w → w.place.part ≡ part.Block → b ≡ w.place.block → length (take b (tables_at key.Block (file_of w))) ≡ b
-length_before w b here at number =
-    let inside : b < length (tables_at key.Block (file_of w)) = rw number (block_within w here at) in
-    length_first (tables_at key.Block (file_of w)) b inside
+pub length_before : (w : Walk) (b : ℕ) → IsHere w → w.place ≡ block_place b → length (take b (block_tables (file_of w))) ≡ b
+length_before w b here at = length_first (block_tables (file_of w)) b (block_within w b here at)
+
+-- the place of a block is one of its part
+pub block_part : (w : Walk) (b : ℕ) → w.place ≡ block_place b → w.place.part ≡ part.Block
+block_part w b at = ap (λ (p : Place). p.part) at
+
+pub block_number : (w : Walk) (b : ℕ) → w.place ≡ block_place b → w.place.block ≡ b
+block_number w b at = ap (λ (p : Place). p.block) at
 
 map_more : {A B : Type 0} (f : A → B) (xs : List A) (x : A) → map f (xs ++ x ∷ []) ≡ map f xs ++ f x ∷ []
 map_more f [] x = refl
@@ -93,13 +105,85 @@ set_joins root T t us u d e has read frame = record {
     block_count : length e.blocks.items ≡ length d.blocks.items
     block_count = ap (λ (x : Draft). length x.blocks.items) frame
 
+-- a block's table may have these lists
+pub block_lists_sets : (v : Version) (q : Part) → q ≡ part.Block → is_key v q key.Set ≡ true
+block_lists_sets One q e = ap (λ p. is_key One p key.Set) e
+block_lists_sets Two q e = ap (λ p. is_key Two p key.Set) e
+
+pub block_lists_gates : (v : Version) (q : Part) → q ≡ part.Block → is_key v q key.Gate ≡ true
+block_lists_gates One q e = ap (λ p. is_key One p key.Gate) e
+block_lists_gates Two q e = ap (λ p. is_key Two p key.Gate) e
+
+pub block_lists_blocks : (v : Version) (q : Part) → v ≡ Two → q ≡ part.Block → is_key v q key.Block ≡ true
+block_lists_blocks One q second e = cc
+block_lists_blocks Two q second e = ap (λ p. is_key Two p key.Block) e
+
+pub block_has_name : (v : Version) (q : Part) → q ≡ part.Block → is_key v q key.Name ≡ true
+block_has_name One q e = ap (λ p. is_key One p key.Name) e
+block_has_name Two q e = ap (λ p. is_key Two p key.Name) e
+
+-- the place of a set in a block's list, and the names before it
+pub set_part : (w u : Walk) (b i : ℕ) → w.place ≡ block_place b → u.place ≡ inside w.place key.Set i → u.place.part ≡ part.Set
+set_part w u b i at place = ap (λ (p : Place). p.part) place ∙ ap (λ (p : Place). (inside p key.Set i).part) at
+
+pub set_before : (w u : Walk) (b i : ℕ) (ts : List Members) → IsHere w → w.place ≡ block_place b → file_of u ≡ file_of w → u.place ≡ inside w.place key.Set i → tables_at key.Set (own w) ≡ ts
+    → names_before (file_of u) u.place ≡ agent_names (take b (block_tables (file_of w))) ++ text_at key.Name (own w) ∷ names_of (take i ts)
+set_before w u b i ts here at file place held =
+    before_set w u i ts here (block_part w b at) file place held ∙ ap (λ k. agent_names (take k (block_tables (file_of w))) ++ text_at key.Name (own w) ∷ names_of (take i ts)) (block_number w b at)
+
 -- the sets so far are over their limit
-pub too_many_sets : (w : Walk) (q : Place) (b : ℕ) (d : Draft) → IsHere w → w.place.part ≡ part.Block → b ≡ w.place.block → q ≡ record w.place { key = key.Set } → HasSets (file_of w) (take b (tables_at key.Block (file_of w))) (own w) [] d → 64 < length d.sets.items + length (tables_at key.Set (own w)) → IsBroken (file_of w) (fault.TooMany q)
-too_many_sets w q b d here at number e has over = breaks w q key.Set _ here (ap (λ q. is_key q key.Set) at) e
-    (inr (inl refl, subst (λ p. 64 < so_far (file_of w) p key.Set w.place.block) (sym at) (subst (λ k. 64 < total key.Set (take (k + 1) (tables_at key.Block (file_of w)))) number (subst (λ ts. 64 < total key.Set ts) (sym (blocks_next w b here at number)) (omega (arith, over, count, total-more key.Set (take b (tables_at key.Block (file_of w))) (own w)))))))
+pub too_many_sets : (w : Walk) (q : Place) (b : ℕ) (d : Draft) → IsHere w → w.place ≡ block_place b → q ≡ record w.place { key = key.Set } → HasSets (file_of w) (take b (block_tables (file_of w))) (own w) [] d → 64 < length d.sets.items + length (tables_at key.Set (own w)) → IsBroken (file_of w) (fault.TooMany q)
+too_many_sets w q b d here at e has over = breaks w q key.Set _ here (block_lists_sets w.version w.place.part (block_part w b at)) e
+    (inr (inl (inl (inr refl), subst (λ (p : Place). 64 < so_far (file_of w) p.part key.Set p.block) (sym at) (subst (λ ts. 64 < total key.Set ts) (sym (blocks_next w b here at)) (omega (arith, over, count, total-more key.Set (take b (block_tables (file_of w))) (own w)))))))
   where
-    count : length d.sets.items ≡ total key.Set (take b (tables_at key.Block (file_of w)))
-    count = zip_length IsSetTable (sets_of 0 (take b (tables_at key.Block (file_of w))) ++ []) d.sets.items has.sets ∙ ap (λ xs. length xs) (nil_after (sets_of 0 (take b (tables_at key.Block (file_of w))))) ∙ length-sets_of 0 (take b (tables_at key.Block (file_of w)))
+    count : length d.sets.items ≡ total key.Set (take b (block_tables (file_of w)))
+    count = zip_length IsSetTable (sets_of 0 (take b (block_tables (file_of w))) ++ []) d.sets.items has.sets ∙ ap (λ xs. length xs) (nil_after (sets_of 0 (take b (block_tables (file_of w))))) ∙ length-sets_of 0 (take b (block_tables (file_of w)))
+
+-- the blocks so far, up to the list of a block
+pub blocks_so_far : (w : Walk) (b : ℕ) → IsHere w → w.place ≡ block_place b → so_far (file_of w) w.place.part key.Block w.place.block ≡ length (tables_at key.Block (file_of w)) + listed_in w.version (take (b + 1) (block_tables (file_of w)))
+blocks_so_far w b here at =
+    ap (λ (p : Place). so_far (file_of w) p.part key.Block p.block) at ∙ ap (λ v. length (tables_at key.Block (file_of w)) + listed_in v (take (b + 1) (block_tables (file_of w)))) (sym here.version)
+
+listed-next : (v : Version) (ts : List Members) (t : Members) → v ≡ Two → listed_in v (ts ++ t ∷ []) ≡ listed_in v ts + length (tables_at key.Block t)
+listed-next v [] t two = let a = ap (λ u. length (inner_tables u t)) two in omega (arith, a)
+listed-next v (s ∷ ts) t two = let a = listed-next v ts t two in omega (arith, a)
+
+pub listed_next : (w : Walk) (b : ℕ) → IsHere w → w.place ≡ block_place b → w.version ≡ Two → listed_in w.version (take (b + 1) (block_tables (file_of w))) ≡ listed_in w.version (take b (block_tables (file_of w))) + length (tables_at key.Block (own w))
+listed_next w b here at two = ap (λ ts. listed_in w.version ts) (blocks_next w b here at) ∙ listed-next w.version (take b (block_tables (file_of w))) (own w) two
+
+-- the blocks so far are over their limit
+pub too_many_blocks : (w : Walk) (q : Place) → IsHere w → is_key w.version w.place.part key.Block ≡ true → q ≡ record w.place { key = key.Block } → most_blocks w.version < so_far (file_of w) w.place.part key.Block w.place.block → IsBroken (file_of w) (fault.TooMany q)
+too_many_blocks w q here listed e over = breaks w q key.Block _ here listed e
+    (inr (inl (inl (inl refl), subst (λ v. most_blocks v < so_far (file_of w) w.place.part key.Block w.place.block) here.version over)))
+
+-- a block that lies as deep as a block may has blocks
+pub too_deep : (w : Walk) (q : Place) (b depth : ℕ) (vs : List Value) → IsHere w → w.place ≡ block_place b → w.version ≡ Two → q ≡ record w.place { key = key.Block } → IsSomeAnd (slice_get (blocks_of (file_of w)) b) (λ x. x.depth ≡ depth) → depth ≡ 4
+    → elements_at key.Block (own w) ≡ map view vs → 0 < length vs → IsBroken (file_of w) (fault.TooMany q)
+too_deep w q b depth vs here at two e deep four held some =
+    let long = ap (λ ds. length ds) held ∙ length-map vs view in
+    breaks w q key.Block _ here (block_lists_blocks w.version w.place.part two (block_part w b at)) e
+    (inr (inr (
+      block_part w b at,
+      refl,
+      subst (λ (p : Place). IsDeepest (file_of w) p.block) (sym at) (subst (λ k. IsSomeAnd (slice_get (blocks_of (file_of w)) b) (λ x. x.depth ≡ k)) four deep),
+      λ none. (let zero = ap (λ ds. length ds) none in absurd (omega (arith, long, some, zero))),
+    )))
+
+-- a block has neither sets nor blocks
+pub neither_is_there : (w : Walk) (q : Place) (b : ℕ) (vs : List Value) → IsHere w → w.place ≡ block_place b → w.version ≡ Two → q ≡ record w.place { key = key.Block } → HasKindAt (own w) key.Set → length (tables_at key.Set (own w)) ≡ 0
+    → elements_at key.Block (own w) ≡ map view vs → length vs ≡ 0 → IsBroken (file_of w) (fault.OutOfRange q)
+neither_is_there w q b vs here at two e kind none held empty =
+    breaks w q key.Block _ here (block_lists_blocks w.version w.place.part two (block_part w b at)) e
+    (inr (inr (inl (
+      block_part w b at,
+      refl,
+      no_elements (elements_at key.Set (own w)) (length_tables key.Set (own w) refl kind ∙ none),
+      no_elements (elements_at key.Block (own w)) (ap (λ ds. length ds) held ∙ length-map vs view ∙ empty),
+    ))))
+
+pub needs_sets : (v : Version) (q : Part) → v ≡ One → q ≡ part.Block → needs_some v q key.Set ≡ true
+needs_sets One q one e = ap (λ p. needs_some One p key.Set) e
+needs_sets Two q one e = cc
 
 -- a channel's ends stay when more blocks, sets and gates are read
 get_more : {A : Type 0} (xs ys : List A) (i : ℕ) (P : A → Type 0) → IsSomeAnd (slice_get xs i) P → IsSomeAnd (slice_get (xs ++ ys) i) P
@@ -112,7 +196,8 @@ agent_stays bl bm se sf scope.System agent owner.System h = h
 agent_stays bl bm se sf scope.System agent (owner.Block b) h = get_more bl bm b.0 _ h
 agent_stays bl bm se sf scope.System agent (owner.Set t) h = h
 agent_stays bl bm se sf (scope.Block b) agent owner.System h = h
-agent_stays bl bm se sf (scope.Block b) agent (owner.Block c) h = h
+agent_stays bl bm se sf (scope.Block b) agent (owner.Block c) (inl h) = inl h
+agent_stays bl bm se sf (scope.Block b) agent (owner.Block c) (inr h) = inr (get_more bl bm c.0 _ h)
 agent_stays bl bm se sf (scope.Block b) agent (owner.Set t) h = get_more se sf t.0 _ h
 
 some_also : {A : Type 0} (o : Option A) (P Q : A → Type 0) → ((x : A) → P x → Q x) → IsSomeAnd o P → IsSomeAnd o Q
@@ -139,16 +224,42 @@ channels_stay sig bl bm se sf ga gb xs cs = zip_also (IsChannelTable sig bl se g
   scope = r.scope;
 })
 
-pub grows_more : (d e f : Draft) (b : ℕ) (u : Members) → Grows d e → IsSetRead b e u f → Grows d f
-grows_more d e f b u g r = record {
+-- a draft that grows twice grows
+pub grows_on : (d e f : Draft) → Grows d e → Grows e f → Grows d f
+grows_on d e f g h = record {
+  blocks = g.blocks ++ h.blocks;
+  sets = g.sets ++ h.sets;
+  gates = g.gates ++ h.gates;
+  blocks_are = h.blocks_are ∙ ap (λ z. z ++ h.blocks) g.blocks_are ∙ append_assoc d.blocks.items g.blocks h.blocks;
+  sets_are = h.sets_are ∙ ap (λ z. z ++ h.sets) g.sets_are ∙ append_assoc d.sets.items g.sets h.sets;
+  gates_are = h.gates_are ∙ ap (λ z. z ++ h.gates) g.gates_are ∙ append_assoc d.gates.items g.gates h.gates;
+}
+
+pub grows_none : (d e : Draft) → e.blocks ≡ d.blocks → e.sets ≡ d.sets → e.gates ≡ d.gates → Grows d e
+grows_none d e blocks sets gates = record {
+  blocks = [];
+  sets = [];
+  gates = [];
+  blocks_are = ap (λ v. v.items) blocks ∙ sym (nil_after d.blocks.items);
+  sets_are = ap (λ v. v.items) sets ∙ sym (nil_after d.sets.items);
+  gates_are = ap (λ v. v.items) gates ∙ sym (nil_after d.gates.items);
+}
+
+pub grows_more : (d e f : Draft) (b : ℕ) (u : Members) → Grows d e → IsSetRead b e u f → f ≡ record e { sets = f.sets; gates = f.gates; agent_names = f.agent_names } → Grows d f
+grows_more d e f b u g r frame = record {
+  blocks = g.blocks;
   sets = g.sets ++ r.set ∷ [];
   gates = g.gates ++ r.gates;
+  blocks_are = ap (λ (x : Draft). x.blocks.items) frame ∙ g.blocks_are;
   sets_are = r.sets_are ∙ ap (λ z. z ++ r.set ∷ []) g.sets_are ∙ append_assoc d.sets.items g.sets (r.set ∷ []);
   gates_are = r.gates_are ∙ ap (λ z. z ++ r.gates) g.gates_are ∙ append_assoc d.gates.items g.gates r.gates;
 }
 
-pub grows_none : (d : Draft) → Grows d d
-grows_none d = record { sets = []; gates = []; sets_are = sym (nil_after d.sets.items); gates_are = sym (nil_after d.gates.items) }
+pub one_set_more : (b : ℕ) (d : Draft) (u : Members) (e : Draft) → IsSetRead b d u e → length e.sets.items ≡ length d.sets.items + 1
+one_set_more b d u e r = ap (λ xs. length xs) r.sets_are ∙ length-append d.sets.items (r.set ∷ [])
+
+pub signals_kept : (root : Members) (d f : Draft) → f.signals ≡ d.signals → HasSignals root d → HasSignals root f
+signals_kept root d f same has = record { named = rw same has.named; few = rw same has.few }
 
 -- a block has begun: its name and its gates are read
 pub record IsBegun (b : ℕ) (t : Members) (block : Block) (gates : List Gate) (d e : Draft) : Type 0 where
@@ -161,135 +272,71 @@ pub record IsBegun (b : ℕ) (t : Members) (block : Block) (gates : List Gate) (
   pub sets_are : e.sets ≡ d.sets
   pub gates_are : e.gates.items ≡ d.gates.items ++ gates
   pub names_are : e.agent_names.items ≡ d.agent_names.items ++ block.name ∷ []
-  pub channels_are : e.channels ≡ d.channels
   pub channel_names_are : e.channel_names ≡ d.channel_names
 
-pub sets_start : (root : Members) (T : List Members) (t : Members) (b : ℕ) (block : Block) (gates : List Gate) (d e : Draft) → length T ≡ b → HasBlocks root T d → IsBegun b t block gates d e → HasSets root T t [] e
-sets_start root T t b block gates d e long has begun = record {
-  sets = subst (λ xs. AllZip IsSetTable xs e.sets.items) (sym (nil_after (sets_of 0 T))) (subst (λ v. AllZip IsSetTable (sets_of 0 T) v.items) (sym begun.sets_are) has.agents.sets);
-  gates = subst (λ xs. AllZip (IsGateTable e.signals.items) xs e.gates.items) (sym (nil_after (gates_of root T ++ owned (owner.Block (record { 0 = length T })) t)))
-      (subst (λ k. AllZip (IsGateTable e.signals.items) (gates_of root T ++ owned (owner.Block (record { 0 = k })) t) e.gates.items) (sym long)
-      (subst (λ ys. AllZip (IsGateTable e.signals.items) (gates_of root T ++ owned (owner.Block (record { 0 = b })) t) ys) (sym begun.gates_are)
-      (subst (λ v. AllZip (IsGateTable v.items) (gates_of root T ++ owned (owner.Block (record { 0 = b })) t) (d.gates.items ++ gates)) (sym begun.signals_are)
-      (zip_append (IsGateTable d.signals.items) (gates_of root T) d.gates.items (owned (owner.Block (record { 0 = b })) t) gates has.agents.gates begun.gate_tables))));
-  names = ap name_texts begun.names_are ∙ name_texts-more d.agent_names.items block.name ∙ ap (λ z. z ++ Some block.name.bytes ∷ []) has.agents.names ∙ ap (λ o. agent_names T ++ o ∷ []) (sym begun.named);
-  apart = subst (λ ns. AllPairs (λ a b. a ≢ b) (name_texts ns)) (sym begun.names_are) (apart-more d.agent_names.items block.name has.agents.apart begun.apart);
-  few_gates = omega (arith, has.agents.few_gates, begun.few, gate_count, set_count, block_count);
+pub grows_begun : (b : ℕ) (t : Members) (block : Block) (gates : List Gate) (d e : Draft) → IsBegun b t block gates d e → Grows d e
+grows_begun b t block gates d e begun = record {
+  blocks = block ∷ [];
+  sets = [];
+  gates = gates;
+  blocks_are = begun.blocks_are;
+  sets_are = ap (λ v. v.items) begun.sets_are ∙ sym (nil_after d.sets.items);
+  gates_are = begun.gates_are;
 }
-  where
-    gate_count : length e.gates.items ≡ length d.gates.items + length gates
-    gate_count = ap (λ xs. length xs) begun.gates_are ∙ length-append d.gates.items gates
 
-    set_count : length e.sets.items ≡ length d.sets.items
-    set_count = ap (λ v. length v.items) begun.sets_are
+pub sets_start : (root : Members) (xs : List BlockTable) (t : Members) (b : ℕ) (block : Block) (gates : List Gate) (d e : Draft) → length (tables_of xs) ≡ b → HasAgents root xs d → IsBegun b t block gates d e → HasSets root (tables_of xs) t [] e
+sets_start root xs t b block gates d e long has begun =
+    let T = tables_of xs in
+    let gate_count : length e.gates.items ≡ length d.gates.items + length gates = ap (λ xs. length xs) begun.gates_are ∙ length-append d.gates.items gates in
+    let set_count : length e.sets.items ≡ length d.sets.items = ap (λ v. length v.items) begun.sets_are in
+    let block_count : length e.blocks.items ≡ length d.blocks.items + 1 = ap (λ xs. length xs) begun.blocks_are ∙ length-append d.blocks.items (block ∷ []) in
+    record {
+      sets = subst (λ xs. AllZip IsSetTable xs e.sets.items) (sym (nil_after (sets_of 0 T))) (subst (λ v. AllZip IsSetTable (sets_of 0 T) v.items) (sym begun.sets_are) has.sets);
+      gates = subst (λ xs. AllZip (IsGateTable e.signals.items) xs e.gates.items) (sym (nil_after (gates_of root T ++ owned (owner.Block (record { 0 = length T })) t)))
+          (subst (λ k. AllZip (IsGateTable e.signals.items) (gates_of root T ++ owned (owner.Block (record { 0 = k })) t) e.gates.items) (sym long)
+          (subst (λ ys. AllZip (IsGateTable e.signals.items) (gates_of root T ++ owned (owner.Block (record { 0 = b })) t) ys) (sym begun.gates_are)
+          (subst (λ v. AllZip (IsGateTable v.items) (gates_of root T ++ owned (owner.Block (record { 0 = b })) t) (d.gates.items ++ gates)) (sym begun.signals_are)
+          (zip_append (IsGateTable d.signals.items) (gates_of root T) d.gates.items (owned (owner.Block (record { 0 = b })) t) gates has.gates begun.gate_tables))));
+      names = ap name_texts begun.names_are ∙ name_texts-more d.agent_names.items block.name ∙ ap (λ z. z ++ Some block.name.bytes ∷ []) has.names ∙ ap (λ o. agent_names T ++ o ∷ []) (sym begun.named);
+      apart = subst (λ ns. AllPairs (λ a b. a ≢ b) (name_texts ns)) (sym begun.names_are) (apart-more d.agent_names.items block.name has.apart begun.apart);
+      few_gates = omega (arith, has.few_gates, begun.few, gate_count, set_count, block_count);
+    }
 
-    block_count : length e.blocks.items ≡ length d.blocks.items + 1
-    block_count = ap (λ xs. length xs) begun.blocks_are ∙ length-append d.blocks.items (block ∷ [])
+from_zero : (n : ℕ) → 0 + n ≡ n
+from_zero n = omega arith
 
--- what is read of a block after its gates: its sets, then its channels
-pub record IsEnded (root : Members) (T : List Members) (t : Members) (channels : List Channel) (e f : Draft) : Type 0 where
-  pub read : HasSets root T t (tables_at key.Set t) f
-  pub few_sets : length f.sets.items ≤ 64
-  pub grows : Grows e f
-  pub channel_tables : AllZip (IsChannelTable f.signals.items f.blocks.items f.sets.items f.gates.items) (channels_in (scope.Block (record { 0 = length T })) t) channels
-  pub signals_are : f.signals ≡ e.signals
-  pub blocks_are : f.blocks ≡ e.blocks
-  pub channels_are : f.channels.items ≡ e.channels.items ++ channels
-  pub names : name_texts f.channel_names.items ≡ channel_names T ++ names_of (tables_at key.Channel t)
-  pub apart : AllPairs (λ a b. a ≢ b) (name_texts f.channel_names.items)
-  pub few_channels : length f.channels.items ≤ 64
+-- the agents with those of a block whose sets are read
+pub agents_join : (root : Members) (xs : List BlockTable) (x : BlockTable) (f : Draft) → AllZip IsBlockTable (xs ++ x ∷ []) f.blocks.items → HasSets root (tables_of xs) x.table (tables_at key.Set x.table) f → length f.sets.items ≤ 64 → HasAgents root (xs ++ x ∷ []) f
+agents_join root xs x f blocks read few =
+    let T = tables_of xs in
+    let t = x.table in
+    let tables : tables_of (xs ++ x ∷ []) ≡ T ++ t ∷ [] = map-append (λ (x : BlockTable). x.table) xs (x ∷ []) in
+    let gate_entries : (gates_of root T ++ owned (owner.Block (record { 0 = length T })) t) ++ set_gates (length (sets_of 0 T)) (tables_at key.Set t) ≡ gates_of root (T ++ t ∷ []) =
+    append_assoc (gates_of root T) (owned (owner.Block (record { 0 = length T })) t) (set_gates (length (sets_of 0 T)) (tables_at key.Set t))
+    ∙ append_assoc (owned owner.System root) (block_gates 0 0 T) (owned (owner.Block (record { 0 = length T })) t ++ set_gates (length (sets_of 0 T)) (tables_at key.Set t))
+    ∙ ap (λ z. owned owner.System root ++ z) (ap (λ k. block_gates 0 0 T ++ (owned (owner.Block (record { 0 = k })) t ++ set_gates (length (sets_of 0 T)) (tables_at key.Set t))) (sym (from_zero (length T)))
+    ∙ ap (λ k. block_gates 0 0 T ++ (owned (owner.Block (record { 0 = 0 + length T })) t ++ set_gates k (tables_at key.Set t))) (length-sets_of 0 T ∙ sym (from_zero (total key.Set T)))
+    ∙ sym (block_gates-more 0 0 T t)) in
+    record {
+      blocks = blocks;
+      sets = subst (λ us. AllZip IsSetTable (sets_of 0 us) f.sets.items) (sym tables)
+          (subst (λ xs. AllZip IsSetTable xs f.sets.items) (sym (sets_of-more 0 T t ∙ ap (λ k. sets_of 0 T ++ map (λ u. (k, u)) (tables_at key.Set t)) (from_zero (length T)))) read.sets);
+      gates = subst (λ us. AllZip (IsGateTable f.signals.items) (gates_of root us) f.gates.items) (sym tables) (subst (λ xs. AllZip (IsGateTable f.signals.items) xs f.gates.items) gate_entries read.gates);
+      names = read.names ∙ sym (agent_names-more T t) ∙ ap (λ us. agent_names us) (sym tables);
+      apart = read.apart;
+      few_sets = few;
+      few_gates = read.few_gates;
+    }
 
-pub signals_kept : (root : Members) (d f : Draft) → f.signals ≡ d.signals → HasSignals root d → HasSignals root f
-signals_kept root d f same has = record { named = rw same has.named; few = rw same has.few }
+-- where only names of channels and the count of blocks have changed, the agents are the same
+pub agents_stay : (root : Members) (xs : List BlockTable) (d e : Draft) → e ≡ record d { channel_names = e.channel_names; listed_blocks = e.listed_blocks } → HasAgents root xs d → HasAgents root xs e
+agents_stay root xs d e frame h = subst (λ x. HasAgents root xs x) (sym frame) (record { blocks = h.blocks; sets = h.sets; gates = h.gates; names = h.names; apart = h.apart; few_sets = h.few_sets; few_gates = h.few_gates })
 
-pub block_joins : (root : Members) (T : List Members) (t : Members) (b : ℕ) (block : Block) (gates : List Gate) (channels : List Channel) (d e f : Draft) → HasBlocks root T d → IsBegun b t block gates d e → IsEnded root T t channels e f → IsBlockTable t block → HasBlocks root (T ++ t ∷ []) f
-block_joins root T t b block gates channels d e f has begun ended table = record {
-  signals = signals_kept root d f (ended.signals_are ∙ begun.signals_are) has.signals;
-  agents = record {
-    blocks = subst (λ ys. AllZip IsBlockTable (T ++ t ∷ []) ys) (sym (ap (λ v. v.items) ended.blocks_are ∙ begun.blocks_are)) (all_zipped_more IsBlockTable T d.blocks.items t block has.agents.blocks table);
-    sets = subst (λ xs. AllZip IsSetTable xs f.sets.items) (sym (sets_of-more 0 T t ∙ ap (λ k. sets_of 0 T ++ map (λ u. (k, u)) (tables_at key.Set t)) (from_zero (length T)))) ended.read.sets;
-    gates = subst (λ xs. AllZip (IsGateTable f.signals.items) xs f.gates.items) gate_entries ended.read.gates;
-    names = ended.read.names ∙ sym (agent_names-more T t);
-    apart = ended.read.apart;
-    few_sets = ended.few_sets;
-    few_gates = ended.read.few_gates;
-  };
-  channels = record {
-    named = subst (λ xs. AllZip (IsChannelTable f.signals.items f.blocks.items f.sets.items f.gates.items) xs f.channels.items) (sym (block_channels-more 0 T t ∙ ap (λ k. block_channels 0 T ++ channels_in (scope.Block (record { 0 = k })) t) (from_zero (length T))))
-        (subst (λ ys. AllZip (IsChannelTable f.signals.items f.blocks.items f.sets.items f.gates.items) (block_channels 0 T ++ channels_in (scope.Block (record { 0 = length T })) t) ys) (sym (ended.channels_are ∙ ap (λ v. v.items ++ channels) begun.channels_are))
-        (zip_append (IsChannelTable f.signals.items f.blocks.items f.sets.items f.gates.items) (block_channels 0 T) d.channels.items (channels_in (scope.Block (record { 0 = length T })) t) channels old_channels ended.channel_tables));
-    names = ended.names ∙ sym (channel_names-more T t);
-    apart = ended.apart;
-    few = ended.few_channels;
-  };
-}
-  where
-    from_zero : (n : ℕ) → 0 + n ≡ n
-    from_zero n = omega arith
-
-    gate_entries : (gates_of root T ++ owned (owner.Block (record { 0 = length T })) t) ++ set_gates (length (sets_of 0 T)) (tables_at key.Set t) ≡ gates_of root (T ++ t ∷ [])
-    gate_entries =
-        append_assoc (gates_of root T) (owned (owner.Block (record { 0 = length T })) t) (set_gates (length (sets_of 0 T)) (tables_at key.Set t))
-        ∙ append_assoc (owned owner.System root) (block_gates 0 0 T) _
-        ∙ ap (λ z. owned owner.System root ++ z) (ap (λ k. block_gates 0 0 T ++ (owned (owner.Block (record { 0 = k })) t ++ set_gates (length (sets_of 0 T)) (tables_at key.Set t))) (sym (from_zero (length T)))
-        ∙ ap (λ k. block_gates 0 0 T ++ (owned (owner.Block (record { 0 = 0 + length T })) t ++ set_gates k (tables_at key.Set t))) (length-sets_of 0 T ∙ sym (from_zero (total key.Set T)))
-        ∙ sym (block_gates-more 0 0 T t))
-
-    blocks_now : f.blocks.items ≡ d.blocks.items ++ block ∷ []
-    blocks_now = ap (λ v. v.items) ended.blocks_are ∙ begun.blocks_are
-
-    sets_now : f.sets.items ≡ d.sets.items ++ ended.grows.sets
-    sets_now = ended.grows.sets_are ∙ ap (λ v. v.items ++ ended.grows.sets) begun.sets_are
-
-    gates_now : f.gates.items ≡ d.gates.items ++ (gates ++ ended.grows.gates)
-    gates_now = ended.grows.gates_are ∙ ap (λ z. z ++ ended.grows.gates) begun.gates_are ∙ append_assoc d.gates.items gates ended.grows.gates
-
-    signals_now : f.signals.items ≡ d.signals.items
-    signals_now = ap (λ v. v.items) (ended.signals_are ∙ begun.signals_are)
-
-    old_channels : AllZip (IsChannelTable f.signals.items f.blocks.items f.sets.items f.gates.items) (block_channels 0 T) d.channels.items
-    old_channels =
-        subst (λ x. AllZip (IsChannelTable x f.blocks.items f.sets.items f.gates.items) (block_channels 0 T) d.channels.items) (sym signals_now)
-        (subst (λ x. AllZip (IsChannelTable d.signals.items x f.sets.items f.gates.items) (block_channels 0 T) d.channels.items) (sym blocks_now)
-        (subst (λ x. AllZip (IsChannelTable d.signals.items (d.blocks.items ++ block ∷ []) x f.gates.items) (block_channels 0 T) d.channels.items) (sym sets_now)
-        (subst (λ x. AllZip (IsChannelTable d.signals.items (d.blocks.items ++ block ∷ []) (d.sets.items ++ ended.grows.sets) x) (block_channels 0 T) d.channels.items) (sym gates_now)
-        (channels_stay d.signals.items d.blocks.items (block ∷ []) d.sets.items ended.grows.sets d.gates.items (gates ++ ended.grows.gates) (block_channels 0 T) d.channels.items has.channels.named))))
-
-pub one_set_more : (b : ℕ) (d : Draft) (u : Members) (e : Draft) → IsSetRead b d u e → length e.sets.items ≡ length d.sets.items + 1
-one_set_more b d u e r = ap (λ xs. length xs) r.sets_are ∙ length-append d.sets.items (r.set ∷ [])
-
--- the channels so far, with those of the block
-pub counted_channels : (w : Walk) (b : ℕ) (d e : Draft) → IsHere w → w.place.part ≡ part.Block → b ≡ w.place.block → HasChannels (take b (tables_at key.Block (file_of w))) d → e.channels ≡ d.channels → length e.channels.items + length (tables_at key.Channel (own w)) ≡ so_far (file_of w) w.place.part key.Channel w.place.block
-counted_channels w b d e here at number has same =
-    subst (λ p. length e.channels.items + length (tables_at key.Channel (own w)) ≡ so_far (file_of w) p key.Channel w.place.block) (sym at)
-    (subst (λ k. length e.channels.items + length (tables_at key.Channel (own w)) ≡ total key.Channel (take (k + 1) (tables_at key.Block (file_of w)))) number
-    (ap (λ n. n + length (tables_at key.Channel (own w))) count ∙ sym (total-more key.Channel (take b (tables_at key.Block (file_of w))) (own w)) ∙ ap (λ ts. total key.Channel ts) (sym (blocks_next w b here at number))))
-  where
-    count : length e.channels.items ≡ total key.Channel (take b (tables_at key.Block (file_of w)))
-    count = ap (λ v. length v.items) same ∙ zip_length (IsChannelTable d.signals.items d.blocks.items d.sets.items d.gates.items) (block_channels 0 (take b (tables_at key.Block (file_of w)))) d.channels.items has.named ∙ length-block_channels 0 (take b (tables_at key.Block (file_of w)))
-
--- what is read of a block after its gates, from what each call says
-pub ended_is : (root : Members) (T : List Members) (t : Members) (channels : List Channel) (e rs rc f : Draft) → HasSets root T t (tables_at key.Set t) rs → length rs.sets.items ≤ 64 → Grows e rs → rs ≡ record e { sets = rs.sets; gates = rs.gates; agent_names = rs.agent_names }
-    → AllZip (IsChannelTable rs.signals.items rs.blocks.items rs.sets.items rs.gates.items) (channels_in (scope.Block (record { 0 = length T })) t) channels → rc ≡ record rs { channel_names = rc.channel_names } → f ≡ record rc { channels = f.channels } → f.channels.items ≡ rc.channels.items ++ channels
-    → name_texts rc.channel_names.items ≡ channel_names T ++ names_of (tables_at key.Channel t) → AllPairs (λ a b. a ≢ b) (name_texts rc.channel_names.items) → length rs.channels.items + length channels ≤ 64 → IsEnded root T t channels e f
-ended_is root T t channels e rs rc f read few_sets grows sets_frame tables names_frame frame joined names apart few = record {
-  read = subst (λ x. HasSets root T t (tables_at key.Set t) x) (sym is) (record { sets = read.sets; gates = read.gates; names = read.names; apart = read.apart; few_gates = read.few_gates });
-  few_sets = subst (λ (x : Draft). length x.sets.items ≤ 64) (sym is) few_sets;
-  grows = subst (λ x. Grows e x) (sym is) (record { sets = grows.sets; gates = grows.gates; sets_are = grows.sets_are; gates_are = grows.gates_are });
-  channel_tables = subst (λ (x : Draft). AllZip (IsChannelTable x.signals.items x.blocks.items x.sets.items x.gates.items) (channels_in (scope.Block (record { 0 = length T })) t) channels) (sym is) tables;
-  signals_are = ap (λ (x : Draft). x.signals) is ∙ ap (λ (x : Draft). x.signals) sets_frame;
-  blocks_are = ap (λ (x : Draft). x.blocks) is ∙ ap (λ (x : Draft). x.blocks) sets_frame;
-  channels_are = joined ∙ ap (λ v. v.items ++ channels) same_channels;
-  names = ap (λ (x : Draft). name_texts x.channel_names.items) frame ∙ names;
-  apart = subst (λ (x : Draft). AllPairs (λ a b. a ≢ b) (name_texts x.channel_names.items)) (sym frame) apart;
-  few_channels = omega (arith, few, count);
-}
-  where
-    is : f ≡ record rs { channels = f.channels; channel_names = rc.channel_names }
-    is = frame ∙ ap (λ (x : Draft). record x { channels = f.channels }) names_frame
-
-    same_channels : rc.channels ≡ e.channels
-    same_channels = ap (λ (x : Draft). x.channels) names_frame ∙ ap (λ (x : Draft). x.channels) sets_frame
-
-    count : length f.channels.items ≡ length rs.channels.items + length channels
-    count = ap (λ xs. length xs) joined ∙ length-append rc.channels.items channels ∙ ap (λ (x : Draft). length x.channels.items + length channels) names_frame
+-- channels by the lists of a draft that has grown
+pub channels_grown : (d e : Draft) (xs : List (Scope × Members)) (cs : List Channel) → e.signals ≡ d.signals → Grows d e → AllZip (IsChannelTable d.signals.items d.blocks.items d.sets.items d.gates.items) xs cs → AllZip (IsChannelTable e.signals.items e.blocks.items e.sets.items e.gates.items) xs cs
+channels_grown d e xs cs signals g h =
+    subst (λ v. AllZip (IsChannelTable v.items e.blocks.items e.sets.items e.gates.items) xs cs) (sym signals)
+    (subst (λ y. AllZip (IsChannelTable d.signals.items y e.sets.items e.gates.items) xs cs) (sym g.blocks_are)
+    (subst (λ y. AllZip (IsChannelTable d.signals.items (d.blocks.items ++ g.blocks) y e.gates.items) xs cs) (sym g.sets_are)
+    (subst (λ y. AllZip (IsChannelTable d.signals.items (d.blocks.items ++ g.blocks) (d.sets.items ++ g.sets) y) xs cs) (sym g.gates_are)
+    (channels_stay d.signals.items d.blocks.items g.blocks d.sets.items g.sets d.gates.items g.gates xs cs h))))

@@ -1,5 +1,5 @@
 -- What each table of a file that keeps all rules is.
-use Rattle.std.proofs.Common.{◌≡◌, ℕ, true, false, zero, suc, ◌+◌, ◌<◌, List, [], ◌∷◌, ◌++◌, length, map, get_or, arith}
+use Rattle.std.proofs.Common.{◌≡◌, ℕ, true, false, zero, suc, ◌+◌, ◌<◌, List, [], ◌∷◌, ◌++◌, length, map, get_or, Some, slice_get, subst, arith}
 use Rattle.std.specs.List.{AllZip, AllByRecursion}
 use Rattle.toml.specs.Data.{Members, no_members}
 use Rattle.sdl_parts.specs.declared.parts.SignalDecl.{SignalDecl}
@@ -15,11 +15,14 @@ use Rattle.sdl_parts.specs.Structure.{Structure}
 use Rattle.sdl_tables.specs.declared.place.Part.{Part}
 use Rattle.sdl_tables.specs.declared.place.Part.TheVariants as part
 use Rattle.sdl_tables.specs.declared.place.Key.TheVariants as key
+use Rattle.sdl_tables.specs.declared.version.Version.{Version}
 use Rattle.sdl_tables.specs.Keys.{keys_of}
-use Rattle.sdl_tables.specs.Tables.{tables_at, HasShape}
+use Rattle.sdl_tables.specs.Tables.{tables_at, own_version, HasShape}
+use Rattle.sdl_tables.specs.Blocks.{BlockTable, blocks_of, block_tables, inner_tables}
 use Rattle.sdl_tables.specs.Places.{table_of, Exists}
-use Rattle.sdl_tables.specs.Names.{IsSignalTable}
-use Rattle.sdl_structure.specs.File.{IsFileOf, IsBlockTable, IsSetTable, IsGateTable, IsChannelTable, sets_of, owned, set_gates, block_gates, gates_of, channels_in, block_channels, channels_of}
+use Rattle.sdl_tables.specs.Names.{IsSignalTable, HasName}
+use Rattle.sdl_structure.specs.Drafts.{tables_of}
+use Rattle.sdl_structure.specs.File.{IsFileOf, IsBlockTable, IsWholeBlock, HasGates, IsSetTable, IsGateTable, IsChannelTable, sets_of, owned, set_gates, block_gates, gates_of, channels_in, block_channels, channels_of}
 
 -- a table that may not have the key is no case
 pub never : {A : Type 0} → false ≡ true → A
@@ -48,6 +51,11 @@ nth P [] i d h inside = absurd (omega arith)
 nth P (x ∷ xs) zero d h inside = h.0
 nth P (x ∷ xs) (suc i) d h inside = nth P xs i d h.1 (omega arith)
 
+pub at_place : {A : Type 0} (P : A → Type 0) (xs : List A) (i : ℕ) (x : A) → AllByRecursion P xs → slice_get xs i ≡ Some x → P x
+at_place P [] i x h e = cc
+at_place P (y ∷ xs) zero x h e = let same : y ≡ x = cc in subst P same h.0
+at_place P (y ∷ xs) (suc i) x h e = at_place P xs i x h.1 e
+
 -- what the table of each part is, in a file that names the structure
 abbrev pub GateKept : Structure → Members → Type 0
 GateKept s ms = (o : Owner) × (g : Gate) × IsGateTable s.signals (o, ms) g
@@ -58,16 +66,29 @@ ChannelKept s ms = (o : Scope) × (c : Channel) × IsChannelTable s.signals s.bl
 abbrev pub SetKept : Members → Type 0
 SetKept ms = (b : ℕ) × (t : Set) × IsSetTable (b, ms) t
 
-abbrev pub IsKept : Structure → Part → Members → Type 0
-IsKept s part.System ms = IsFileOf ms s
-IsKept s part.Signal ms = (x : SignalDecl) × IsSignalTable ms x
-IsKept s part.Gate ms = GateKept s ms
-IsKept s part.Channel ms = ChannelKept s ms
-IsKept s part.Block ms = (b : Block) × IsBlockTable ms b
-IsKept s part.BlockGate ms = GateKept s ms
-IsKept s part.BlockChannel ms = ChannelKept s ms
-IsKept s part.Set ms = SetKept ms
-IsKept s part.SetGate ms = GateKept s ms
+-- the table of a block, with no word on where it lies
+pub record BlockKept (v : Version) (ms : Members) : Type 0 where
+  pub shape : HasShape (keys_of v part.Block) ms
+  pub named : List ℕ
+  pub name : HasName key.Name ms named
+  pub gates : HasGates ms
+  pub some : 0 < length (tables_at key.Set ms) + length (inner_tables v ms)
+
+abbrev pub IsKept : Version → Structure → Part → Members → Type 0
+IsKept v s part.System ms = IsFileOf ms s
+IsKept v s part.Signal ms = (x : SignalDecl) × IsSignalTable ms x
+IsKept v s part.Gate ms = GateKept s ms
+IsKept v s part.Channel ms = ChannelKept s ms
+IsKept v s part.Block ms = BlockKept v ms
+IsKept v s part.BlockGate ms = GateKept s ms
+IsKept v s part.BlockChannel ms = ChannelKept s ms
+IsKept v s part.Set ms = SetKept ms
+IsKept v s part.SetGate ms = GateKept s ms
+
+blocks_kept : (v : Version) (xs : List BlockTable) (bs : List Block) → AllZip IsBlockTable xs bs → AllByRecursion (IsWholeBlock v) xs → AllByRecursion (BlockKept v) (tables_of xs)
+blocks_kept v [] bs z w = tt
+blocks_kept v (x ∷ xs) [] z w = absurd z
+blocks_kept v (x ∷ xs) (b ∷ bs) z w = (record { shape = w.0.shape; named = b.name.bytes; name = z.0.name; gates = z.0.gates; some = w.0.some }, blocks_kept v xs bs z.1 w.1)
 
 sets_kept : (b : ℕ) (ts : List Members) → AllByRecursion (λ x. (t : Set) × IsSetTable x t) (sets_of b ts) → AllByRecursion (λ t. AllByRecursion SetKept (tables_at key.Set t)) ts
 sets_kept b [] h = tt
@@ -119,11 +140,11 @@ block_channels_kept s b (t ∷ ts) h = (
 )
 
 -- the table at each place is one of its part
-pub kept_at : (root : Members) (s : Structure) (q : Part) (b u i : ℕ) → IsFileOf root s → Exists root q b u i → IsKept s q (table_of root q b u i)
+pub kept_at : (root : Members) (s : Structure) (q : Part) (b u i : ℕ) → IsFileOf root s → Exists root q b u i → IsKept (own_version root) s q (table_of root q b u i)
 kept_at root s q b u i file there = at q there
   where
     blocks : List Members
-    blocks = tables_at key.Block root
+    blocks = block_tables root
 
     all_gates : Gates s (gates_of root blocks)
     all_gates = each (IsGateTable s.signals) (gates_of root blocks) s.gates file.parts.gates
@@ -134,24 +155,24 @@ kept_at root s q b u i file there = at q there
     in_blocks : AllByRecursion (BlockGatesKept s) blocks
     in_blocks = block_gates_kept s 0 0 blocks (right _ (owned owner.System root) (block_gates 0 0 blocks) all_gates)
 
-    at : (q : Part) → Exists root q b u i → IsKept s q (table_of root q b u i)
+    at : (q : Part) → Exists root q b u i → IsKept (own_version root) s q (table_of root q b u i)
     at part.System e = file
     at part.Signal e = nth _ (tables_at key.Signal root) i no_members (each IsSignalTable (tables_at key.Signal root) s.signals file.parts.signals) e.2
     at part.Gate e = nth _ (tables_at key.Gate root) i no_members (owned_kept s owner.System root (left _ (owned owner.System root) (block_gates 0 0 blocks) all_gates)) e.2
     at part.Channel e = nth _ (tables_at key.Channel root) i no_members (channels_kept s scope.System root (left _ (channels_in scope.System root) (block_channels 0 blocks) all_channels)) e.2
-    at part.Block e = nth _ blocks b no_members (each IsBlockTable blocks s.blocks file.parts.blocks) e.0
+    at part.Block e = nth (BlockKept (own_version root)) blocks b no_members (blocks_kept (own_version root) (blocks_of root) s.blocks file.parts.blocks file.parts.whole) e.0
     at part.BlockGate e = nth _ (tables_at key.Gate (get_or blocks b no_members)) i no_members (nth (BlockGatesKept s) blocks b no_members in_blocks e.0).0 e.2
     at part.BlockChannel e = nth _ (tables_at key.Channel (get_or blocks b no_members)) i no_members (nth _ blocks b no_members (block_channels_kept s 0 blocks (right _ (channels_in scope.System root) (block_channels 0 blocks) all_channels)) e.0) e.2
     at part.Set e = nth _ (tables_at key.Set (get_or blocks b no_members)) u no_members (nth _ blocks b no_members (sets_kept 0 blocks (each IsSetTable (sets_of 0 blocks) s.sets file.parts.sets)) e.0) e.1
     at part.SetGate e = nth _ (tables_at key.Gate (get_or (tables_at key.Set (get_or blocks b no_members)) u no_members)) i no_members (nth _ (tables_at key.Set (get_or blocks b no_members)) u no_members (nth (BlockGatesKept s) blocks b no_members in_blocks e.0).1 e.1) e.2
 
-pub shape_of : (s : Structure) (q : Part) (ms : Members) → IsKept s q ms → HasShape (keys_of q) ms
-shape_of s part.System ms k = k.shape
-shape_of s part.Signal ms k = k.1.shape
-shape_of s part.Gate ms k = k.2.shape
-shape_of s part.Channel ms k = k.2.shape
-shape_of s part.Block ms k = k.1.shape
-shape_of s part.BlockGate ms k = k.2.shape
-shape_of s part.BlockChannel ms k = k.2.shape
-shape_of s part.Set ms k = k.2.shape
-shape_of s part.SetGate ms k = k.2.shape
+pub shape_of : (v : Version) (s : Structure) (q : Part) (ms : Members) → IsKept v s q ms → HasShape (keys_of v q) ms
+shape_of v s part.System ms k = k.shape
+shape_of v s part.Signal ms k = k.1.shape
+shape_of v s part.Gate ms k = k.2.shape
+shape_of v s part.Channel ms k = k.2.shape
+shape_of v s part.Block ms k = k.shape
+shape_of v s part.BlockGate ms k = k.2.shape
+shape_of v s part.BlockChannel ms k = k.2.shape
+shape_of v s part.Set ms k = k.2.shape
+shape_of v s part.SetGate ms k = k.2.shape

@@ -3,6 +3,8 @@ use Rattle.std.proofs.Common.{◌≡◌, ℕ, zero, suc, List, [], ◌∷◌, ma
 use Rattle.std.specs.List.{AllZip, AllByRecursion}
 use Rattle.toml.specs.Data.{Data, Members, as_str}
 use Rattle.sdl_parts.specs.Structure.{Structure}
+use Rattle.sdl_tables.specs.declared.version.Version.{Version}
+use Rattle.sdl_tables.specs.declared.version.Version.TheVariants.{One, Two}
 use Rattle.sdl_tables.specs.declared.place.Part.{Part}
 use Rattle.sdl_tables.specs.declared.place.Part.TheVariants as part
 use Rattle.sdl_tables.specs.declared.place.Key.{Key}
@@ -58,16 +60,17 @@ pub tables_key : (k : Key) → kind_of k ≡ tables → (k ≡ key.Signal) ⊎ (
 tables_key k e = of_kind tables k e
 
 -- only a channel's table has ends
-pub channel_of : (s : Structure) (q : Part) (ms : Members) → IsKept s q ms → is_key q key.Ends ≡ true → ChannelKept s ms
-channel_of s part.System ms kept l = never l
-channel_of s part.Signal ms kept l = never l
-channel_of s part.Gate ms kept l = never l
-channel_of s part.Channel ms kept l = kept
-channel_of s part.Block ms kept l = never l
-channel_of s part.BlockGate ms kept l = never l
-channel_of s part.BlockChannel ms kept l = kept
-channel_of s part.Set ms kept l = never l
-channel_of s part.SetGate ms kept l = never l
+pub channel_of : (v : Version) (s : Structure) (q : Part) (ms : Members) → IsKept v s q ms → is_key v q key.Ends ≡ true → ChannelKept s ms
+channel_of v s part.System ms kept l = never l
+channel_of v s part.Signal ms kept l = never l
+channel_of v s part.Gate ms kept l = never l
+channel_of v s part.Channel ms kept l = kept
+channel_of One s part.Block ms kept l = never l
+channel_of Two s part.Block ms kept l = never l
+channel_of v s part.BlockGate ms kept l = never l
+channel_of v s part.BlockChannel ms kept l = kept
+channel_of v s part.Set ms kept l = never l
+channel_of v s part.SetGate ms kept l = never l
 
 -- what holds of the texts that a list names holds of a text in the list
 pub zip_left : {A B : Type 0} (R : A → B → Type 0) (P : A → Type 0) (xs : List A) (ys : List B) → ((x : A) (y : B) → R x y → P x) → AllZip R xs ys → AllByRecursion P xs

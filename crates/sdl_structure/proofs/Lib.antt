@@ -1,8 +1,12 @@
 pub mod ChannelLemmas
 pub mod BlockLemmas
+pub mod OrderLemmas
 pub mod GateLemmas
 pub mod WholeLemmas
 pub mod DraftLemmas
+pub mod WalkLemmas
+pub mod InsideLemmas
+pub mod TurnLemmas
 pub mod FileLemmas
 pub mod KeptLemmas
 pub mod RuleLemmas

@@ -10,6 +10,7 @@ use Rattle.sdl_parts.specs.declared.parts.Owner.TheVariants as owner
 use Rattle.sdl_parts.specs.Structure.{Structure}
 use Rattle.sdl_tables.specs.declared.place.Key.TheVariants as key
 use Rattle.sdl_tables.specs.Tables.{text_at, tables_at, names_of}
+use Rattle.sdl_tables.specs.Blocks.{block_tables}
 use Rattle.sdl_tables.specs.Faults.{HasGate}
 use Rattle.sdl_structure.specs.File.{IsFileOf, IsGateTable, sets_of, owned, set_gates, block_gates, gates_of}
 use Rattle.sdl_structure.proofs.GateLemmas.{Has, map_get}
@@ -18,8 +19,8 @@ use Rattle.sdl_structure.proofs.RepeatRules.{zip_named}
 -- the table of a gate with this owner
 abbrev pub IsOwned : Members → Owner → Members → Type 0
 IsOwned root owner.System m = Has (tables_at key.Gate root) m
-IsOwned root (owner.Block b) m = (t : Members) × (slice_get (tables_at key.Block root) b.0 ≡ Some t) × Has (tables_at key.Gate t) m
-IsOwned root (owner.Set n) m = (x : ℕ × Members) × (slice_get (sets_of 0 (tables_at key.Block root)) n.0 ≡ Some x) × Has (tables_at key.Gate x.1) m
+IsOwned root (owner.Block b) m = (t : Members) × (slice_get (block_tables root) b.0 ≡ Some t) × Has (tables_at key.Gate t) m
+IsOwned root (owner.Set n) m = (x : ℕ × Members) × (slice_get (sets_of 0 (block_tables root)) n.0 ≡ Some x) × Has (tables_at key.Gate x.1) m
 
 -- the lists that follow one another in a list, from its number n on
 abbrev Follows : {A : Type 0} → List A → ℕ → List A → Type 0
@@ -76,14 +77,14 @@ all_mapped f P all (x ∷ xs) n h g = (g x (record { index = n; is = follows_fir
 owned_are : (root : Members) (o : Owner) (t : Members) → ((m : Members) → Has (tables_at key.Gate t) m → IsOwned root o m) → AllByRecursion (λ x. IsOwned root x.0 x.1) (owned o t)
 owned_are root o t g = all_mapped (λ m. (o, m)) (λ x. IsOwned root x.0 x.1) (tables_at key.Gate t) (tables_at key.Gate t) 0 (follows_all (tables_at key.Gate t)) g
 
-set_gates_are : (root : Members) (b n : ℕ) (us : List Members) → Follows (sets_of 0 (tables_at key.Block root)) n (map (λ u. (b, u)) us) → AllByRecursion (λ x. IsOwned root x.0 x.1) (set_gates n us)
+set_gates_are : (root : Members) (b n : ℕ) (us : List Members) → Follows (sets_of 0 (block_tables root)) n (map (λ u. (b, u)) us) → AllByRecursion (λ x. IsOwned root x.0 x.1) (set_gates n us)
 set_gates_are root b n [] f = tt
 set_gates_are root b n (u ∷ us) f =
     all_append (λ x. IsOwned root x.0 x.1) (owned (owner.Set (record { 0 = n })) u) (set_gates (n + 1) us)
     (owned_are root (owner.Set (record { 0 = n })) u (λ m has. ((b, u), follows_first _ n (b, u) (map (λ u. (b, u)) us) f, has)))
     (set_gates_are root b (n + 1) us (follows_next _ n (b, u) (map (λ u. (b, u)) us) f))
 
-block_gates_are : (root : Members) (b n : ℕ) (ts : List Members) → Follows (tables_at key.Block root) b ts → Follows (sets_of 0 (tables_at key.Block root)) n (sets_of b ts) → AllByRecursion (λ x. IsOwned root x.0 x.1) (block_gates b n ts)
+block_gates_are : (root : Members) (b n : ℕ) (ts : List Members) → Follows (block_tables root) b ts → Follows (sets_of 0 (block_tables root)) n (sets_of b ts) → AllByRecursion (λ x. IsOwned root x.0 x.1) (block_gates b n ts)
 block_gates_are root b n [] f g = tt
 block_gates_are root b n (t ∷ ts) f g =
     all_append (λ x. IsOwned root x.0 x.1) (owned (owner.Block (record { 0 = b })) t) _
@@ -92,16 +93,16 @@ block_gates_are root b n (t ∷ ts) f g =
     (set_gates_are root b n (tables_at key.Set t) (follows_left _ n (map (λ u. (b, u)) (tables_at key.Set t)) (sets_of (b + 1) ts) g))
     (block_gates_are root (b + 1) (n + length (tables_at key.Set t)) ts (follows_next _ b t ts f) (follows_right _ n (length (tables_at key.Set t)) (map (λ u. (b, u)) (tables_at key.Set t)) (sets_of (b + 1) ts) (sym (length-map (tables_at key.Set t) (λ u. (b, u)))) g)))
 
-gates_are : (root : Members) → AllByRecursion (λ x. IsOwned root x.0 x.1) (gates_of root (tables_at key.Block root))
-gates_are root = all_append (λ x. IsOwned root x.0 x.1) (owned owner.System root) (block_gates 0 0 (tables_at key.Block root))
+gates_are : (root : Members) → AllByRecursion (λ x. IsOwned root x.0 x.1) (gates_of root (block_tables root))
+gates_are root = all_append (λ x. IsOwned root x.0 x.1) (owned owner.System root) (block_gates 0 0 (block_tables root))
     (owned_are root owner.System root (λ m has. has))
-    (block_gates_are root 0 0 (tables_at key.Block root) (follows_all (tables_at key.Block root)) (follows_all (sets_of 0 (tables_at key.Block root))))
+    (block_gates_are root 0 0 (block_tables root) (follows_all (block_tables root)) (follows_all (sets_of 0 (block_tables root))))
 
 -- a set's table stands in its block
 abbrev pub StandsIn : Members → ℕ → Members → Type 0
-StandsIn root b u = (t : Members) × (slice_get (tables_at key.Block root) b ≡ Some t) × Has (tables_at key.Set t) u
+StandsIn root b u = (t : Members) × (slice_get (block_tables root) b ≡ Some t) × Has (tables_at key.Set t) u
 
-sets_stand : (root : Members) (b : ℕ) (ts : List Members) → Follows (tables_at key.Block root) b ts → AllByRecursion (λ x. StandsIn root x.0 x.1) (sets_of b ts)
+sets_stand : (root : Members) (b : ℕ) (ts : List Members) → Follows (block_tables root) b ts → AllByRecursion (λ x. StandsIn root x.0 x.1) (sets_of b ts)
 sets_stand root b [] f = tt
 sets_stand root b (t ∷ ts) f =
     all_append (λ x. StandsIn root x.0 x.1) (map (λ u. (b, u)) (tables_at key.Set t)) (sets_of (b + 1) ts)
@@ -113,14 +114,14 @@ at P [] i x h e = cc
 at P (y ∷ xs) zero x h e = let same : y ≡ x = cc in subst P same h.0
 at P (y ∷ xs) (suc i) x h e = at P xs i x h.1 e
 
-pub set_stands : (root : Members) (n : ℕ) (x : ℕ × Members) → slice_get (sets_of 0 (tables_at key.Block root)) n ≡ Some x → StandsIn root x.0 x.1
-set_stands root n x e = at (λ x. StandsIn root x.0 x.1) (sets_of 0 (tables_at key.Block root)) n x (sets_stand root 0 (tables_at key.Block root) (follows_all (tables_at key.Block root))) e
+pub set_stands : (root : Members) (n : ℕ) (x : ℕ × Members) → slice_get (sets_of 0 (block_tables root)) n ≡ Some x → StandsIn root x.0 x.1
+set_stands root n x e = at (λ x. StandsIn root x.0 x.1) (sets_of 0 (block_tables root)) n x (sets_stand root 0 (block_tables root) (follows_all (block_tables root))) e
 
 -- the table of each gate, with its owner
 pub gate_table : (root : Members) (s : Structure) (n : ℕ) (g : Gate) → IsFileOf root s → slice_get s.gates n ≡ Some g → (m : Members) × IsOwned root g.owner m × (text_at key.Name m ≡ Some g.name.bytes)
 gate_table root s n g file is =
-    let (x, there, table) = zip_named (IsGateTable s.signals) (gates_of root (tables_at key.Block root)) s.gates n g file.parts.gates is in
-    (x.1, subst (λ o. IsOwned root o x.1) (sym table.owner) (at (λ x. IsOwned root x.0 x.1) (gates_of root (tables_at key.Block root)) n x (gates_are root) there), table.name.0)
+    let (x, there, table) = zip_named (IsGateTable s.signals) (gates_of root (block_tables root)) s.gates n g file.parts.gates is in
+    (x.1, subst (λ o. IsOwned root o x.1) (sym table.owner) (at (λ x. IsOwned root x.0 x.1) (gates_of root (block_tables root)) n x (gates_are root) there), table.name.0)
 
 pub contains_at : {A : Type 0} (xs : List A) (i : ℕ) (x : A) → slice_get xs i ≡ Some x → Contains xs x
 contains_at xs i x e = (i, slice_get_within xs i x e, get_or_from_slice_get xs i x x e)

@@ -6,13 +6,16 @@ use Rattle.toml.specs.Data.{Data, Members, no_members, as_str}
 use Rattle.sdl_signal.specs.declared.ids.SignalId.{SignalId}
 use Rattle.sdl_parts.specs.declared.parts.SignalDecl.{SignalDecl}
 use Rattle.sdl_parts.specs.Structure.{Structure}
+use Rattle.sdl_tables.specs.declared.version.Version.{Version}
+use Rattle.sdl_tables.specs.declared.version.Version.TheVariants.{One, Two}
 use Rattle.sdl_tables.specs.declared.place.Part.{Part}
 use Rattle.sdl_tables.specs.declared.place.Part.TheVariants as part
 use Rattle.sdl_tables.specs.declared.place.Key.{Key}
 use Rattle.sdl_tables.specs.declared.place.Key.TheVariants as key
 use Rattle.sdl_tables.specs.declared.place.Place.{Place}
 use Rattle.sdl_tables.specs.Keys.{kind_of, signals, is_key}
-use Rattle.sdl_tables.specs.Tables.{text_at, elements_at, tables_at, names_of, agent_names, channel_names}
+use Rattle.sdl_tables.specs.Tables.{text_at, elements_at, tables_at, names_of, agent_names, channel_names, own_version}
+use Rattle.sdl_tables.specs.Blocks.{block_tables, left_in_all}
 use Rattle.sdl_tables.specs.Places.{table_at, table_of, Exists, names_before, names_before_in}
 use Rattle.sdl_tables.specs.Names.{IsSignalTable, NamesSignal, ListsSignals}
 use Rattle.sdl_tables.specs.Faults.{BreaksAt, IsDuplicate, IsRepeated, HoldsText}
@@ -24,26 +27,31 @@ use Rattle.sdl_structure.proofs.KeyKinds.{signals_key}
 use Rattle.sdl_structure.proofs.LimitRules.{gates_of_agent}
 use Rattle.sdl_structure.proofs.SplitLemmas.{none_before, split_names, split_block, split_set, split_block_channel, split_top_channel}
 
+-- a block's table may have gates
+block_gates_key : (v : Version) → is_key v part.Block key.Gate ≡ true
+block_gates_key One = refl
+block_gates_key Two = refl
+
 -- the names before a table in its name space do not have its own
 not_taken : (root : Members) (s : Structure) (q : Part) (b u i : ℕ) → IsFileOf root s → Exists root q b u i → ¬ Contains (names_before_in root q b u i) (text_at key.Name (table_of root q b u i))
 not_taken root s q b u i file there = at q there
   where
     blocks : List Members
-    blocks = tables_at key.Block root
+    blocks = block_tables root
 
-    gate_names : (agent : Part) (ms : Members) → IsKept s agent ms → is_key agent key.Gate ≡ true → AllPairs (λ a b. a ≢ b) (names_of (tables_at key.Gate ms))
-    gate_names agent ms kept l = (gates_of_agent s agent ms kept l).apart
+    gate_names : (agent : Part) (ms : Members) → IsKept (own_version root) s agent ms → is_key (own_version root) agent key.Gate ≡ true → AllPairs (λ a b. a ≢ b) (names_of (tables_at key.Gate ms))
+    gate_names agent ms kept l = (gates_of_agent (own_version root) s agent ms kept l).apart
 
     at : (q : Part) → Exists root q b u i → ¬ Contains (names_before_in root q b u i) (text_at key.Name (table_of root q b u i))
     at part.System e = λ taken. (let inside = taken.1 in absurd (omega arith))
     at part.Signal e = none_before (names_of (tables_at key.Signal root)) _ _ file.names.signals (split_names (tables_at key.Signal root) i e.2)
     at part.Gate e = none_before (names_of (tables_at key.Gate root)) _ _ file.names.gates.apart (split_names (tables_at key.Gate root) i e.2)
-    at part.Channel e = none_before (channel_names blocks ++ names_of (tables_at key.Channel root)) _ _ file.names.channels (split_top_channel (channel_names blocks) (tables_at key.Channel root) i e.2)
+    at part.Channel e = none_before (channel_names (left_in_all root) ++ names_of (tables_at key.Channel root)) _ _ file.names.channels (split_top_channel (channel_names (left_in_all root)) (tables_at key.Channel root) i e.2)
     at part.Block e = none_before (agent_names blocks) _ _ file.names.agents (split_block blocks b e.0)
     at part.BlockGate e =
         let kept = kept_at root s part.Block b 0 0 file (e.0, refl, refl) in
-        none_before (names_of (tables_at key.Gate (get_or blocks b no_members))) _ _ (gate_names part.Block (get_or blocks b no_members) kept refl) (split_names (tables_at key.Gate (get_or blocks b no_members)) i e.2)
-    at part.BlockChannel e = none_before (channel_names blocks ++ names_of (tables_at key.Channel root)) _ _ file.names.channels (split_block_channel blocks (names_of (tables_at key.Channel root)) b i e.0 e.2)
+        none_before (names_of (tables_at key.Gate (get_or blocks b no_members))) _ _ (gate_names part.Block (get_or blocks b no_members) kept (block_gates_key (own_version root))) (split_names (tables_at key.Gate (get_or blocks b no_members)) i e.2)
+    at part.BlockChannel e = none_before (channel_names (left_in_all root) ++ names_of (tables_at key.Channel root)) _ _ file.names.channels (split_block_channel root (names_of (tables_at key.Channel root)) b i e.0 e.2)
     at part.Set e = none_before (agent_names blocks) _ _ file.names.agents (split_set blocks b u e.0 e.1)
     at part.SetGate e =
         let set = get_or (tables_at key.Set (get_or blocks b no_members)) u no_members in
@@ -98,61 +106,65 @@ not_repeated root s k ms ids file lists (name, i, j, before, at_i, at_j) =
 abbrev pub Lists : Structure → Key → Members → Type 0
 Lists s k ms = (ids : List SignalId) × ListsSignals s.signals k ms ids
 
-inward_list : (s : Structure) (q : Part) (ms : Members) → IsKept s q ms → is_key q key.Inward ≡ true → Lists s key.Inward ms
-inward_list s part.System ms kept l = never l
-inward_list s part.Signal ms kept l = never l
-inward_list s part.Gate ms kept l = (kept.1.inward.items, kept.2.inward)
-inward_list s part.Channel ms kept l = never l
-inward_list s part.Block ms kept l = never l
-inward_list s part.BlockGate ms kept l = (kept.1.inward.items, kept.2.inward)
-inward_list s part.BlockChannel ms kept l = never l
-inward_list s part.Set ms kept l = never l
-inward_list s part.SetGate ms kept l = (kept.1.inward.items, kept.2.inward)
+inward_list : (v : Version) (s : Structure) (q : Part) (ms : Members) → IsKept v s q ms → is_key v q key.Inward ≡ true → Lists s key.Inward ms
+inward_list v s part.System ms kept l = never l
+inward_list v s part.Signal ms kept l = never l
+inward_list v s part.Gate ms kept l = (kept.1.inward.items, kept.2.inward)
+inward_list v s part.Channel ms kept l = never l
+inward_list One s part.Block ms kept l = never l
+inward_list Two s part.Block ms kept l = never l
+inward_list v s part.BlockGate ms kept l = (kept.1.inward.items, kept.2.inward)
+inward_list v s part.BlockChannel ms kept l = never l
+inward_list v s part.Set ms kept l = never l
+inward_list v s part.SetGate ms kept l = (kept.1.inward.items, kept.2.inward)
 
-outward_list : (s : Structure) (q : Part) (ms : Members) → IsKept s q ms → is_key q key.Outward ≡ true → Lists s key.Outward ms
-outward_list s part.System ms kept l = never l
-outward_list s part.Signal ms kept l = never l
-outward_list s part.Gate ms kept l = (kept.1.outward.items, kept.2.outward)
-outward_list s part.Channel ms kept l = never l
-outward_list s part.Block ms kept l = never l
-outward_list s part.BlockGate ms kept l = (kept.1.outward.items, kept.2.outward)
-outward_list s part.BlockChannel ms kept l = never l
-outward_list s part.Set ms kept l = never l
-outward_list s part.SetGate ms kept l = (kept.1.outward.items, kept.2.outward)
+outward_list : (v : Version) (s : Structure) (q : Part) (ms : Members) → IsKept v s q ms → is_key v q key.Outward ≡ true → Lists s key.Outward ms
+outward_list v s part.System ms kept l = never l
+outward_list v s part.Signal ms kept l = never l
+outward_list v s part.Gate ms kept l = (kept.1.outward.items, kept.2.outward)
+outward_list v s part.Channel ms kept l = never l
+outward_list One s part.Block ms kept l = never l
+outward_list Two s part.Block ms kept l = never l
+outward_list v s part.BlockGate ms kept l = (kept.1.outward.items, kept.2.outward)
+outward_list v s part.BlockChannel ms kept l = never l
+outward_list v s part.Set ms kept l = never l
+outward_list v s part.SetGate ms kept l = (kept.1.outward.items, kept.2.outward)
 
-forth_list : (s : Structure) (q : Part) (ms : Members) → IsKept s q ms → is_key q key.Forth ≡ true → Lists s key.Forth ms
-forth_list s part.System ms kept l = never l
-forth_list s part.Signal ms kept l = never l
-forth_list s part.Gate ms kept l = never l
-forth_list s part.Channel ms kept l = (kept.1.forth.items, kept.2.forth)
-forth_list s part.Block ms kept l = never l
-forth_list s part.BlockGate ms kept l = never l
-forth_list s part.BlockChannel ms kept l = (kept.1.forth.items, kept.2.forth)
-forth_list s part.Set ms kept l = never l
-forth_list s part.SetGate ms kept l = never l
+forth_list : (v : Version) (s : Structure) (q : Part) (ms : Members) → IsKept v s q ms → is_key v q key.Forth ≡ true → Lists s key.Forth ms
+forth_list v s part.System ms kept l = never l
+forth_list v s part.Signal ms kept l = never l
+forth_list v s part.Gate ms kept l = never l
+forth_list v s part.Channel ms kept l = (kept.1.forth.items, kept.2.forth)
+forth_list One s part.Block ms kept l = never l
+forth_list Two s part.Block ms kept l = never l
+forth_list v s part.BlockGate ms kept l = never l
+forth_list v s part.BlockChannel ms kept l = (kept.1.forth.items, kept.2.forth)
+forth_list v s part.Set ms kept l = never l
+forth_list v s part.SetGate ms kept l = never l
 
-back_list : (s : Structure) (q : Part) (ms : Members) → IsKept s q ms → is_key q key.Back ≡ true → Lists s key.Back ms
-back_list s part.System ms kept l = never l
-back_list s part.Signal ms kept l = never l
-back_list s part.Gate ms kept l = never l
-back_list s part.Channel ms kept l = (kept.1.back.items, kept.2.back)
-back_list s part.Block ms kept l = never l
-back_list s part.BlockGate ms kept l = never l
-back_list s part.BlockChannel ms kept l = (kept.1.back.items, kept.2.back)
-back_list s part.Set ms kept l = never l
-back_list s part.SetGate ms kept l = never l
+back_list : (v : Version) (s : Structure) (q : Part) (ms : Members) → IsKept v s q ms → is_key v q key.Back ≡ true → Lists s key.Back ms
+back_list v s part.System ms kept l = never l
+back_list v s part.Signal ms kept l = never l
+back_list v s part.Gate ms kept l = never l
+back_list v s part.Channel ms kept l = (kept.1.back.items, kept.2.back)
+back_list One s part.Block ms kept l = never l
+back_list Two s part.Block ms kept l = never l
+back_list v s part.BlockGate ms kept l = never l
+back_list v s part.BlockChannel ms kept l = (kept.1.back.items, kept.2.back)
+back_list v s part.Set ms kept l = never l
+back_list v s part.SetGate ms kept l = never l
 
-pub signal_list : (s : Structure) (q : Part) (k : Key) (ms : Members) → IsKept s q ms → is_key q k ≡ true → kind_of k ≡ signals → Lists s k ms
-signal_list s q k ms kept l kind = choose (signals_key k kind)
+pub signal_list : (v : Version) (s : Structure) (q : Part) (k : Key) (ms : Members) → IsKept v s q ms → is_key v q k ≡ true → kind_of k ≡ signals → Lists s k ms
+signal_list v s q k ms kept l kind = choose (signals_key k kind)
   where
-    at : (j : Key) → k ≡ j → is_key q j ≡ true
-    at j e = subst (λ k. is_key q k ≡ true) e l
+    at : (j : Key) → k ≡ j → is_key v q j ≡ true
+    at j e = subst (λ k. is_key v q k ≡ true) e l
 
     choose : (k ≡ key.Inward) ⊎ (k ≡ key.Outward) ⊎ (k ≡ key.Forth) ⊎ (k ≡ key.Back) → Lists s k ms
-    choose (inl e) = subst (λ k. Lists s k ms) (sym e) (inward_list s q ms kept (at key.Inward e))
-    choose (inr (inl e)) = subst (λ k. Lists s k ms) (sym e) (outward_list s q ms kept (at key.Outward e))
-    choose (inr (inr (inl e))) = subst (λ k. Lists s k ms) (sym e) (forth_list s q ms kept (at key.Forth e))
-    choose (inr (inr (inr e))) = subst (λ k. Lists s k ms) (sym e) (back_list s q ms kept (at key.Back e))
+    choose (inl e) = subst (λ k. Lists s k ms) (sym e) (inward_list v s q ms kept (at key.Inward e))
+    choose (inr (inl e)) = subst (λ k. Lists s k ms) (sym e) (outward_list v s q ms kept (at key.Outward e))
+    choose (inr (inr (inl e))) = subst (λ k. Lists s k ms) (sym e) (forth_list v s q ms kept (at key.Forth e))
+    choose (inr (inr (inr e))) = subst (λ k. Lists s k ms) (sym e) (back_list v s q ms kept (at key.Back e))
 
 pub none_duplicate : (root : Members) (s : Structure) (p : Place) → IsFileOf root s → ¬ BreaksAt root p (IsDuplicate root)
 none_duplicate root s p file breaks = choose breaks.broken
@@ -161,5 +173,5 @@ none_duplicate root s p file breaks = choose breaks.broken
     choose (inl (e, taken)) = not_taken root s p.part p.block p.set p.item file breaks.place (subst (λ o. Contains (names_before root p) o) (sym taken.1) taken.2)
     choose (inr (kind, repeated)) =
         let kept = kept_at root s p.part p.block p.set p.item file breaks.place in
-        let (ids, lists) = signal_list s p.part p.key (table_at root p) kept breaks.listed kind in
+        let (ids, lists) = signal_list (own_version root) s p.part p.key (table_at root p) kept breaks.listed kind in
         not_repeated root s p.key (table_at root p) ids file lists repeated

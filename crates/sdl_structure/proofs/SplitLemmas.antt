@@ -1,11 +1,18 @@
 -- Where the name of a table stands among the names of its name space: behind those that come before it in the walk.
-use Rattle.std.proofs.Common.{◌≡◌, ◌≢◌, ℕ, zero, suc, ◌+◌, ◌<◌, List, [], ◌∷◌, ◌++◌, length, take, get_or, AllPairs, Contains, Option, refl, sym, ap, ◌∙◌, arith}
-use Rattle.std.proofs.lemmas.List.{append_assoc, length-append, map-append, get_or_append_left}
+use Rattle.std.proofs.Common.{◌≡◌, ◌≢◌, ℕ, zero, suc, ◌+◌, ◌<◌, ◌==◌, List, [], ◌∷◌, ◌++◌, length, map, take, get_or, AllPairs, Contains, Option, IsSomeAnd, slice_get, refl, sym, ap, subst, ◌∙◌, arith}
+use Rattle.std.specs.List.{AllByRecursion, before_first}
+use Rattle.std.proofs.lemmas.Option.{get_or_from_slice_get}
+use Rattle.std.proofs.lemmas.List.{append_assoc, length-append, length-map, map-append, get_or_append_left}
 use Rattle.std.proofs.lemmas.Grind.{flat_map-append}
 use Rattle.std.proofs.Math.Seq.{get_or-append_seam}
 use Rattle.toml.specs.Data.{Members, no_members}
 use Rattle.sdl_tables.specs.declared.place.Key.TheVariants as key
-use Rattle.sdl_tables.specs.Tables.{text_at, tables_at, names_of, agent_names, channel_names}
+use Rattle.sdl_parts.specs.declared.parts.Scope.TheVariants as scope
+use Rattle.sdl_tables.specs.Tables.{text_at, tables_at, names_of, agent_names, channel_names, own_version}
+use Rattle.sdl_tables.specs.Blocks.{BlockTable, blocks_of, block_tables, leaving_of, left_before, left_in_all}
+use Rattle.sdl_tables.proofs.SignalLemmas.{some_and}
+use Rattle.sdl_structure.proofs.GateLemmas.{map_get}
+use Rattle.sdl_structure.proofs.OrderLemmas.{IsLeft, from-length, every_left, first_left, left_is_entered, stands_whole, all_right}
 
 -- the list is those before x, then x, then others
 pub record Splits {X : Type 0} (xs before : List X) (x : X) : Type 0 where
@@ -54,18 +61,38 @@ split_set ts b i h inside =
           ∙ sym (append_assoc (agent_names (take b ts)) (name ∷ before) (own ∷ (s.rest ++ agent_names rest)));
     }
 
+-- a block in the order in which the walk leaves blocks, after those that it has left before
+pub leaves_at : (root : Members) (b : ℕ) → b < length (block_tables root) → (rest : List Members) × (left_in_all root ≡ left_before root b ++ get_or (block_tables root) b no_members ∷ rest)
+leaves_at root b h =
+    let v = own_version root in
+    let ts = tables_at key.Block root in
+    let long : length (block_tables root) ≡ length (blocks_of root) = length-map (blocks_of root) (λ (x : BlockTable). x.table) in
+    let same = from-length v 4 scope.System scope.System 1 0 0 0 ts in
+    let left : IsLeft b (leaving_of root) = every_left v 4 0 ts b (omega arith) (omega (arith, h, long, same)) in
+    let found = first_left b (leaving_of root) left in
+    let t = found.table in
+    let rest = found.rest in
+    let is = found.is in
+    let before = before_first (λ x. x.0 == b) (leaving_of root) in
+    let entered = left_is_entered v (blocks_of root) 4 scope.System 1 0 ts (stands_whole (blocks_of root)) in
+    let here = (all_right (λ x. IsSomeAnd (slice_get (blocks_of root) x.0) (λ p. p.table ≡ x.1)) before ((b, t) ∷ rest)
+    (subst (AllByRecursion (λ x. IsSomeAnd (slice_get (blocks_of root) x.0) (λ p. p.table ≡ x.1))) is entered)).0 in
+    let (x, at, table) = some_and (slice_get (blocks_of root) b) (λ p. p.table ≡ t) here in
+    let own : get_or (block_tables root) b no_members ≡ t = get_or_from_slice_get (block_tables root) b x.table no_members (map_get (λ (x : BlockTable). x.table) (blocks_of root) b x at) ∙ table in
+    (map (λ x. x.1) rest, ap (λ xs. map (λ x. x.1) xs) is ∙ (map-append (λ (x : ℕ × Members). x.1) before ((b, t) ∷ rest) ∙ ap (λ u. map (λ x. x.1) before ++ u ∷ map (λ x. x.1) rest) (sym own)))
+
 -- those of channels
-pub split_block_channel : (ts : List Members) (others : List (Option (List ℕ))) (b i : ℕ) → b < length ts → i < length (tables_at key.Channel (get_or ts b no_members))
-    → Splits (channel_names ts ++ others) (channel_names (take b ts) ++ names_of (take i (tables_at key.Channel (get_or ts b no_members)))) (text_at key.Name (get_or (tables_at key.Channel (get_or ts b no_members)) i no_members))
-split_block_channel ts others b i h inside =
-    let block = split_at ts b no_members h in
-    let t = get_or ts b no_members in
+pub split_block_channel : (root : Members) (others : List (Option (List ℕ))) (b i : ℕ) → b < length (block_tables root) → i < length (tables_at key.Channel (get_or (block_tables root) b no_members))
+    → Splits (channel_names (left_in_all root) ++ others) (channel_names (left_before root b) ++ names_of (take i (tables_at key.Channel (get_or (block_tables root) b no_members)))) (text_at key.Name (get_or (tables_at key.Channel (get_or (block_tables root) b no_members)) i no_members))
+split_block_channel root others b i h inside =
+    let (behind, is) = leaves_at root b h in
+    let t = get_or (block_tables root) b no_members in
     let s = split_names (tables_at key.Channel t) i inside in
     let own = text_at key.Name (get_or (tables_at key.Channel t) i no_members) in
     let before = names_of (take i (tables_at key.Channel t)) in
-    let first = channel_names (take b ts) in
-    let later = channel_names block.rest in
-    let whole : channel_names ts ≡ first ++ (names_of (tables_at key.Channel t) ++ later) = ap (λ us. channel_names us) block.is ∙ flat_map-append (λ t. names_of (tables_at key.Channel t)) (take b ts) (t ∷ block.rest) in
+    let first = channel_names (left_before root b) in
+    let later = channel_names behind in
+    let whole : channel_names (left_in_all root) ≡ first ++ (names_of (tables_at key.Channel t) ++ later) = ap (λ us. channel_names us) is ∙ flat_map-append (λ t. names_of (tables_at key.Channel t)) (left_before root b) (t ∷ behind) in
     let inner : names_of (tables_at key.Channel t) ++ later ≡ before ++ own ∷ (s.rest ++ later) = ap (λ ns. ns ++ later) s.is ∙ append_assoc before (own ∷ s.rest) later in
     record {
       rest = (s.rest ++ later) ++ others;

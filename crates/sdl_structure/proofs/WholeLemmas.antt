@@ -1,5 +1,6 @@
 -- What a file names is a structure: what one part names of the others is there.
-use Rattle.std.proofs.Common.{◌≡◌, ◌≢◌, ℕ, ◌+◌, ◌<◌, ◌≤◌, List, [], ◌∷◌, ◌++◌, length, map, Some, IsSomeAnd, slice_get, sym, ap, subst, ◌∙◌, arith}
+use Rattle.std.proofs.Common.{◌≡◌, ◌≢◌, ℕ, ◌+◌, ◌<◌, ◌≤◌, ◌==◌, Bool, true, false, List, [], ◌∷◌, ◌++◌, length, map, Some, IsSomeAnd, slice_get, refl, sym, ap, subst, ◌∙◌, inl, inr, eq-eqb, eqb-true, arith}
+use Rattle.std.proofs.lemmas.List.{length-map}
 use Rattle.std.proofs.lemmas.Option.{slice_get_within}
 use Rattle.std.specs.List.{AllZip, AllByRecursion}
 use Rattle.std.specs.Prelude.{⊤}
@@ -7,6 +8,7 @@ use Rattle.toml.specs.Data.{Data, Members, as_str}
 use Rattle.sdl_signal.specs.declared.ids.SignalId.{SignalId}
 use Rattle.sdl_signal.specs.declared.ids.BlockId.{BlockId}
 use Rattle.sdl_parts.specs.declared.parts.SignalDecl.{SignalDecl}
+use Rattle.sdl_parts.specs.declared.parts.Block.{Block}
 use Rattle.sdl_parts.specs.declared.parts.Gate.{Gate}
 use Rattle.sdl_parts.specs.declared.parts.End.{End}
 use Rattle.sdl_parts.specs.declared.parts.Owner.{Owner}
@@ -14,13 +16,19 @@ use Rattle.sdl_parts.specs.declared.parts.Owner.TheVariants as owner
 use Rattle.sdl_parts.specs.declared.parts.Scope.{Scope}
 use Rattle.sdl_parts.specs.declared.parts.Scope.TheVariants as scope
 use Rattle.sdl_tables.specs.declared.place.Key.TheVariants as key
-use Rattle.sdl_parts.specs.Structure.{Structure, IsStructure, HasFewInstances, OwnerExists, ScopeExists, SignalsExist, AreSystemFirst, IsEnd, JoinsAt}
-use Rattle.sdl_tables.specs.Tables.{tables_at, total}
+use Rattle.sdl_parts.specs.Structure.{Structure, IsStructure, IsDepthIn, LiesIn, HasFewInstances, OwnerExists, ScopeExists, SignalsExist, AreSystemFirst, IsEnd, JoinsAt}
+use Rattle.sdl_tables.specs.declared.version.Version.{Version}
+use Rattle.sdl_tables.specs.declared.version.Version.TheVariants.{One, Two}
+use Rattle.sdl_tables.specs.Versions.{most_blocks}
+use Rattle.sdl_tables.specs.Tables.{tables_at, total, own_version}
+use Rattle.sdl_tables.specs.Blocks.{BlockTable, blocks_of, block_tables}
 use Rattle.sdl_tables.specs.Names.{NamesSignal, HasOneDot, agent_part, gate_part}
 use Rattle.sdl_structure.specs.File.{ListsParts, IsWithinLimits, IsBlockTable, IsSetTable, IsGateTable, IsChannelTable, NamesEnd, IsAgent, side_in, sets_of, owned, set_gates, block_gates, gates_of, channels_in, block_channels, channels_of}
 use Rattle.sdl_tables.proofs.SignalLemmas.{some_and}
 use Rattle.sdl_tables.proofs.ListLemmas.{zip_length}
 use Rattle.sdl_structure.proofs.BlockLemmas.{length-sets_of}
+use Rattle.sdl_structure.proofs.GateLemmas.{zip_found}
+use Rattle.sdl_structure.proofs.OrderLemmas.{IsDepthAmong, LiesAmong, all_lie, stands_whole}
 
 -- what follows from being zipped with an element that has a property
 zip_by : {A B : Type 0} (R : A → B → Type 0) (Q : A → Type 0) (P : B → Type 0) (xs : List A) (ys : List B) → ((x : A) (y : B) → Q x → R x y → P y) → AllByRecursion Q xs → AllZip R xs ys → AllByRecursion P ys
@@ -102,10 +110,19 @@ same_block a b e = ap (λ (n : ℕ). record { 0 = n }) e
 -- an end that a text names is one of the scope
 joins : (s : Structure) (scope : Scope) (agent : List ℕ) (o : Owner) → IsAgent s.blocks s.sets scope agent o → JoinsAt s scope o (side_in scope o)
 joins s scope.System agent owner.System h = tt
-joins s scope.System agent (owner.Block b) h = tt
+joins s scope.System agent (owner.Block b) h =
+    let (x, is, said) = some_and (slice_get s.blocks b.0) (λ x. (x.scope ≡ scope.System) × (x.name.bytes ≡ agent)) h in
+    rw is said.0
 joins s scope.System agent (owner.Set t) h = absurd h
 joins s (scope.Block b) agent owner.System h = absurd h
-joins s (scope.Block b) agent (owner.Block c) h = same_block c b h.0
+joins s (scope.Block b) agent (owner.Block c) h = choose (c.0 == b.0) refl h
+  where
+    choose : (x : Bool) → (c.0 == b.0) ≡ x → IsAgent s.blocks s.sets (scope.Block b) agent (owner.Block c) → JoinsAt s (scope.Block b) (owner.Block c) (side_in (scope.Block b) (owner.Block c))
+    choose true e h = rw e (same_block c b (eqb-true c.0 b.0 e))
+    choose false e (inl (same, env)) = let yes : (c.0 == b.0) ≡ true = eq-eqb c.0 b.0 (ap (λ (k : BlockId). k.0) same) in cc
+    choose false e (inr lies) =
+        let (x, is, said) = some_and (slice_get s.blocks c.0) (λ x. (x.scope ≡ scope.Block b) × (x.name.bytes ≡ agent)) lies in
+        rw e (rw is said.0)
 joins s (scope.Block b) agent (owner.Set t) h =
     let (x, is, said) = some_and (slice_get s.sets t.0) (λ x. (x.block.0 ≡ b.0) × (x.name.bytes ≡ agent)) h in
     rw is (same_block x.block b said.0)
@@ -150,33 +167,53 @@ system_first signals (m ∷ ms) es (g ∷ gs) none z = (trivially gs, system_fir
     trivially [] = tt
     trivially (x ∷ hs) = ((λ e. z.0.owner), trivially hs)
 
-pub is_structure : (root : Members) (s : Structure) → ListsParts root s → IsWithinLimits s → IsStructure s
+-- a block of the structure lies where its table does
+depth_in : (all : List BlockTable) (bs : List Block) → AllZip IsBlockTable all bs → (at : Scope) (depth : ℕ) → IsDepthAmong all at depth → IsDepthIn bs at depth
+depth_in all bs z scope.System depth h = h
+depth_in all bs z (scope.Block b) depth h =
+    let (y, is, deep) = some_and (slice_get all b.0) (λ around. depth ≡ around.depth + 1) h in
+    let (x, there, table) = zip_found IsBlockTable all bs b.0 y z is in
+    rw there (deep ∙ ap (λ k. k + 1) (sym table.depth))
+
+lies_in : (all : List BlockTable) (bs : List Block) (x : BlockTable) (b : Block) → AllZip IsBlockTable all bs → LiesAmong all x → IsBlockTable x b → LiesIn bs b
+lies_in all bs x b z lies table =
+    let deep : IsDepthIn bs b.scope b.depth =
+    subst (λ d. IsDepthIn bs b.scope d) (sym table.depth) (subst (λ o. IsDepthIn bs o x.depth) (sym table.scope) (depth_in all bs z x.scope x.depth lies.0)) in
+    (deep, subst (λ d. d ≤ 4) (sym table.depth) lies.1)
+
+at_most : (v : Version) → most_blocks v ≤ 64
+at_most One = omega arith
+at_most Two = omega arith
+
+pub is_structure : (root : Members) (s : Structure) → ListsParts root s → IsWithinLimits (own_version root) s → IsStructure s
 is_structure root s parts limits = record {
   few_signals = limits.signals;
-  few_blocks = limits.blocks.1;
+  few_blocks = omega (arith, limits.blocks.1, at_most (own_version root));
   few_sets = limits.sets;
   few_gates = limits.gates;
   few_channels = limits.channels;
-  sets = zip_by IsSetTable (λ x. x.0 < length s.blocks) (λ t. t.block.0 < length s.blocks) (sets_of 0 (tables_at key.Block root)) s.sets (λ x t q r. subst (λ n. n < length s.blocks) (sym r.block) q) (sets_below 0 (length s.blocks) (tables_at key.Block root) blocks_fit) parts.sets;
-  instances = zip_by IsSetTable (λ x. ⊤) HasFewInstances (sets_of 0 (tables_at key.Block root)) s.sets (λ x t q r. record { initial = r.initial.1; some = r.maximum.1; maximum = r.maximum.2 }) (all_hold (sets_of 0 (tables_at key.Block root))) parts.sets;
-  gates = zip_by (IsGateTable s.signals) (λ x. OwnerExists s x.0) _ (gates_of root (tables_at key.Block root)) s.gates
+  blocks = zip_by IsBlockTable (LiesAmong (blocks_of root)) (LiesIn s.blocks) (blocks_of root) s.blocks (λ x b q r. lies_in (blocks_of root) s.blocks x b parts.blocks q r)
+      (all_lie (own_version root) (blocks_of root) 4 scope.System 1 0 (tables_at key.Block root) refl (stands_whole (blocks_of root)) refl) parts.blocks;
+  sets = zip_by IsSetTable (λ x. x.0 < length s.blocks) (λ t. t.block.0 < length s.blocks) (sets_of 0 (block_tables root)) s.sets (λ x t q r. subst (λ n. n < length s.blocks) (sym r.block) q) (sets_below 0 (length s.blocks) (block_tables root) blocks_fit) parts.sets;
+  instances = zip_by IsSetTable (λ x. ⊤) HasFewInstances (sets_of 0 (block_tables root)) s.sets (λ x t q r. record { initial = r.initial.1; some = r.maximum.1; maximum = r.maximum.2 }) (all_hold (sets_of 0 (block_tables root))) parts.sets;
+  gates = zip_by (IsGateTable s.signals) (λ x. OwnerExists s x.0) _ (gates_of root (block_tables root)) s.gates
       (λ x g q r. (subst (λ o. OwnerExists s o) (sym r.owner) q, signals_exist s _ g.inward.items r.inward.named, signals_exist s _ g.outward.items r.outward.named))
-      (all_append (λ x. OwnerExists s x.0) (owned owner.System root) (block_gates 0 0 (tables_at key.Block root)) (all_mapped (λ g. (owner.System, g)) (λ x. OwnerExists s x.0) (tables_at key.Gate root) (λ g. tt)) (block_gates_exist s 0 0 (tables_at key.Block root) blocks_fit sets_fit)) parts.gates;
-  gates_order = system_first s.signals (tables_at key.Gate root) (block_gates 0 0 (tables_at key.Block root)) s.gates (no_system 0 0 (tables_at key.Block root)) parts.gates;
+      (all_append (λ x. OwnerExists s x.0) (owned owner.System root) (block_gates 0 0 (block_tables root)) (all_mapped (λ g. (owner.System, g)) (λ x. OwnerExists s x.0) (tables_at key.Gate root) (λ g. tt)) (block_gates_exist s 0 0 (block_tables root) blocks_fit sets_fit)) parts.gates;
+  gates_order = system_first s.signals (tables_at key.Gate root) (block_gates 0 0 (block_tables root)) s.gates (no_system 0 0 (block_tables root)) parts.gates;
   channels = zip_by (IsChannelTable s.signals s.blocks s.sets s.gates) (λ x. ScopeExists s x.0) _ (channels_of root) s.channels
       (λ x c q r. let e = ends_are s x.0 _ c.first c.second r.ends in
       (subst (λ o. ScopeExists s o) (sym r.scope) q, subst (λ o. IsEnd s o c.first) (sym r.scope) e.0, subst (λ o. IsEnd s o c.second) (sym r.scope) e.1, signals_exist s _ c.forth.items r.forth.named, signals_exist s _ c.back.items r.back.named))
-      (all_append (λ x. ScopeExists s x.0) (channels_in scope.System root) (block_channels 0 (tables_at key.Block root)) (all_mapped (λ c. (scope.System, c)) (λ x. ScopeExists s x.0) (tables_at key.Channel root) (λ c. tt)) (channels_exist s 0 (tables_at key.Block root) blocks_fit)) parts.channels;
+      (all_append (λ x. ScopeExists s x.0) (channels_in scope.System root) (block_channels 0 (block_tables root)) (all_mapped (λ c. (scope.System, c)) (λ x. ScopeExists s x.0) (tables_at key.Channel root) (λ c. tt)) (channels_exist s 0 (block_tables root) blocks_fit)) parts.channels;
 }
   where
-    blocks_are : length s.blocks ≡ length (tables_at key.Block root)
-    blocks_are = zip_length IsBlockTable (tables_at key.Block root) s.blocks parts.blocks
+    blocks_are : length s.blocks ≡ length (block_tables root)
+    blocks_are = zip_length IsBlockTable (blocks_of root) s.blocks parts.blocks ∙ sym (length-map (blocks_of root) (λ (x : BlockTable). x.table))
 
-    sets_are : length s.sets ≡ length (sets_of 0 (tables_at key.Block root))
-    sets_are = zip_length IsSetTable (sets_of 0 (tables_at key.Block root)) s.sets parts.sets
+    sets_are : length s.sets ≡ length (sets_of 0 (block_tables root))
+    sets_are = zip_length IsSetTable (sets_of 0 (block_tables root)) s.sets parts.sets
 
-    blocks_fit : 0 + length (tables_at key.Block root) ≤ length s.blocks
+    blocks_fit : 0 + length (block_tables root) ≤ length s.blocks
     blocks_fit = omega (arith, blocks_are)
 
-    sets_fit : 0 + total key.Set (tables_at key.Block root) ≤ length s.sets
-    sets_fit = omega (arith, sets_are, length-sets_of 0 (tables_at key.Block root))
+    sets_fit : 0 + total key.Set (block_tables root) ≤ length s.sets
+    sets_fit = omega (arith, sets_are, length-sets_of 0 (block_tables root))

@@ -62,7 +62,7 @@ text_in k ms vs i v name held h read text = rw held (at vs i h read)
     at (w ∷ vs) (suc i) h read = at vs i (omega arith) read
 
 -- a text that is not known
-pub unknown : (w : Walk) (q : Place) (k : Key) (vs : List Value) (i : ℕ) (v : Value) (name : List ℕ) → IsHere w → is_key w.place.part k ≡ true → q ≡ record w.place { key = k } → elements_at k (own w) ≡ map view vs → i < length vs → v ≡ get_or vs i v → as_str (view v) ≡ Some name
+pub unknown : (w : Walk) (q : Place) (k : Key) (vs : List Value) (i : ℕ) (v : Value) (name : List ℕ) → IsHere w → is_key w.version w.place.part k ≡ true → q ≡ record w.place { key = k } → elements_at k (own w) ≡ map view vs → i < length vs → v ≡ get_or vs i v → as_str (view v) ≡ Some name
     → ¬ IsKnown (file_of w) (record w.place { key = k }) (kind_of k) name → IsBroken (file_of w) (fault.UnknownName q)
 unknown w q k vs i v name here listed e held h read text none = breaks w q k _ here listed e (name, i, text_in k (own w) vs i v name held h read text, none)
 
@@ -86,7 +86,7 @@ no_signal xs name none (i, h, found) =
     let is : get_or xs i x ≡ x = b x in
     none i x a (ap (λ (z : SignalDecl). z.name.bytes) is ∙ cc)
 
-pub unknown_signal : (w : Walk) (q : Place) (k : Key) (vs : List Value) (xs : List SignalDecl) (i : ℕ) (v : Value) (name : List ℕ) → IsHere w → is_key w.place.part k ≡ true → q ≡ record w.place { key = k } → kind_of k ≡ signals → elements_at k (own w) ≡ map view vs → i < length vs → v ≡ get_or vs i v → as_str (view v) ≡ Some name
+pub unknown_signal : (w : Walk) (q : Place) (k : Key) (vs : List Value) (xs : List SignalDecl) (i : ℕ) (v : Value) (name : List ℕ) → IsHere w → is_key w.version w.place.part k ≡ true → q ≡ record w.place { key = k } → kind_of k ≡ signals → elements_at k (own w) ≡ map view vs → i < length vs → v ≡ get_or vs i v → as_str (view v) ≡ Some name
     → AllZip IsSignalTable (tables_at key.Signal (file_of w)) xs → All (λ x. x.name.bytes ≢ name) xs → IsBroken (file_of w) (fault.UnknownName q)
 unknown_signal w q k vs xs i v name here listed e kind held h read text are none =
     unknown w q k vs i v name here listed e held h read text (λ known. not_known (subst (λ kd. IsKnown (file_of w) (record w.place { key = k }) kd name) kind known))
@@ -111,7 +111,7 @@ slice_get_at (x ∷ xs) zero P h found = found x
 slice_get_at (x ∷ xs) (suc i) P h found = slice_get_at xs i P (omega arith) found
 
 -- the text stands earlier in the list
-pub repeated_signal : (w : Walk) (q : Place) (k : Key) (vs : List Value) (xs : List SignalDecl) (ids : List SignalId) (i j number : ℕ) (v : Value) (name : List ℕ) → IsHere w → is_key w.place.part k ≡ true → q ≡ record w.place { key = k } → kind_of k ≡ signals → elements_at k (own w) ≡ map view vs → i < length vs → v ≡ get_or vs i v → as_str (view v) ≡ Some name
+pub repeated_signal : (w : Walk) (q : Place) (k : Key) (vs : List Value) (xs : List SignalDecl) (ids : List SignalId) (i j number : ℕ) (v : Value) (name : List ℕ) → IsHere w → is_key w.version w.place.part k ≡ true → q ≡ record w.place { key = k } → kind_of k ≡ signals → elements_at k (own w) ≡ map view vs → i < length vs → v ≡ get_or vs i v → as_str (view v) ≡ Some name
     → number < length xs → HoldsAt (λ x. x.name.bytes ≡ name) xs number → AllZip (λ v id. NamesSignal xs (view v) id) (take i vs) ids → j < length ids → HoldsAt (λ id. id.0 ≡ number) ids j → IsBroken (file_of w) (fault.Duplicate q)
 repeated_signal w q k vs xs ids i j number v name here listed e kind held h read text inside named zipped within found =
     let (u, id, before, in_list, at_u, at_id, says) = zip_at (λ v id. NamesSignal xs (view v) id) vs ids i j zipped within in

@@ -3,6 +3,8 @@ use Rattle.std.specs.Prelude.{ℕ, ℤ, pos, List, [], ◌∷◌, Bool, true, fa
 use Rattle.std.specs.List.{list_any}
 use Rattle.sdl_tables.specs.declared.place.Part.{Part}
 use Rattle.sdl_tables.specs.declared.place.Part.TheVariants as part
+use Rattle.sdl_tables.specs.declared.version.Version.{Version}
+use Rattle.sdl_tables.specs.declared.version.Version.TheVariants.{One, Two}
 use Rattle.sdl_tables.specs.declared.place.Key.{Key}
 use Rattle.sdl_tables.specs.declared.place.Key.TheVariants as key
 
@@ -47,35 +49,46 @@ gate_keys = key.Name ∷ key.Inward ∷ key.Outward ∷ []
 abbrev pub channel_keys : List Key
 channel_keys = key.Name ∷ key.Ends ∷ key.Forth ∷ key.Back ∷ key.Nodelay ∷ []
 
--- the keys that each kind of table may have, in the order of the walk
-abbrev pub keys_of : Part → List Key
-keys_of part.System = key.Version ∷ key.System ∷ key.Budget ∷ key.Signal ∷ key.Gate ∷ key.Block ∷ key.Channel ∷ []
-keys_of part.Signal = key.Name ∷ key.Sorts ∷ []
-keys_of part.Gate = gate_keys
-keys_of part.Channel = channel_keys
-keys_of part.Block = key.Name ∷ key.Gate ∷ key.Set ∷ key.Channel ∷ []
-keys_of part.BlockGate = gate_keys
-keys_of part.BlockChannel = channel_keys
-keys_of part.Set = key.Name ∷ key.Initial ∷ key.Maximum ∷ key.Gate ∷ []
-keys_of part.SetGate = gate_keys
+abbrev pub signal_keys : List Key
+signal_keys = key.Name ∷ key.Sorts ∷ []
+
+abbrev pub set_keys : List Key
+set_keys = key.Name ∷ key.Initial ∷ key.Maximum ∷ key.Gate ∷ []
+
+-- the keys that each kind of table may have, in the order of the walk; in version 2 a block may have blocks
+abbrev pub keys_of : Version → Part → List Key
+keys_of v part.System = key.Version ∷ key.System ∷ key.Budget ∷ key.Signal ∷ key.Gate ∷ key.Block ∷ key.Channel ∷ []
+keys_of v part.Signal = signal_keys
+keys_of v part.Gate = gate_keys
+keys_of v part.Channel = channel_keys
+keys_of One part.Block = key.Name ∷ key.Gate ∷ key.Set ∷ key.Channel ∷ []
+keys_of Two part.Block = key.Name ∷ key.Gate ∷ key.Set ∷ key.Block ∷ key.Channel ∷ []
+keys_of v part.BlockGate = gate_keys
+keys_of v part.BlockChannel = channel_keys
+keys_of v part.Set = set_keys
+keys_of v part.SetGate = gate_keys
 
 -- the bytes are those of one of the keys
 abbrev pub is_key_of : List Key → List ℕ → Bool
 is_key_of ks bytes = list_any (λ k. bytes_eq (key_text k) bytes) ks
 
 -- a table of that kind may have the key
-abbrev pub is_key : Part → Key → Bool
-is_key p k = is_key_of (keys_of p) (key_text k)
+abbrev pub is_key : Version → Part → Key → Bool
+is_key v p k = is_key_of (keys_of v p) (key_text k)
 
--- a table that may have the key must have it
+-- a table that may have the key must have it, whatever it is of
 abbrev pub is_required : Key → Bool
 is_required key.Version = true
 is_required key.System = true
-is_required key.Block = true
 is_required key.Name = true
-is_required key.Set = true
 is_required key.Ends = true
 is_required _ = false
+
+-- the table must have the key, with a list that is not empty
+abbrev pub needs_some : Version → Part → Key → Bool
+needs_some v part.System key.Block = true
+needs_some One part.Block key.Set = true
+needs_some _ _ _ = false
 
 -- the least and the greatest number that the key may hold
 abbrev pub least_of : Key → ℤ
@@ -85,16 +98,15 @@ least_of key.Maximum = pos 1
 least_of _ = pos 0
 
 abbrev pub greatest_of : Key → ℤ
-greatest_of key.Version = pos 1
+greatest_of key.Version = pos 2
 greatest_of key.Budget = pos 1000000
 greatest_of key.Initial = pos 1024
 greatest_of key.Maximum = pos 1024
 greatest_of _ = pos 0
 
--- that many elements are more than the key's array may have; the sets and the channels are counted over the whole file
+-- that many elements are more than the key's array may have; the blocks, the sets and the channels are counted over the whole file
 abbrev pub is_over : Key → ℕ → Bool
 is_over key.Signal n = nat_lt 64 n
-is_over key.Block n = nat_lt 16 n
 is_over key.Gate n = nat_lt 8 n
 is_over key.Sorts n = nat_lt 4 n
 is_over _ n = false

@@ -1,5 +1,7 @@
+pub mod Versions
 pub mod Keys
 pub mod Tables
+pub mod Blocks
 pub mod Places
 pub mod Names
 pub mod Faults

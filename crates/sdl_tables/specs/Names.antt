@@ -10,7 +10,7 @@ use Rattle.sdl_parts.specs.declared.parts.SignalDecl.{SignalDecl}
 use Rattle.sdl_tables.specs.declared.place.Key.{Key}
 use Rattle.sdl_tables.specs.declared.place.Key.TheVariants as key
 use Rattle.sdl_tables.specs.declared.place.Part.TheVariants as part
-use Rattle.sdl_tables.specs.Keys.{keys_of, gate_keys, channel_keys}
+use Rattle.sdl_tables.specs.Keys.{signal_keys}
 use Rattle.sdl_tables.specs.Tables.{integer_at, integer_or, flag_or, text_at, elements_at, tables_at, names_of, agent_names, channel_names, HasShape}
 
 -- a name stands at the key
@@ -28,7 +28,7 @@ NamesSort d s = as_str d ≡ Some (sort_text s)
 
 -- the table is a signal's, and says this
 pub record IsSignalTable (ms : Members) (x : SignalDecl) : Type 0 where
-  pub shape : HasShape (keys_of part.Signal) ms
+  pub shape : HasShape signal_keys ms
   pub name : HasName key.Name ms x.name.bytes
   pub sorts : AllZip NamesSort (elements_at key.Sorts ms) x.sorts.items
   pub few_sorts : length x.sorts.items ≤ 4

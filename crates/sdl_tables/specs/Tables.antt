@@ -5,7 +5,9 @@ use Rattle.std.specs.Option.{option_map_or}
 use Rattle.toml.specs.Data.{Data, Items, no_items, item, Members, no_members, member, get_member, as_integer, as_bool, as_array, as_table, as_str}
 use Rattle.toml.specs.View.{view}
 use Rattle.toml.specs.declared.value.Value.{Value}
-use Rattle.sdl_tables.specs.declared.place.Part.{Part}
+use Rattle.sdl_tables.specs.declared.version.Version.{Version}
+use Rattle.sdl_tables.specs.declared.version.Version.TheVariants.{One}
+use Rattle.sdl_tables.specs.Versions.{version_said}
 use Rattle.sdl_tables.specs.declared.place.Key.{Key}
 use Rattle.sdl_tables.specs.declared.place.Key.TheVariants as key
 use Rattle.sdl_tables.specs.Keys.{Kind, whole_number, text, flag, sorts, signals, ends, tables, nothing, key_text, keys_of, kind_of, is_key_of, is_required}
@@ -35,6 +37,10 @@ integer_or default k ms = option_map_or as_integer (data_at k ms) (Some default)
 
 abbrev pub flag_or : Bool → Key → Members → Option Bool
 flag_or default k ms = option_map_or as_bool (data_at k ms) (Some default)
+
+-- the version of a file, by its top table
+abbrev pub own_version : Members → Version
+own_version root = option_map_or version_said (integer_at key.Version root) One
 
 -- the elements of the array at a key, where an absent one is empty
 abbrev pub elements_at : Key → Members → List Data

@@ -4,6 +4,7 @@ use Rattle.toml.specs.Data.{Members}
 use Rattle.toml.specs.View.{table_view}
 use Rattle.arrayvec.specs.ArrayString.{ArrayString}
 use Rattle.sdl_tables.specs.declared.walk.Walk.{Walk}
+use Rattle.sdl_tables.specs.Tables.{own_version}
 use Rattle.sdl_tables.specs.Places.{table_at, IsPlace}
 
 -- the file, and the table where the walk stands
@@ -17,6 +18,7 @@ own w = table_view w.table.now
 pub record IsHere (w : Walk) : Type 0 where
   pub place : IsPlace (file_of w) w.place
   pub table : table_at (file_of w) w.place ≡ own w
+  pub version : w.version ≡ own_version (file_of w)
 
 -- the names that a list of names holds
 abbrev pub name_texts : List ArrayString → List (Option (List ℕ))

@@ -1,12 +1,11 @@
 //! The keys of the structure file: how each is written, where it may stand and what it may hold.
 ghost use Rattle.std.specs.Prelude.{◌≡◌, ◌↔◌, ◌≤ℤ◌, IsTrue};
 ghost use Rattle.sdl_tables.specs.Keys.{part_text, key_text, keys_of, gate_keys, channel_keys, is_required, is_over, least_of, greatest_of};
-ghost use Rattle.sdl_tables.specs.Places.{part_inside, inside};
+ghost use Rattle.sdl_tables.specs.Places.{part_inside, inside, block_place};
 
 use crate::place::{Key, Part, Place};
-use sdl_parts::limits::{
-    MOST_BLOCKS, MOST_BUDGET, MOST_GATES, MOST_INSTANCES, MOST_PARAMETERS, MOST_SIGNALS,
-};
+use crate::version::Version;
+use sdl_parts::limits::{MOST_BUDGET, MOST_GATES, MOST_INSTANCES, MOST_PARAMETERS, MOST_SIGNALS};
 
 impl Part {
     /// The part as the text of a fault names it, as `block-gate`.
@@ -27,8 +26,8 @@ impl Part {
     }
 
     /// The keys that a table of this part may have, in the order of the walk.
-    pub(crate) fn keys(self) -> &'static [Key]
-        ensures { result.now ≡ keys_of self }
+    pub(crate) fn keys(self, version: Version) -> &'static [Key]
+        ensures { result.now ≡ keys_of version self }
     {
         match self {
             Part::System => &[
@@ -42,7 +41,10 @@ impl Part {
             ],
             Part::Signal => &[Key::Name, Key::Sorts],
             Part::Gate | Part::BlockGate | Part::SetGate => &[Key::Name, Key::Inward, Key::Outward],
-            Part::Block => &[Key::Name, Key::Gate, Key::Set, Key::Channel],
+            Part::Block => match version {
+                Version::One => &[Key::Name, Key::Gate, Key::Set, Key::Channel],
+                Version::Two => &[Key::Name, Key::Gate, Key::Set, Key::Block, Key::Channel],
+            },
             Part::Set => &[Key::Name, Key::Initial, Key::Maximum, Key::Gate],
             Part::Channel | Part::BlockChannel => &[
                 Key::Name,
@@ -61,7 +63,6 @@ impl Part {
         match (self, key) {
             (Part::System, Key::Signal) => Part::Signal,
             (Part::System, Key::Gate) => Part::Gate,
-            (Part::System, Key::Block) => Part::Block,
             (Part::System, Key::Channel) => Part::Channel,
             (Part::Block, Key::Gate) => Part::BlockGate,
             (Part::Block, Key::Set) => Part::Set,
@@ -73,18 +74,25 @@ impl Part {
 }
 
 impl Place {
-    /// The place of a table in the list at a key of the table at this place.
+    /// The place of the block of this number.
+    pub(crate) fn of_block(number: u32) -> Place
+        ensures { result ≡ block_place number }
+    {
+        Place {
+            part: Part::Block,
+            block: number,
+            set: 0,
+            item: 0,
+            key: Key::Other,
+        }
+    }
+
+    /// The place of a table in the list at a key of the table at this place, other than a block.
     pub(crate) fn inside(self, key: Key, index: u32) -> Place
         ensures { result ≡ inside self key index }
     {
         let part = self.part.inside(key);
         match key {
-            Key::Block => Place {
-                part,
-                block: index,
-                key: Key::Other,
-                ..self
-            },
             Key::Set => Place {
                 part,
                 set: index,
@@ -129,12 +137,12 @@ impl Key {
         }
     }
 
-    /// Tells whether a table that may have the key must have it.
+    /// Tells whether a table that may have the key must have it, whatever it is of.
     pub(crate) fn is_required(self) -> bool
         ensures { result ≡ is_required self }
     {
         match self {
-            Key::Version | Key::System | Key::Block | Key::Name | Key::Set | Key::Ends => true,
+            Key::Version | Key::System | Key::Name | Key::Ends => true,
             _ => false,
         }
     }
@@ -154,7 +162,7 @@ impl Key {
         ensures { result ≡ greatest_of self }
     {
         match self {
-            Key::Version => 1,
+            Key::Version => 2,
             Key::Budget => MOST_BUDGET,
             Key::Initial | Key::Maximum => MOST_INSTANCES,
             _ => 0,
@@ -174,7 +182,6 @@ impl Key {
     {
         match self {
             Key::Signal => len > MOST_SIGNALS,
-            Key::Block => len > MOST_BLOCKS,
             Key::Gate => len > MOST_GATES,
             Key::Sorts => len > MOST_PARAMETERS,
             _ => false,

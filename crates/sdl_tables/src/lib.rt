@@ -7,10 +7,12 @@ pub mod fault;
 mod keys;
 pub mod place;
 pub mod signals;
+pub mod version;
 pub mod walk;
 
 pub use checks::count_dots;
 pub use fault::FileFault;
 pub use place::{Key, Part, Place};
 pub use signals::{read_signal_list, read_signals, text_of};
+pub use version::Version;
 pub use walk::Walk;

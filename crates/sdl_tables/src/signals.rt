@@ -105,7 +105,7 @@ pub fn read_signal_list(
     signals: &[SignalDecl],
 ) -> Result<ArrayVec<SignalId, 64>, FileFault>
     requires here { IsHere walk.now }
-    requires listed { is_key walk.now.place.part key ≡ true }
+    requires listed { is_key walk.now.version walk.now.place.part key ≡ true }
     requires kind { kind_of key ≡ list_of_signals }
     requires signals { AllZip IsSignalTable (tables_at Key.Signal (file_of walk.now)) signals.now }
     requires few { length signals.now ≤ 64 }

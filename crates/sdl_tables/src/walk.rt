@@ -7,6 +7,7 @@ mod lists;
 use crate::checks::has_only;
 use crate::fault::FileFault;
 use crate::place::{Key, Part, Place};
+use crate::version::Version;
 use sdl_signal::{Name, name};
 use toml::{Table, Value};
 
@@ -16,6 +17,8 @@ pub struct Walk<'a> {
     /// The top table of the file, of which each clause on a fault speaks.
     file: &'a Table,
     table: &'a Table,
+    /// The version that the file says.
+    pub version: Version,
     /// Where the table lies. The key means nothing here.
     pub place: Place,
 }
@@ -26,7 +29,7 @@ impl<'a> Walk<'a> {
     ghost use Rattle.toml.specs.View.{view, table_view};
     ghost use Rattle.sdl_signal.specs.Names.{IsName};
     ghost use Rattle.sdl_tables.specs.Keys.{is_key, is_required, is_list, is_texts, is_over, kind_of, whole_number, text, flag, tables, least_of, greatest_of, keys_of};
-    ghost use Rattle.sdl_tables.specs.Tables.{data_at, integer_at, text_at, integer_or, flag_or, elements_at, tables_at, the_table, table_in, is_of_kind, is_text, is_table, has_only, HasKindAt, IsArrayAt};
+    ghost use Rattle.sdl_tables.specs.Tables.{data_at, integer_at, text_at, integer_or, flag_or, elements_at, tables_at, the_table, table_in, is_of_kind, is_text, is_table, has_only, own_version, HasKindAt, IsArrayAt};
     ghost use Rattle.sdl_tables.specs.Places.{inside, names_before, IsPlace};
     ghost use Rattle.sdl_tables.specs.Faults.{IsBroken, IsOfFile};
     ghost use Rattle.sdl_tables.specs.Walks.{file_of, own, IsHere, name_texts};
@@ -44,10 +47,28 @@ impl<'a> Walk<'a> {
             item: 0,
             key: Key::Other,
         };
-        Walk {
+        let walk = Walk {
             file,
             table: file,
+            version: Version::One,
             place,
+        };
+        Walk {
+            version: walk.said_version(),
+            ..walk
+        }
+    }
+
+    /// The version that a top table says; the first where it says none.
+    fn said_version(&self) -> Version
+        ensures { result ≡ own_version (own self.now) }
+    {
+        match self.value(Key::Version) {
+            None => Version::One,
+            Some(value) => match value.as_integer() {
+                None => Version::One,
+                Some(number) => Version::said(number),
+            },
         }
     }
 
@@ -66,7 +87,7 @@ impl<'a> Walk<'a> {
 
     fn wrong_type(&self, key: Key, value: &Value) -> FileFault
         requires here { IsHere self.now }
-        requires listed { is_key self.now.place.part key ≡ true }
+        requires listed { is_key self.now.version self.now.place.part key ≡ true }
         requires there { data_at key (own self.now) ≡ Some (view value.now) }
         requires wrong { is_of_kind (kind_of key) (view value.now) ≡ false }
         ensures fault { IsBroken (file_of self.now) result }
@@ -78,7 +99,7 @@ impl<'a> Walk<'a> {
     /// The number at a key that the table must have.
     pub fn required_integer(&self, key: Key) -> Result<i64, FileFault>
         requires here { IsHere self.now }
-        requires listed { is_key self.now.place.part key ≡ true }
+        requires listed { is_key self.now.version self.now.place.part key ≡ true }
         requires kind { kind_of key ≡ whole_number }
         requires required { is_required key ≡ true }
         ensures kind { IfOk result (λ _. HasKindAt (own self.now) key) }
@@ -96,7 +117,7 @@ impl<'a> Walk<'a> {
     /// The number at a key, or the default.
     pub fn integer_or(&self, key: Key, default: i64) -> Result<i64, FileFault>
         requires here { IsHere self.now }
-        requires listed { is_key self.now.place.part key ≡ true }
+        requires listed { is_key self.now.version self.now.place.part key ≡ true }
         requires kind { kind_of key ≡ whole_number }
         requires free { is_required key ≡ false }
         requires low { least_of key ≤ℤ default }
@@ -115,7 +136,7 @@ impl<'a> Walk<'a> {
 
     fn in_range(&self, key: Key, value: &Value) -> Result<i64, FileFault>
         requires here { IsHere self.now }
-        requires listed { is_key self.now.place.part key ≡ true }
+        requires listed { is_key self.now.version self.now.place.part key ≡ true }
         requires kind { kind_of key ≡ whole_number }
         requires there { data_at key (own self.now) ≡ Some (view value.now) }
         ensures kind { IfOk result (λ _. HasKindAt (own self.now) key) }
@@ -139,7 +160,7 @@ impl<'a> Walk<'a> {
     /// The flag at a key; an absent one is false.
     pub fn flag(&self, key: Key) -> Result<bool, FileFault>
         requires here { IsHere self.now }
-        requires listed { is_key self.now.place.part key ≡ true }
+        requires listed { is_key self.now.version self.now.place.part key ≡ true }
         requires kind { kind_of key ≡ flag }
         requires free { is_required key ≡ false }
         ensures kind { IfOk result (λ _. HasKindAt (own self.now) key) }
@@ -159,7 +180,7 @@ impl<'a> Walk<'a> {
     /// The name at a key that the table must have.
     pub fn name(&self, key: Key) -> Result<Name, FileFault>
         requires here { IsHere self.now }
-        requires listed { is_key self.now.place.part key ≡ true }
+        requires listed { is_key self.now.version self.now.place.part key ≡ true }
         requires kind { kind_of key ≡ text }
         requires required { is_required key ≡ true }
         ensures kind { IfOk result (λ _. HasKindAt (own self.now) key) }
@@ -183,7 +204,7 @@ impl<'a> Walk<'a> {
     /// The name of the table, which no table before it in its name space may have; it joins the names that are taken.
     pub fn new_name(&self, taken: &mut Vec<Name>) -> Result<Name, FileFault>
         requires here { IsHere self.now }
-        requires listed { is_key self.now.place.part Key.Name ≡ true }
+        requires listed { is_key self.now.version self.now.place.part Key.Name ≡ true }
         requires before { name_texts taken.old.items ≡ names_before (file_of self.now) self.now.place }
         ensures kind { IfOk result (λ _. HasKindAt (own self.now) Key.Name) }
         ensures held { IfOk result (λ n. text_at Key.Name (own self.now) ≡ Some n.bytes) }
@@ -204,11 +225,11 @@ impl<'a> Walk<'a> {
     /// Refuses a table with a key that it may not have.
     pub fn only_known_keys(&self) -> Result<(), FileFault>
         requires here { IsHere self.now }
-        ensures ok { IfOk result (λ _. has_only (keys_of self.now.place.part) (own self.now) ≡ true) }
+        ensures ok { IfOk result (λ _. has_only (keys_of self.now.version self.now.place.part) (own self.now) ≡ true) }
         ensures fault { IfErr result (IsBroken (file_of self.now)) }
         ensures of_file { IfErr result IsOfFile }
     {
-        if has_only(self.place.part.keys(), self.table) {
+        if has_only(self.place.part.keys(self.version), self.table) {
             Ok(())
         } else {
             Err(FileFault::UnknownKey(self.at(Key::Other)))

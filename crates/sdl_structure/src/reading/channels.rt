@@ -7,7 +7,7 @@ ghost use Rattle.sdl_tables.specs.Keys.{is_key, keys_of, channel_keys};
 ghost use Rattle.sdl_tables.specs.Tables.{elements_at, tables_at, names_of, channel_names, is_text, HasKindAt};
 ghost use Rattle.sdl_tables.specs.Places.{names_before};
 ghost use Rattle.sdl_tables.specs.Names.{HasOneDot, is_dot, agent_part, gate_part};
-ghost use Rattle.sdl_structure.specs.File.{IsChannelTable, IsAgent, NamesEnd, channels_in};
+ghost use Rattle.sdl_structure.specs.File.{IsChannelTable, IsAgent, IsBlockIn, NamesEnd, channels_in};
 ghost use Rattle.sdl_structure.specs.File as file;
 ghost use Rattle.sdl_tables.specs.Faults.{IsBroken, IsOfFile, so_far};
 ghost use Rattle.sdl_tables.specs.Walks.{file_of, own, IsHere, name_texts};
@@ -15,8 +15,8 @@ ghost use Rattle.sdl_structure.specs.Drafts.{ServesChannels, IsScope, IsChannelS
 
 use super::draft::Draft;
 use sdl_parts::limits::MOST_CHANNELS;
-use sdl_parts::{Channel, End, Gate, Owner, Scope, Set, Side};
-use sdl_signal::{GateId, Name};
+use sdl_parts::{Block, Channel, End, Gate, Owner, Scope, Set, Side};
+use sdl_signal::GateId;
 use sdl_tables::{FileFault, Key, Walk, count_dots, read_signal_list, text_of};
 use std::alloc::Global;
 use toml::Value;
@@ -34,18 +34,18 @@ impl Draft {
         requires serves { ServesChannels (file_of walk.now) scope (own walk.now) self.old }
         requires names { name_texts self.old.channel_names.items ≡ channel_names (blocks_before (file_of walk.now) scope) }
         requires apart { AllPairs (λ a b. a ≢ b) (name_texts self.old.channel_names.items) }
-        requires few { length self.old.channels.items ≤ 64 }
-        requires counted { length self.old.channels.items + length (tables_at Key.Channel (own walk.now)) ≡ so_far (file_of walk.now) walk.now.place.part Key.Channel walk.now.place.block }
+        requires few { length self.old.channel_names.items ≤ 64 }
+        requires counted { length self.old.channel_names.items + length (tables_at Key.Channel (own walk.now)) ≡ so_far (file_of walk.now) walk.now.place.part Key.Channel walk.now.place.block }
         ensures kind { IfOk result (λ _. HasKindAt (own walk.now) Key.Channel) }
         ensures read { IfOk result (λ channels. AllZip (IsChannelTable self.old.signals.items self.old.blocks.items self.old.sets.items self.old.gates.items) (channels_in scope (own walk.now)) channels.items) }
         ensures names { OnOk result (name_texts self.new.channel_names.items ≡ channel_names (blocks_before (file_of walk.now) scope) ++ names_of (tables_at Key.Channel (own walk.now))) }
         ensures apart { OnOk result (AllPairs (λ a b. a ≢ b) (name_texts self.new.channel_names.items)) }
-        ensures few { IfOk result (λ channels. length self.old.channels.items + length channels.items ≤ 64) }
+        ensures few { OnOk result (length self.new.channel_names.items ≤ 64) }
         ensures frame { self.new ≡ record self.old { channel_names = self.new.channel_names } }
         ensures fault { IfErr result (IsBroken (file_of walk.now)) }
     {
         let tables = walk.tables(Key::Channel)?;
-        if self.channels.len() + tables.len() > MOST_CHANNELS {
+        if self.channel_names.len() + tables.len() > MOST_CHANNELS {
             return Err(FileFault::TooMany(walk.at(Key::Channel)));
         }
         let mut channels = Vec::new(alloc);
@@ -154,22 +154,26 @@ impl Draft {
         match scope {
             Scope::System => match owner {
                 Owner::System => agent == "env",
-                Owner::Block(block) => self.is_block(block.0 as usize, agent),
+                Owner::Block(block) => self.is_block(block.0 as usize, scope, agent),
                 Owner::Set(_) => false,
             },
-            Scope::Block(scope) => match owner {
+            Scope::Block(around) => match owner {
                 Owner::System => false,
-                Owner::Block(block) => block.0 == scope.0 && agent == "env",
-                Owner::Set(set) => self.is_set(set.0 as usize, scope.0, agent),
+                Owner::Block(block) => {
+                    (block == around && agent == "env")
+                        || self.is_block(block.0 as usize, scope, agent)
+                }
+                Owner::Set(set) => self.is_set(set.0 as usize, around.0, agent),
             },
         }
     }
 
-    fn is_block(&self, number: usize, agent: &str) -> bool
-        ensures { IsTrue result ↔ IsSomeAnd (slice_get self.now.blocks.items number) (λ x. x.name.bytes ≡ agent.now) }
+    /// Tells whether the block of this number lies in the scope and has this name.
+    fn is_block(&self, number: usize, scope: Scope, agent: &str) -> bool
+        ensures { IsTrue result ↔ IsBlockIn self.now.blocks.items scope agent.now (record { 0 = number }) }
     {
         if number < self.blocks.len() {
-            is_named(&self.blocks[number].name, agent)
+            is_block_of(&self.blocks[number], scope, agent)
         } else {
             false
         }
@@ -186,10 +190,10 @@ impl Draft {
     }
 }
 
-fn is_named(name: &Name, text: &str) -> bool
-    ensures { IsTrue result ↔ (name.now.bytes ≡ text.now) }
+fn is_block_of(block: &Block, scope: Scope, name: &str) -> bool
+    ensures { IsTrue result ↔ ((block.now.scope ≡ scope) × (block.now.name.bytes ≡ name.now)) }
 {
-    name.as_str() == text
+    block.scope == scope && block.name.as_str() == name
 }
 
 fn is_set_of(set: &Set, block: u32, name: &str) -> bool
@@ -204,7 +208,7 @@ fn side_in(scope: Scope, owner: Owner) -> Side
 {
     match (scope, owner) {
         (Scope::System, Owner::System) => Side::Inner,
-        (Scope::Block(_), Owner::Block(_)) => Side::Inner,
+        (Scope::Block(around), Owner::Block(block)) if block == around => Side::Inner,
         _ => Side::Outer,
     }
 }

@@ -1,7 +1,7 @@
 //! What is read of a file so far.
 ghost use Rattle.std.specs.Prelude.{◌≡◌, []};
 
-use sdl_parts::{Block, Channel, Gate, Set, SignalDecl};
+use sdl_parts::{Block, Gate, Set, SignalDecl};
 use sdl_signal::Name;
 use std::alloc::Global;
 
@@ -12,11 +12,11 @@ pub struct Draft {
     pub blocks: Vec<Block>,
     pub sets: Vec<Set>,
     pub gates: Vec<Gate>,
-    /// The channels of the blocks; the walk meets them before those of the top table.
-    pub channels: Vec<Channel>,
+    /// How many blocks the lists of blocks have that the walk has met.
+    pub listed_blocks: usize,
     /// The names of blocks and sets, in the order of the walk.
     pub agent_names: Vec<Name>,
-    /// The names of channels, in the order of the walk.
+    /// The names of channels, in the order of the walk: those in a block come behind those in the blocks that lie in it.
     pub channel_names: Vec<Name>,
 }
 
@@ -26,14 +26,14 @@ impl Draft {
         ensures signals { result.signals ≡ signals }
         ensures gates { result.gates ≡ gates }
         ensures agents { (result.blocks.items ≡ []) × (result.sets.items ≡ []) × (result.agent_names.items ≡ []) }
-        ensures channels { (result.channels.items ≡ []) × (result.channel_names.items ≡ []) }
+        ensures channels { (result.listed_blocks ≡ 0) × (result.channel_names.items ≡ []) }
     {
         Draft {
             signals,
             blocks: Vec::new(alloc),
             sets: Vec::new(alloc),
             gates,
-            channels: Vec::new(alloc),
+            listed_blocks: 0,
             agent_names: Vec::new(alloc),
             channel_names: Vec::new(alloc),
         }

@@ -2,7 +2,7 @@
 ghost use Rattle.std.specs.Prelude.{◌≡◌, ◌≤◌, pos, Some, IfOk, IfErr, OnOk};
 ghost use Rattle.sdl_tables.specs.Tables.{integer_at, integer_or, HasKindAt};
 ghost use Rattle.toml.specs.View.{table_view};
-ghost use Rattle.sdl_structure.specs.File.{IsFileOf};
+ghost use Rattle.sdl_structure.specs.File.{IsFileOf, version_number};
 ghost use Rattle.sdl_tables.specs.Faults.{IsBroken, IsOfFile};
 ghost use Rattle.sdl_tables.specs.Walks.{file_of, own, IsHere};
 ghost use Rattle.sdl_parts.specs.Lists.{structure_of};
@@ -40,10 +40,10 @@ fn read_top(alloc: Global, top: &Walk) -> Result<(Name, u32, Lists), FileFault>
     let signals = read_signals(alloc, top)?;
     let gates = read_gates(alloc, top, Owner::System, signals.as_slice())?;
     let mut draft = Draft::new(alloc, signals, gates);
-    draft.read_blocks(alloc, top)?;
+    let mut inner = draft.read_blocks(alloc, top)?;
     let mut channels = draft.read_channels(alloc, top, Scope::System)?;
     top.only_known_keys()?;
-    channels.append(&mut draft.channels)?;
+    channels.append(&mut inner)?;
     let Draft {
         signals,
         blocks,
@@ -64,12 +64,12 @@ fn read_top(alloc: Global, top: &Walk) -> Result<(Name, u32, Lists), FileFault>
     ))
 }
 
-/// The version, which is 1.
+/// The version, which is 1 or 2.
 fn read_version(top: &Walk) -> Result<(), FileFault>
     requires here { IsHere top.now }
     requires part { top.now.place.part ≡ Part.System }
     ensures kind { OnOk result (HasKindAt (own top.now) Key.Version) }
-    ensures one { OnOk result (integer_at Key.Version (own top.now) ≡ Some (pos 1)) }
+    ensures known { OnOk result (integer_at Key.Version (own top.now) ≡ Some (version_number top.now.version)) }
     ensures fault { IfErr result (IsBroken (file_of top.now)) }
     ensures of_file { IfErr result IsOfFile }
 {

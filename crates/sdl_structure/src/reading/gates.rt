@@ -22,7 +22,7 @@ pub fn read_gates(
     signals: &[SignalDecl],
 ) -> Result<Vec<Gate>, FileFault>
     requires here { IsHere walk.now }
-    requires listed { is_key walk.now.place.part Key.Gate ≡ true }
+    requires listed { is_key walk.now.version walk.now.place.part Key.Gate ≡ true }
     requires signals { AllZip IsSignalTable (tables_at Key.Signal (file_of walk.now)) signals.now }
     requires few { length signals.now ≤ 64 }
     ensures kind { IfOk result (λ _. HasKindAt (own walk.now) Key.Gate) }
@@ -53,7 +53,7 @@ fn read_gate(
     taken: &mut Vec<Name>,
 ) -> Result<Gate, FileFault>
     requires here { IsHere walk.now }
-    requires keys { keys_of walk.now.place.part ≡ gate_keys }
+    requires keys { keys_of walk.now.version walk.now.place.part ≡ gate_keys }
     requires before { name_texts taken.old.items ≡ names_before (file_of walk.now) walk.now.place }
     requires signals { AllZip IsSignalTable (tables_at Key.Signal (file_of walk.now)) signals.now }
     requires few { length signals.now ≤ 64 }

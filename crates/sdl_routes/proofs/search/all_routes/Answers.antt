@@ -6,7 +6,7 @@ use Rattle.sdl_routes.proofs.Found.{found_enter, found_leave}
 use Rattle.sdl_routes.proofs.Walks.{no_empty, numbers_below, first_skipped, first_taken}
 use Rattle.sdl_routes.proofs.Collecting.{collected_moves, all_counted, all_kept}
 use Rattle.sdl_routes.proofs.search.all_routes.Goals as goal
-use Rattle.sdl_routes.proofs.search.all_routes.Goals.{then-carries+in_ok-extend, else-carries}
+use Rattle.sdl_routes.proofs.search.all_routes.Goals.{then-may_start+then-carries+in_ok-extend, else-may_start, else-may_start-via-then-may_start+else-carries, else-may_start-via-else-may_start}
 
 pub loop-number-init : goal.loop-number-init
 loop-number-init c =
@@ -21,14 +21,21 @@ loop-number-preserved c =
     let x : ℕ = c.loop-signal_number.signal_number in
     let n : ℕ = c.loop-number.number in
     let hop = c.numbered-hop.result in
-    elim c.if-carries.branch [
-      | then-carries+in_ok-extend w ↦
+    elim c.if-may_start.branch [
+      | then-may_start+then-carries+in_ok-extend w ↦
           rw w.collected-is (collected_moves s (place_behind (place (record { 0 = x }) (hop ∷ []))) (x ∷ (n + 1) ∷ []) w.extend.new.collected
           (λ rows h. first_taken s (record { 0 = x }) hop n rows c.numbered-hop.ensures h) w.in_ok-extend.ensures.found)
-      | else-carries w ↦
-          rw w.collected-is (collected_moves s (x ∷ n ∷ []) (x ∷ (n + 1) ∷ []) c.loop-number.collected
-          (λ rows h. first_skipped s (record { 0 = x }) hop n rows (λ carries. let e : false ≡ true = w.if-carries.ensures.1 carries in cc) c.numbered-hop.ensures h)
-          c.loop-number.invariant)
+      | else-may_start w ↦
+          elim w.else-may_start.branch [
+            | else-may_start-via-then-may_start+else-carries w' ↦
+                rw w.collected-is (collected_moves s (x ∷ n ∷ []) (x ∷ (n + 1) ∷ []) c.loop-number.collected
+                (λ rows h. first_skipped s (record { 0 = x }) hop n rows (λ (may, carries). let e : false ≡ true = w'.if-carries.ensures.1 carries in cc) c.numbered-hop.ensures h)
+                c.loop-number.invariant)
+            | else-may_start-via-else-may_start w' ↦
+                rw w.collected-is (collected_moves s (x ∷ n ∷ []) (x ∷ (n + 1) ∷ []) c.loop-number.collected
+                (λ rows h. first_skipped s (record { 0 = x }) hop n rows (λ (may, carries). let e : false ≡ true = w'.if-may_start.ensures.1 may in cc) c.numbered-hop.ensures h)
+                c.loop-number.invariant)
+          ]
     ]
 
 pub loop-signal_number-preserved : goal.loop-signal_number-preserved

@@ -14,7 +14,7 @@ inner-requires c =
     let vs = c.in_ok-tables.tables.now in
     let e = element key.Signal (own c.args.top.now) vs c.loop-index.index c.index-tables-index.result c.in_ok-tables.ensures.tables c.in_ok-tables.ensures.each c.loop-index-test.true c.index-tables-index.is in
     let few : length vs < 65536 = grind (arith, nat_tests, c.in_ok-tables.ensures.few) in
-    record { here = c.requires.here; listed = rw c.requires.part refl; kind = refl; table = e.table; there = e.there; within = e.within; few = omega (arith, few) }
+    record { here = c.requires.here; listed = rw c.requires.part refl; kind = refl; table = e.table; there = e.there; within = e.within; few = omega (arith, few); no_block = λ e. cc }
 
 pub read_signal-requires : goal.read_signal-requires
 read_signal-requires c = record {

@@ -4,6 +4,6 @@ use Rattle.sdl_ends.proofs.marks.Marks.join.Given as goal
 
 abbrev pub invariant-loop-place : goal.invariant-loop-place
 invariant-loop-place l =
-    (length l.self.words ≡ 3)
+    (length l.self.words ≡ 4)
     × ((j : ℕ) → j < l.place → get_or l.self.words j 0 ≡ bit_or (get_or l.fn.self.words j 0) (get_or l.others.words j 0))
     × ((j : ℕ) → l.place ≤ j → get_or l.self.words j 0 ≡ get_or l.fn.self.words j 0)

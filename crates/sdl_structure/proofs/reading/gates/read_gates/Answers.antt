@@ -14,12 +14,12 @@ inner-requires c =
     let vs = c.in_ok-tables.tables.now in
     let e = element key.Gate (own c.args.walk.now) vs c.loop-index.index c.index-tables-index.result c.in_ok-tables.ensures.tables c.in_ok-tables.ensures.each c.loop-index-test.true c.index-tables-index.is in
     let few : length vs < 65536 = grind (arith, nat_tests, c.in_ok-tables.ensures.few) in
-    record { here = c.requires.here; listed = c.requires.listed; kind = refl; table = e.table; there = e.there; within = e.within; few = omega (arith, few) }
+    record { here = c.requires.here; listed = c.requires.listed; kind = refl; table = e.table; there = e.there; within = e.within; few = omega (arith, few); no_block = λ e. cc }
 
 pub read_gate-requires : goal.read_gate-requires
 read_gate-requires c = record {
   here = c.inner.ensures.here;
-  keys = gate_keys_inside c.args.walk.now.place c.inner.result.place c.loop-index.index c.requires.listed c.inner.ensures.place;
+  keys = rw c.inner.ensures.version (gate_keys_inside c.args.walk.now.version c.args.walk.now.place c.inner.result.place c.loop-index.index c.requires.listed c.inner.ensures.place);
   before = c.loop-index.invariant.names ∙ sym (before_gate c.args.walk.now c.inner.result c.loop-index.index (map table_in c.in_ok-tables.tables.now) c.requires.here c.requires.listed c.inner.ensures.file c.inner.ensures.place c.in_ok-tables.ensures.tables);
   signals = rw c.inner.ensures.file c.requires.signals;
   few = c.requires.few;

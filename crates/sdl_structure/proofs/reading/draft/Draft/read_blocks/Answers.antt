@@ -1,60 +1,67 @@
-use Rattle.std.proofs.Common.{arith, ◌≡◌, ℕ, ◌+◌, ◌<◌, ◌≤◌, false, nat_lt, length, take, map, ap, sym, subst, refl, ◌∙◌}
+use Rattle.std.proofs.Common.{◌≡◌, ◌+◌, ◌<◌, ◌≤◌, length, map, take, ap, sym, subst, ◌∙◌, arith}
+use Rattle.std.specs.Prelude.{IfOk}
 use Rattle.std.proofs.lemmas.List.{length-map}
-use Rattle.std.proofs.lemmas.Bool.Decides.{nat_tests}
+use Rattle.sdl_parts.specs.declared.parts.Scope.TheVariants as scope
 use Rattle.sdl_tables.specs.declared.place.Key.TheVariants as key
 use Rattle.sdl_tables.specs.Keys.{is_key}
-use Rattle.sdl_tables.specs.Tables.{table_in, tables_at}
-use Rattle.sdl_tables.specs.Walks.{file_of, own}
-use Rattle.sdl_structure.specs.Drafts.{HasBlocks}
-use Rattle.sdl_tables.proofs.ListLemmas.{element, take_map_all}
+use Rattle.sdl_tables.specs.Versions.{most_blocks}
+use Rattle.sdl_tables.specs.Tables.{tables_at, table_in}
+use Rattle.sdl_tables.specs.Blocks.{block_tables, listed_in}
+use Rattle.sdl_tables.specs.Faults.{so_far}
+use Rattle.sdl_tables.specs.Walks.{file_of}
+use Rattle.sdl_structure.specs.Drafts.{ComesTo, HasRead, entering, tables_of}
 use Rattle.sdl_tables.proofs.PlaceLemmas.{top_is}
+use Rattle.sdl_structure.proofs.FileLemmas.{some_blocks}
+use Rattle.sdl_structure.proofs.TurnLemmas.{on_both}
 use Rattle.sdl_structure.proofs.reading.draft.Draft.read_blocks.Goals as goal
 
-most : (n : ℕ) → nat_lt 16 n ≡ false → n ≤ 16
-most n few = grind (arith, nat_tests)
+pub read_list-requires-clause-listed : goal.read_list-requires-clause-listed
+read_list-requires-clause-listed c = ap (λ q. is_key c.args.top.now.version q key.Block) c.requires.part
 
-under : (i n m : ℕ) → i < n → n ≤ 16 → 16 ≤ m → i < m
-under i n m h few limit = omega arith
-
-small : 16 ≤ 65536
-small = omega arith
-
-pub inner-requires : goal.inner-requires
-inner-requires c =
+pub read_list-requires-clause-counted : goal.read_list-requires-clause-counted
+read_list-requires-clause-counted c =
+    let w = c.args.top.now in
     let vs = c.in_ok-tables.tables.now in
-    let i = c.loop-index.index in
-    let e = element key.Block (own c.args.top.now) vs i c.index-tables-index.result c.in_ok-tables.ensures.tables c.in_ok-tables.ensures.each c.loop-index-test.true c.index-tables-index.is in
-    record {
-      here = c.requires.here;
-      listed = ap (λ q. is_key q key.Block) c.requires.part;
-      kind = refl;
-      table = e.table;
-      there = e.there;
-      within = e.within;
-      few = under i (length vs) 65536 c.loop-index-test.true (most (length vs) c.in_ok-tables.ensures.few) small;
-    }
+    let o = top_is w c.requires.here c.requires.part in
+    let held : length (tables_at key.Block (file_of w)) ≡ length vs = ap (λ m. length (tables_at key.Block m)) (sym o) ∙ (ap (λ us. length us) c.in_ok-tables.ensures.tables ∙ length-map vs table_in) in
+    subst (λ q. c.args.self.now.listed_blocks + length vs ≡ so_far (file_of w) q key.Block w.place.block) (sym c.requires.part) (omega (arith, held, c.requires.none.1))
 
-pub read_block-requires-clause-part : goal.read_block-requires-clause-part
-read_block-requires-clause-part c = ap (λ p. p.part) c.inner.ensures.place ∙ rw c.requires.part refl
+pub read_list-requires-clause-all : goal.read_list-requires-clause-all
+read_list-requires-clause-all c =
+    let w = c.args.top.now in
+    let root = file_of w in
+    let nothing : listed_in w.version (take (length c.args.self.now.blocks.items) (block_tables root)) ≡ 0 = ap (λ k. listed_in w.version (take k (block_tables root))) c.requires.none.0 in
+    subst (λ q. so_far root q key.Block w.place.block ≡ length (tables_at key.Block root) + listed_in w.version (take (length c.args.self.now.blocks.items) (block_tables root))) (sym c.requires.part) (omega (arith, nothing))
 
-pub read_block-requires-clause-read : goal.read_block-requires-clause-read
-read_block-requires-clause-read c = subst (λ r. HasBlocks r (take c.loop-index.index (tables_at key.Block r)) c.loop-index.self) (sym c.inner.ensures.file) c.loop-index.invariant
-
-pub loop-index-preserved : goal.loop-index-preserved
-loop-index-preserved c =
-    subst (λ r. HasBlocks r (take (c.loop-index.index + 1) (tables_at key.Block r)) c.read_block.new.self) c.inner.ensures.file c.in_ok-read_block.ensures.read
+pub read_list-requires-clause-read : goal.read_list-requires-clause-read
+read_list-requires-clause-read c =
+    let w = c.args.top.now in
+    let o = top_is w c.requires.here c.requires.part in
+    subst (λ us. ComesTo (file_of w) c.args.self.now scope.System 1 us) (ap (λ m. tables_at key.Block m) (sym o) ∙ c.in_ok-tables.ensures.tables) c.requires.read
 
 pub returns-clause-read : goal.returns-clause-read
 returns-clause-read c =
     let w = c.args.top.now in
-    let vs = c.in_ok-tables.tables.now in
-    let held = subst (λ m. tables_at key.Block m ≡ map table_in vs) (top_is w c.requires.here c.requires.part) c.in_ok-tables.ensures.tables in
-    subst (λ ts. HasBlocks (file_of w) ts c.loop-index.self) (ap (λ ts. take c.loop-index.index ts) held ∙ take_map_all table_in vs c.loop-index.index c.loop-index-test.false ∙ sym held) c.loop-index.invariant
+    let o = top_is w c.requires.here c.requires.part in
+    subst (λ us. IfOk c.read_list.result (λ channels. HasRead (file_of w) c.args.self.now scope.System 1 us channels.items c.read_list.new.self)) (sym c.in_ok-tables.ensures.tables ∙ ap (λ m. tables_at key.Block m) o) c.read_list.ensures.read
 
 pub returns-clause-some : goal.returns-clause-some
 returns-clause-some c =
     let w = c.args.top.now in
+    let root = file_of w in
+    let d = c.args.self.now in
+    let e = c.read_list.new.self in
     let vs = c.in_ok-tables.tables.now in
-    let held = subst (λ m. tables_at key.Block m ≡ map table_in vs) (top_is w c.requires.here c.requires.part) c.in_ok-tables.ensures.tables in
-    let count : length (tables_at key.Block (file_of w)) ≡ length vs = ap (λ ts. length ts) held ∙ length-map vs table_in in
-    (subst (λ n. 0 < n) (sym count) c.in_ok-tables.ensures.some, subst (λ n. n ≤ 16) (sym count) (most (length vs) c.in_ok-tables.ensures.few))
+    let o = top_is w c.requires.here c.requires.part in
+    let whole : map table_in vs ≡ tables_at key.Block root = sym c.in_ok-tables.ensures.tables ∙ ap (λ m. tables_at key.Block m) o in
+    let long : length vs ≡ length (tables_at key.Block root) = sym (length-map vs table_in) ∙ ap (λ us. length us) whole in
+    on_both c.read_list.result (λ channels. HasRead root d scope.System 1 (map table_in vs) channels.items e)
+    (e.listed_blocks ≡ d.listed_blocks + length vs + listed_in w.version (tables_of (entering root d scope.System 1 (map table_in vs)))) (e.listed_blocks ≤ most_blocks w.version)
+    ((0 < length e.blocks.items) × (length e.blocks.items ≤ most_blocks w.version))
+    (λ channels read counted few.
+    subst (λ v. (0 < length e.blocks.items) × (length e.blocks.items ≤ most_blocks v)) (sym c.requires.here.version)
+    (some_blocks root d e channels.items c.requires.none.0 (subst (λ us. HasRead root d scope.System 1 us channels.items e) whole read) (length vs) long c.in_ok-tables.ensures.some
+    (subst (λ v. e.listed_blocks ≡ length vs + listed_in v (tables_of (entering root d scope.System 1 (tables_at key.Block root)))) c.requires.here.version
+    (subst (λ us. e.listed_blocks ≡ length vs + listed_in w.version (tables_of (entering root d scope.System 1 us))) whole (omega (arith, counted, c.requires.none.1))))
+    (subst (λ v. e.listed_blocks ≤ most_blocks v) c.requires.here.version few)))
+    c.read_list.ensures.read c.read_list.ensures.counted c.read_list.ensures.few

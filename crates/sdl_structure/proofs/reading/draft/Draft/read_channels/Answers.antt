@@ -7,14 +7,14 @@ use Rattle.sdl_structure.specs.File.{IsChannelTable}
 use Rattle.sdl_tables.specs.Walks.{file_of, own}
 use Rattle.sdl_structure.specs.Drafts.{blocks_before}
 use Rattle.sdl_tables.proofs.ListLemmas.{element, read_more, all_read, zip_map}
-use Rattle.sdl_structure.proofs.ChannelLemmas.{serves_in, scope_lists, names_before_channel, other_names, channel_joins}
+use Rattle.sdl_structure.proofs.ChannelLemmas.{serves_in, scope_lists, names_before_channel, other_names, channel_joins, few_names}
 use Rattle.sdl_structure.proofs.reading.draft.Draft.read_channels.Goals as goal
 
 pub inner-requires : goal.inner-requires
 inner-requires c =
     let vs = c.in_ok-tables.tables.now in
     let e = element key.Channel (own c.args.walk.now) vs c.loop-index.index c.index-tables-index.result c.in_ok-tables.ensures.tables c.in_ok-tables.ensures.each c.loop-index-test.true c.index-tables-index.is in
-    record { here = c.requires.here; listed = scope_lists c.args.scope c.args.walk.now.place c.requires.scope; kind = refl; table = e.table; there = e.there; within = e.within; few = omega arith }
+    record { here = c.requires.here; listed = scope_lists c.args.walk.now.version c.args.scope c.args.walk.now.place c.requires.scope; kind = refl; table = e.table; there = e.there; within = e.within; few = omega arith; no_block = λ e. cc }
 
 pub read_channel-requires-clause-before : goal.read_channel-requires-clause-before
 read_channel-requires-clause-before c =
@@ -49,5 +49,4 @@ returns-clause-apart c = c.loop-index.invariant.read.apart
 pub returns-clause-few : goal.returns-clause-few
 returns-clause-few c =
     let all = all_read (λ m ch. IsChannelTable c.args.self.now.signals.items c.args.self.now.blocks.items c.args.self.now.sets.items c.args.self.now.gates.items (c.args.scope, m) ch) (channel_names (blocks_before (file_of c.args.walk.now) c.args.scope)) (tables_at key.Channel (own c.args.walk.now)) c.in_ok-tables.tables.now c.loop-index.index c.loop-index.channels.items c.loop-index.self.channel_names.items c.in_ok-tables.ensures.tables c.loop-index-test.false c.loop-index.invariant.read in
-    let len = all.len in
-    grind (arith, nat_tests)
+    few_names c.args.self.now.channel_names.items c.loop-index.self.channel_names.items (channel_names (blocks_before (file_of c.args.walk.now) c.args.scope)) (tables_at key.Channel (own c.args.walk.now)) c.in_ok-tables.tables.now c.requires.names all.names c.in_ok-tables.ensures.tables (grind (arith, nat_tests))

@@ -18,18 +18,18 @@ maximum_high : pos 1024 ≤ℤ greatest_of key.Maximum
 maximum_high = omega (arith, ints)
 
 pub new_name-requires : goal.new_name-requires
-new_name-requires c = record { here = c.requires.here; listed = ap (λ q. is_key q key.Name) c.requires.part; before = c.requires.before }
+new_name-requires c = record { here = c.requires.here; listed = ap (λ q. is_key c.args.walk.now.version q key.Name) c.requires.part; before = c.requires.before }
 
 pub integer_or-requires : goal.integer_or-requires
-integer_or-requires c = record { here = c.requires.here; listed = ap (λ q. is_key q key.Initial) c.requires.part; kind = refl; free = refl; low = initial_low; high = initial_high }
+integer_or-requires c = record { here = c.requires.here; listed = ap (λ q. is_key c.args.walk.now.version q key.Initial) c.requires.part; kind = refl; free = refl; low = initial_low; high = initial_high }
 
 pub integer_or-requires-2 : goal.integer_or-requires-2
-integer_or-requires-2 c = record { here = c.requires.here; listed = ap (λ q. is_key q key.Maximum) c.requires.part; kind = refl; free = refl; low = maximum_low; high = maximum_high }
+integer_or-requires-2 c = record { here = c.requires.here; listed = ap (λ q. is_key c.args.walk.now.version q key.Maximum) c.requires.part; kind = refl; free = refl; low = maximum_low; high = maximum_high }
 
 pub read_gates-requires : goal.read_gates-requires
 read_gates-requires c = record {
   here = c.requires.here;
-  listed = ap (λ q. is_key q key.Gate) c.requires.part;
+  listed = ap (λ q. is_key c.args.walk.now.version q key.Gate) c.requires.part;
   signals = rw c.as_slice.ensures.value c.requires.signals.named;
   few = rw c.as_slice.ensures.value c.requires.signals.few;
 }
