@@ -1,5 +1,5 @@
 //! The environment's step where each queue has ends of its own.
-ghost use Rattle.std.specs.Prelude.{◌≡◌, ◌≢◌, ◌≤◌, ◌<◌, ℕ, List, length, [], true, false, Option, Some, None, IfOk};
+ghost use Rattle.std.specs.Prelude.{◌≡◌, ◌≢◌, ◌≤◌, ℕ, List, length, [], true, false, Option, Some, None, IfOk};
 ghost use Rattle.sdl_signal.specs.declared.values.Item.{Item};
 ghost use Rattle.sdl_lines.specs.Bytes.{HasNoNewline};
 ghost use Rattle.sdl_lines.specs.Source.{HoldsLine};
@@ -105,14 +105,6 @@ impl EnvApart {
         ensures asks { result ≡ false → (self.now.worker.ended ≡ None) × (self.now.worker.reading.source.ended ≡ None) × HasNoNewline self.now.worker.reading.source.ahead × (length self.now.worker.reading.source.ahead ≤ 320) }
     {
         self.worker.is_ready()
-    }
-
-    /// Whether a part of a line was read ahead after which the reader has more at once, as far as can be told: it gave as many
-    /// bytes as it was asked for, and they end within a line. It is asked where the worker is not ready, and is a hint.
-    pub fn breaks_off(&self) -> bool
-        ensures { result ≡ true → (self.now.worker.ended ≡ None) × (self.now.worker.reading.source.ended ≡ None) × (0 < length self.now.worker.reading.source.ahead) }
-    {
-        self.worker.breaks_off()
     }
 
     /// The part of a step that reads nothing: it takes one item and writes its line. With it, who would wait for the reader can

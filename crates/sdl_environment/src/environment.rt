@@ -1,5 +1,5 @@
 //! The environment at work: it reads lines and outputs their signals, and writes what it receives as lines.
-ghost use Rattle.std.specs.Prelude.{◌≡◌, ◌≢◌, ◌≤◌, ◌<◌, ℕ, List, length, [], true, false, Option, Some, None, All, IfOk};
+ghost use Rattle.std.specs.Prelude.{◌≡◌, ◌≢◌, ◌≤◌, ℕ, List, length, [], true, false, Option, Some, None, All, IfOk};
 ghost use Rattle.sdl_lines.specs.Bytes.{HasNoNewline};
 ghost use Rattle.sdl_lines.specs.Source.{HoldsLine};
 ghost use Rattle.sdl_lines.specs.declared.sources.Ended.{Ended};
@@ -84,13 +84,6 @@ impl EnvWorker {
         ensures asks { result ≡ false → (self.now.ended ≡ None) × (self.now.reading.source.ended ≡ None) × HasNoNewline self.now.reading.source.ahead × (length self.now.reading.source.ahead ≤ 320) }
     {
         self.ended.is_some() || self.reader.is_ready()
-    }
-
-    /// Whether a part of a line waits after which the reader has more at once, as far as can be told.
-    pub(crate) fn breaks_off(&self) -> bool
-        ensures { result ≡ true → (self.now.ended ≡ None) × (self.now.reading.source.ended ≡ None) × (0 < length self.now.reading.source.ahead) }
-    {
-        self.ended.is_none() && self.reader.breaks_off()
     }
 
     /// A step. It puts out what is in hand. Unless its reading has ended, it reads one line and outputs its signal, with the

@@ -1,5 +1,5 @@
 //! The bytes that were read from an input and not yet handed out.
-ghost use Rattle.std.specs.Prelude.{◌≡◌, ◌+◌, ◌-◌, ◌<◌, ◌≤◌, true, [], ◌++◌, length, take, drop, slice_range};
+ghost use Rattle.std.specs.Prelude.{◌≡◌, ◌+◌, ◌-◌, ◌<◌, ◌≤◌, [], ◌++◌, length, take, drop, slice_range};
 ghost use Rattle.std.specs.Io.KnownBytes.{ReadConsumes};
 ghost use Rattle.sdl_lines.specs.Source.{IsBlockRead, IsFilled};
 
@@ -78,13 +78,6 @@ impl Ahead {
         ensures { result.now ≡ self.now }
     {
         &self.block[self.start..self.end]
-    }
-
-    /// Whether the last read filled the block to its end, and bytes of it still wait.
-    pub fn is_left_full(&self) -> bool
-        ensures { result ≡ true → 0 < length self.now }
-    {
-        self.end == BLOCK && !self.as_slice().is_empty()
     }
 
     /// Hands out the first bytes.

@@ -146,14 +146,6 @@ impl LineSource {
         self.ended.is_some() || shown > LONGEST_LINE || newline_place(&waiting[..shown]).is_some()
     }
 
-    /// Whether a part of a line waits after which more is to be had at once, as far as can be told: the last read filled the
-    /// block to its end. It is asked where no whole line waits.
-    pub fn breaks_off(&self) -> bool
-        ensures { result ≡ true → (self.now.ended ≡ None) × (0 < length self.now.ahead) }
-    {
-        self.ended.is_none() && self.ahead.is_left_full()
-    }
-
     #[inline(always)]
     fn see_open<R: Read>(&mut self, input: &mut R) -> Seen
         requires { self.old.ended ≡ None }

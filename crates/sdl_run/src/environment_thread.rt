@@ -33,12 +33,6 @@ pub struct EnvironmentThread<'e, 'i, 'o, I, O> {
 const FLUSHED_AT: u32 = 4;
 
 impl<'e, 'i, 'o, I: Read, O: Write> EnvironmentThread<'e, 'i, 'o, I, O> {
-    /// Whether the next step is not held back until the others rest: it waits for no reader, or for one that had more to give
-    /// when it was read last. That one broke off within a line, so that nobody waits there for an answer.
-    fn reads_on(&self) -> bool {
-        self.environment.is_ready() || self.environment.breaks_off()
-    }
-
     /// A step that asks no reader took an item or found none. Where several in a row found none, the output is flushed. A fault of
     /// the writer is told by whoever writes next.
     fn lets_out(&mut self, received: Stepped)
@@ -91,7 +85,7 @@ impl<'e, 'i, 'o, I: Read, O: Write> Work for EnvironmentThread<'e, 'i, 'o, I, O>
         may_ask: bool,
     ) -> Stepped {
         let routed = RoutedStructure { structure, routes };
-        if self.reads_on() {
+        if self.environment.is_ready() {
             self.idle_steps = 0;
             return self
                 .environment
@@ -110,7 +104,7 @@ impl<'e, 'i, 'o, I: Read, O: Write> Work for EnvironmentThread<'e, 'i, 'o, I, O>
     }
 
     fn asks_outside(&self) -> bool {
-        !self.reads_on()
+        !self.environment.is_ready()
     }
 
     fn mark(&self) -> u32 {

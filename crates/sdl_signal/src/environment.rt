@@ -1,5 +1,5 @@
 //! The environment's reading of an input: its lines, read as signals, up to the end, a fault or the limit.
-ghost use Rattle.std.specs.Prelude.{◌≡◌, ◌≤◌, ◌<◌, ℕ, true, false, List, length, [], Option, None, Some};
+ghost use Rattle.std.specs.Prelude.{◌≡◌, ◌≤◌, ℕ, true, false, List, length, [], Option, None, Some};
 ghost use Rattle.sdl_lines.specs.Bytes.{HasNoNewline};
 ghost use Rattle.sdl_signal.specs.declared.values.EnvLine.{EnvLine};
 ghost use Rattle.sdl_lines.specs.declared.sources.Ended.{Ended};
@@ -61,14 +61,6 @@ impl EnvReader {
         ensures asks { result ≡ false → (self.now.source.ended ≡ None) × HasNoNewline self.now.source.ahead × (length self.now.source.ahead ≤ 320) }
     {
         self.source.is_ready()
-    }
-
-    /// Whether a part of a line waits after which more is to be had at once, as far as can be told: the reader gave as many bytes
-    /// as it was asked for, and they end within a line. It is asked where the next answer is not ready.
-    pub fn breaks_off(&self) -> bool
-        ensures { result ≡ true → (self.now.source.ended ≡ None) × (0 < length self.now.source.ahead) }
-    {
-        self.source.breaks_off()
     }
 
     /// The next line, or how the reading ended. After an end it is called no more.

@@ -3,8 +3,8 @@ use Rattle.sdl_run.specs.Environment.{KeepsEnvironment}
 use Rattle.sdl_run.proofs.Environments.{goes_over, written_out}
 use Rattle.sdl_run.proofs.environment_thread.EnvironmentThreadWork.step.Goals as goal
 
-pub returns-then-reads_on-clause-keeps : goal.returns-then-reads_on-clause-keeps
-returns-then-reads_on-clause-keeps g c =
+pub returns-then-is_ready-clause-keeps : goal.returns-then-is_ready-clause-keeps
+returns-then-is_ready-clause-keeps g c =
     goes_over c.args.structure.now c.args.routes.now c.args.self.now.environment.now.worker c.args.self.now.environment.now.astray c.args.self.now.ends _ _ _ _ c.requires
     c.step.new.self.worker c.step.new.self.astray c.step.new.ends _ _ c.step.ensures.number c.step.ensures.keeps c.step.ensures.reading c.step.ensures.writing
 
