@@ -1,0 +1,7 @@
+mod Parts
+mod Picked
+mod Followed
+mod Summed
+mod Answered
+mod Passing
+pub mod Callers

@@ -1,0 +1,5 @@
+pub mod Sorting
+pub mod SameItems
+pub mod Growing
+pub mod Places
+pub mod Compared

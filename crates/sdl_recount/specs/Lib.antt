@@ -1,0 +1,4 @@
+pub mod Sorted
+pub mod Along
+pub mod Totals
+pub mod Trails
