@@ -1,5 +1,5 @@
 -- The last part of a step of the environment through its own ends, and the whole step.
-use Rattle.std.proofs.Common.{◌≡◌, ℕ, ◌≤◌, ◌||◌, inl, inr, Bool, true, false, Result, Ok, Err, List, [], ◌∷◌, ◌++◌, Option, None, Some, length, All, refl, ap, sym, ◌∙◌, subst, append-nil, true≢false, arith}
+use Rattle.std.proofs.Common.{◌≡◌, ℕ, ◌≤◌, ◌||◌, inl, inr, Bool, true, false, Result, Ok, Err, List, [], ◌∷◌, ◌++◌, Option, None, Some, Vec, IfOk, length, All, refl, ap, sym, ◌∙◌, subst, append-nil, true≢false, arith}
 use Rattle.std.specs.Option.{option_to_list}
 use Rattle.std.specs.Result.{IsErr}
 use Rattle.std.proofs.lemmas.Option.{none-some}
@@ -12,7 +12,7 @@ use Rattle.sdl_ends.specs.Ends.{WorkerEnds, put_at, taken_by}
 use Rattle.sdl_hand.specs.declared.hand.Refused.{Refused}
 use Rattle.sdl_outcome.specs.EnvironmentWork.{EnvWorking, IsEnvSound, IsLegalItem, GoesOut, ReadsOn}
 use Rattle.sdl_environment.specs.EnvPhases.{HasReadBy, HasWrittenBy}
-use Rattle.sdl_environment.specs.EnvApart.{EnvWorksApart}
+use Rattle.sdl_environment.specs.EnvApart.{EnvWorksApart, FoundRoom, TakesNextApart}
 use Rattle.sdl_environment.specs.EnvPhasesApart.{SendsApart, SendsNothing, SendsTo, SentOn, ReceivesApart, EnvStepsToApart}
 use Rattle.sdl_environment.proofs.EnvPieces.{no_readings, noted}
 use Rattle.sdl_environment.proofs.EnvReading.{read_same}
@@ -215,6 +215,43 @@ pub steps_on : (s : Structure) (rows : List TableRow) (worker : ℕ) (t : Bool) 
 steps_on s rows worker t old mid between new is after on receives =
     let (same, none) = receives_keep s rows worker t mid between new is after receives in
     (subst (SentOn old) (sym same) (record { hand = on.hand; read = on.read }), none)
+
+module _ {A : Type 0} (s : Structure) (rows : List TableRow) (worker : ℕ) (found : Vec Item A) where
+  -- what was taken is received, where nothing was refused
+  takes_alone : (t : Bool) (old : EnvWorking) (before : WorkerEnds) (new : EnvWorking) (is : Option Item) (after : WorkerEnds)
+      → ReceivesApart s rows worker old before (Ok t) new is after → FoundRoom old.received found → TakesNextApart old before found new after
+  takes_alone true old before new is after (i, takes, may, same, none) room =
+      record { room = room; taken = i ∷ []; takes = takes.taken; received = ap (λ (w : EnvWorking). w.received) same }
+  takes_alone false old before new is after (same, takes, none) room =
+      record {
+        room = room;
+        taken = [];
+        takes = takes.taken ∙ sym (append-nil (taken_by before));
+        received = ap (λ (w : EnvWorking). w.received) same ∙ sym (append-nil old.received);
+      }
+
+  pub takes_where_ok : (result : Result Bool Refused) (old : EnvWorking) (before : WorkerEnds) (new : EnvWorking) (is : Option Item) (after : WorkerEnds)
+      → ReceivesApart s rows worker old before result new is after → IfOk result (λ did. FoundRoom old.received found) → IfOk result (λ did. TakesNextApart old before found new after)
+  takes_where_ok (Ok t) old before new is after receives room = takes_alone t old before new is after receives room
+  takes_where_ok (Err r) old before new is after receives room = tt
+
+  -- a sending before it takes and receives nothing
+  pub takes_after_sending : (d t : Bool) (old : EnvWorking) (b0 : WorkerEnds) (mid : EnvWorking) (b1 : WorkerEnds) (new : EnvWorking) (is : Option Item) (b2 : WorkerEnds)
+      → SendsTo s rows worker old b0 (Ok d) mid b1 → IsEnvSound s rows worker old → ReceivesApart s rows worker mid b1 (Ok t) new is b2 → FoundRoom mid.received found → TakesNextApart old b0 found new b2
+  takes_after_sending d t old b0 mid b1 new is b2 sends sound receives room =
+      let a = sends_any s rows worker (Ok d) old b0 mid b1 sends sound in
+      let took = takes_alone t mid b1 new is b2 receives room in
+      record {
+        room = subst (λ (l : List Item). FoundRoom l found) a.received took.room;
+        taken = took.taken;
+        takes = took.takes ∙ ap (λ l. l ++ took.taken) a.takes;
+        received = took.received ∙ ap (λ l. l ++ took.taken) a.received;
+      }
+
+-- a receiving leaves what is in hand
+pub hand_after_receiving : (s : Structure) (rows : List TableRow) (worker : ℕ) (result : Result Bool Refused) (old : EnvWorking) (before : WorkerEnds) (new : EnvWorking) (is : Option Item) (after : WorkerEnds)
+    → ReceivesApart s rows worker old before result new is after → new.outgoing ≡ old.outgoing
+hand_after_receiving s rows worker result old before new is after receives = ap (λ (w : EnvWorking). w.outgoing) (receiving s rows worker result old before new is after receives).same
 
 -- what was read so far is not changed by a receiving, and what was written so far not by a sending
 pub read_after_receiving : (s : Structure) (rows : List TableRow) (worker own : ℕ) (start now : Option (List ℕ)) (result : Result Bool Refused) (old : EnvWorking) (before : WorkerEnds) (new : EnvWorking) (is : Option Item) (after : WorkerEnds)

@@ -1,5 +1,5 @@
 -- What the environment does in a step where each queue has ends of its own, and what its steps keep. (This project's own.)
-use Rattle.std.specs.Prelude.{◌≡◌, ◌≢◌, ℕ, ◌≤◌, List, [], ◌++◌, Option, Some, None, length, All}
+use Rattle.std.specs.Prelude.{◌≡◌, ◌≢◌, ℕ, ◌<◌, ◌≤◌, List, [], ◌++◌, Option, Some, None, length, All, Vec, vec_len, vec_capacity}
 use Rattle.std.specs.Option.{option_to_list}
 use Rattle.sdl_signal.specs.declared.values.Item.{Item}
 use Rattle.sdl_parts.specs.Structure.{Structure}
@@ -55,6 +55,19 @@ EnvStepsApart structure routes worker old was before Did new is after =
     (w : EnvWorksApart structure routes worker old was before new is after) × ((new.ended ≡ old.ended) × (w.outs ≡ []) × (w.put ≡ []) × (w.taken ≡ []) → ⊥)
 EnvStepsApart structure routes worker old was before Idle new is after = (new ≡ old) × (is ≡ was) × IsEnvIdleApart old was before after
 EnvStepsApart structure routes worker old was before Memory new is after = EnvWorksApart structure routes worker old was before new is after
+
+-- what was received, as it stood when there was room for one item more
+pub record FoundRoom {A : Type 0} (received : List Item) (found : Vec Item A) : Type 0 where
+  pub items : found.items ≡ received
+  pub room : vec_len found < vec_capacity found
+
+-- It took what was there, as far as a take through ends of its own can tell: there was room for one item more, and what it
+-- took is received. (Others may put at the outlet at any time, so that nothing waits there is not said.)
+pub record TakesNextApart {A : Type 0} (old : EnvWorking) (before : WorkerEnds) (found : Vec Item A) (new : EnvWorking) (after : WorkerEnds) : Type 0 where
+  pub room : FoundRoom old.received found
+  pub taken : List Item
+  pub takes : taken_by after ≡ taken_by before ++ taken
+  pub received : new.received ≡ old.received ++ taken
 
 -- What each step of the environment keeps. It is sound. All that its outputs sent was put, but what is in hand, each item at
 -- the first station of its route, in order. All that it took it received, in order, but what is astray, and that may not leave.

@@ -14,7 +14,7 @@ ghost use Rattle.sdl_hand.specs.PutsApart.{HaveWaysOut, PutsOutApart};
 ghost use Rattle.sdl_outcome.specs.EnvironmentWork.{IsEnvSound, HasReadSoFar, HasWrittenSoFar};
 ghost use Rattle.sdl_environment.specs.EnvSteps.{ReadsNext};
 ghost use Rattle.sdl_environment.specs.EnvPicks.{ReadsAt};
-ghost use Rattle.sdl_environment.specs.EnvApart.{EnvStepsApart, IsEnvPuttingOut, HasGateWays};
+ghost use Rattle.sdl_environment.specs.EnvApart.{EnvStepsApart, IsEnvPuttingOut, HasGateWays, FoundRoom, TakesNextApart};
 ghost use Rattle.sdl_environment.specs.EnvPhasesApart.{SendsTo, SentOn, ReceivesApart, TakesOne, EnvStepsToApart};
 
 use crate::environment::EnvWorker;
@@ -27,6 +27,7 @@ use sdl_parts::Structure;
 use sdl_routes::Routes;
 use sdl_signal::Item;
 use std::io::{Read, Write};
+use std::snapshot::Snapshot;
 use std::sync::Wait;
 
 /// The environment's worker where each queue has ends of its own, and the item that is astray: it was taken, and may not leave
@@ -35,6 +36,8 @@ use std::sync::Wait;
 pub struct EnvApart {
     pub worker: EnvWorker,
     pub astray: Option<Item>,
+    /// What was received, as it stood when there was room for one item more last; for contracts alone.
+    pub room: Snapshot<Vec<Item>>,
 }
 
 impl EnvApart {
@@ -43,9 +46,11 @@ impl EnvApart {
         ensures worker { result.worker ≡ worker }
         ensures astray { result.astray ≡ None }
     {
+        let room = Snapshot::of(&worker.received);
         EnvApart {
             worker,
             astray: None,
+            room,
         }
     }
 
@@ -79,6 +84,7 @@ impl EnvApart {
         ensures hand { result ≢ Memory → self.new.worker.outgoing ≡ [] }
         ensures read { result ≢ Memory → ReadsNext self.old.worker self.new.worker }
         ensures none { result ≢ Memory → self.new.astray ≡ None }
+        ensures taken { result ≢ Memory → TakesNextApart self.old.worker ends.old self.new.room.value self.new.worker ends.new }
         ensures astray { (i : Item) → self.old.astray ≡ Some i → (result ≡ Memory) × (self.new ≡ self.old) × (ends.new ≡ ends.old) }
         ensures reading { (start : Option (List ℕ)) → HasReadSoFar routed.entry.structure.now routed.entry.routes.now self.old.worker.number start (R.remaining input.old) self.old.worker
             → HasReadSoFar routed.entry.structure.now routed.entry.routes.now self.old.worker.number start (R.remaining input.new) self.new.worker }
@@ -121,6 +127,8 @@ impl EnvApart {
         requires routes { AreRoutesOf structure.now routes.now }
         requires keeps { IsEnvPuttingOut structure.now routes.now self.old.worker.number self.old.worker self.old.astray ends.old }
         ensures received { self.old.astray ≡ None → TakesOne structure.now routes.now self.old.worker.number self.old.worker ends.old result self.new.worker self.new.astray ends.new }
+        ensures taken { result ≢ Memory → TakesNextApart self.old.worker ends.old self.new.room.value self.new.worker ends.new }
+        ensures hand { self.new.worker.outgoing ≡ self.old.worker.outgoing }
         ensures astray { (i : Item) → self.old.astray ≡ Some i → (result ≡ Memory) × (self.new ≡ self.old) × (ends.new ≡ ends.old) }
         ensures reading { (start now : Option (List ℕ)) → HasReadSoFar structure.now routes.now self.old.worker.number start now self.old.worker
             → HasReadSoFar structure.now routes.now self.old.worker.number start now self.new.worker }
@@ -131,9 +139,15 @@ impl EnvApart {
         ensures ends { IsSameEnds ends.old ends.new }
     {
         if self.astray.is_none() {
-            let received = self
-                .worker
-                .receive_one_apart(rt, structure, routes, ends, output, &mut self.astray);
+            let received = self.worker.receive_one_apart(
+                rt,
+                structure,
+                routes,
+                ends,
+                output,
+                &mut self.astray,
+                &mut self.room,
+            );
             return answer_of(received);
         }
         Stepped::Memory
@@ -157,6 +171,7 @@ impl EnvApart {
         ensures step { EnvStepsToApart routed.entry.structure.now routed.entry.routes.now self.old.worker.number self.old.worker None ends.old result self.new.worker self.new.astray ends.new }
         ensures pick { ReadsAt routed.entry.routes.now pick self.old.worker self.new.worker }
         ensures on { IfOk result (λ did. SentOn self.old.worker self.new.worker × (self.new.astray ≡ None)) }
+        ensures taken { IfOk result (λ did. TakesNextApart self.old.worker ends.old self.new.room.value self.new.worker ends.new) }
         ensures reading { (start : Option (List ℕ)) → HasReadSoFar routed.entry.structure.now routed.entry.routes.now self.old.worker.number start (R.remaining input.old) self.old.worker
             → HasReadSoFar routed.entry.structure.now routed.entry.routes.now self.old.worker.number start (R.remaining input.new) self.new.worker }
         ensures writing { (start : Option (List ℕ)) → HasWrittenSoFar routed.entry.structure.now routed.entry.routes.now self.old.worker.number start (W.contents output.old) self.old.worker
@@ -170,9 +185,15 @@ impl EnvApart {
         let sent = self
             .worker
             .send_apart(rt, structure, routes, ends, pick, input)?;
-        let received = self
-            .worker
-            .receive_one_apart(rt, structure, routes, ends, output, &mut self.astray)?;
+        let received = self.worker.receive_one_apart(
+            rt,
+            structure,
+            routes,
+            ends,
+            output,
+            &mut self.astray,
+            &mut self.room,
+        )?;
         Ok(sent | received)
     }
 }
@@ -224,7 +245,8 @@ impl EnvWorker {
         self.hand.put_out_apart(rt, routes, ends)
     }
 
-    /// Takes an item, and writes its line. It says whether there was one. An item that may not leave is astray.
+    /// Takes an item, and writes its line. It says whether there was one. An item that may not leave is astray. Nothing is taken
+    /// before there is room for it in what was received.
     fn receive_one_apart<T: Wait, W: Write>(
         &mut self,
         rt: &T,
@@ -233,11 +255,13 @@ impl EnvWorker {
         ends: &mut Ends,
         output: &mut W,
         astray: &mut Option<Item>,
+        room: &mut Snapshot<Vec<Item>>,
     ) -> Result<bool, Refused>
         requires structure { IsStructure structure.now }
         requires routes { AreRoutesOf structure.now routes.now }
         requires none { astray.old ≡ None }
         ensures received { ReceivesApart structure.now routes.now self.old.number self.old ends.old result self.new astray.new ends.new }
+        ensures room { IfOk result (λ did. FoundRoom self.old.received room.new.value) }
         ensures writing { (start : Option (List ℕ)) → HasWrittenSoFar structure.now routes.now self.old.number start (W.contents output.old) self.old
             → HasWrittenSoFar structure.now routes.now self.old.number start (W.contents output.new) self.new }
         ensures ends { IsSameEnds ends.old ends.new }
@@ -245,6 +269,7 @@ impl EnvWorker {
         if self.received.reserve(1).is_err() {
             return Err(Refused);
         }
+        *room = Snapshot::of(&self.received);
         ends.take_into(rt, astray);
         let Some(item) = astray else {
             return Ok(false);

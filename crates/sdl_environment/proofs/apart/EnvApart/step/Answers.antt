@@ -15,6 +15,9 @@ returns-clause-read g c = λ not. (unrefused c.try_step.result c.try_step.ensure
 pub returns-clause-none : goal.returns-clause-none
 returns-clause-none g c = λ not. (unrefused c.try_step.result c.try_step.ensures.on (λ e. not (c.answer_of.ensures ∙ e))).1
 
+pub returns-clause-taken : goal.returns-clause-taken
+returns-clause-taken g c = λ not. unrefused c.try_step.result c.try_step.ensures.taken (λ e. not (c.answer_of.ensures ∙ e))
+
 pub returns-then-is_some-clause-step : goal.returns-then-is_some-clause-step
 returns-then-is_some-clause-step g c =
     works_none c.args.routed.structure.now c.args.routed.routes.now c.args.self.now.worker.number c.args.self.now.worker c.args.self.now.astray c.args.ends.now c.args.ends.now

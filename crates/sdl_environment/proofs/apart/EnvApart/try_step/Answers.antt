@@ -1,6 +1,6 @@
 use Rattle.std.proofs.Common.{Ok, Err}
 use Rattle.sdl_environment.proofs.EnvSending.{refused_none}
-use Rattle.sdl_environment.proofs.EnvReceiving.{steps_at_sending, steps_at_receiving, steps_apart, steps_on, read_after_receiving, written_after_sending}
+use Rattle.sdl_environment.proofs.EnvReceiving.{steps_at_sending, steps_at_receiving, steps_apart, steps_on, takes_after_sending, read_after_receiving, written_after_sending}
 use Rattle.sdl_environment.proofs.apart.EnvApart.try_step.Goals as goal
 
 pub returns-in_err-sent-clause-step : goal.returns-in_err-sent-clause-step
@@ -51,6 +51,25 @@ returns-clause-on g c =
     let mid = c.send_apart.new.self in
     let e1 = c.send_apart.new.ends in
     steps_on s rows old.number c.in_ok-received.received old mid e1 c.receive_one_apart.new.self c.receive_one_apart.new.astray c.receive_one_apart.new.ends c.in_ok-sent.ensures.on c.in_ok-received.ensures.received
+
+pub returns-in_err-sent-clause-taken : goal.returns-in_err-sent-clause-taken
+returns-in_err-sent-clause-taken g c =
+    refused_none _ c.from_residual.result c.from_residual.ensures.0
+
+pub returns-in_err-received-clause-taken : goal.returns-in_err-received-clause-taken
+returns-in_err-received-clause-taken g c =
+    refused_none _ c.from_residual-in_err-received.result c.from_residual-in_err-received.ensures.0
+
+pub returns-clause-taken : goal.returns-clause-taken
+returns-clause-taken g c =
+    let s = c.args.routed.structure.now in
+    let rows = c.args.routed.routes.now in
+    let old = c.args.self.now.worker in
+    let e0 = c.args.ends.now in
+    let mid = c.send_apart.new.self in
+    let e1 = c.send_apart.new.ends in
+    takes_after_sending s rows old.number c.receive_one_apart.new.room.value c.in_ok-sent.sent c.in_ok-received.received old e0 mid e1 c.receive_one_apart.new.self c.receive_one_apart.new.astray c.receive_one_apart.new.ends
+    c.in_ok-sent.ensures.sends c.requires.sound c.in_ok-received.ensures.received c.in_ok-received.ensures.room
 
 pub returns-in_err-received-clause-reading : goal.returns-in_err-received-clause-reading
 returns-in_err-received-clause-reading g c =
