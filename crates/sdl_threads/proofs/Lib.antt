@@ -1,3 +1,4 @@
 mod Instances
 pub mod Crossings
 pub mod Flushes
+pub mod Coming

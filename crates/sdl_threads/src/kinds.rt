@@ -23,6 +23,8 @@ impl<B: Work, F: Work> Work for Kind<B, F> {
 
     ghost station = { station_of_one B.station F.station };
 
+    ghost empty_handed = { KeepsOneOf B.empty_handed F.empty_handed };
+
     ghost itself = { SameOneOf-refl B.same F.same B.itself F.itself };
 
     ghost and_then = { SameOneOf-trans B.same F.same B.and_then F.and_then };

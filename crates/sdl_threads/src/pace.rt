@@ -1,4 +1,6 @@
 //! One worker's loop, and how it comes to rest.
+ghost use Rattle.std.specs.Prelude.{◌≡◌, false};
+
 use crate::lead::Lead;
 use crate::told::{ASLEEP, LISTENING, Told};
 use crate::work::{Stepped, Work};
@@ -514,6 +516,7 @@ pub(crate) fn drive<W: Work, G: Gate, R: Wait>(
     requires { W.keeps structure.now routes.now worker.old }
     ensures keeps { W.keeps structure.now routes.now worker.new }
     ensures same { W.same worker.old worker.new }
+    ensures hand { result ≡ false → W.empty_handed worker.old → W.empty_handed worker.new }
 {
     let mut idling = Idling::new(worker.mark());
     let mut step = 0u64;

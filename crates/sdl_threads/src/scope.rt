@@ -1,7 +1,10 @@
 //! All workers at once, each in a thread of a scope, and the environment's on the caller's.
-ghost use Rattle.std.specs.Prelude.{◌≡◌, ◌≤◌, ◌<◌, ◌^◌, [], vec_len, vec_capacity, IfOk, IfErr};
+ghost use Rattle.std.specs.Prelude.{◌≡◌, ◌≤◌, ◌<◌, ◌+◌, ◌^◌, [], ◌∷◌, ◌++◌, None, false, vec_len, vec_capacity, IfOk, IfErr, IfSome, IfNone, slice_index_or};
+ghost use Rattle.std.specs.List.{remove};
 ghost use Rattle.std.specs.List.{All, AllZip};
-ghost use Rattle.sdl_threads.specs.Back.{ComesFrom, came_back};
+ghost use Rattle.sdl_threads.specs.Back.{ComesFrom, ComesBackFrom, HandStaysEmpty, HaveCome, StartsLast, came_back};
+ghost use Rattle.sdl_threads.specs.declared.work.Returned.{Returned};
+ghost use Rattle.sdl_threads.specs.declared.kinds.Kind.{Kind};
 ghost use Rattle.sdl_threads.specs.Kinds.{KeepsOneOf, SameOneOf};
 
 use crate::kinds::Kind;
@@ -35,7 +38,7 @@ struct ComesBack<B, F> {
 }
 
 impl<B: Work, F: Work> Promise<Returned<Kind<B, F>>> for ComesBack<B, F> {
-    ghost kept_by = { λ p r. ComesFrom (KeepsOneOf (B.keeps p.structure.value p.routes.value) (F.keeps p.structure.value p.routes.value)) (SameOneOf B.same F.same) p.worker.value r };
+    ghost kept_by = { λ p r. ComesBackFrom (KeepsOneOf (B.keeps p.structure.value p.routes.value) (F.keeps p.structure.value p.routes.value)) (SameOneOf B.same F.same) (KeepsOneOf B.empty_handed F.empty_handed) p.worker.value r };
 }
 
 /// Lets the worker make its steps, where it stands, as `drive` does. Which kind it is, is told here, and not at each of its steps.
@@ -51,6 +54,7 @@ fn drive_kind<B: Work, F: Work, G: Gate, R: Wait>(
     requires { KeepsOneOf (B.keeps structure.now routes.now) (F.keeps structure.now routes.now) worker.old }
     ensures keeps { KeepsOneOf (B.keeps structure.now routes.now) (F.keeps structure.now routes.now) worker.new }
     ensures same { SameOneOf B.same F.same worker.old worker.new }
+    ensures hand { result ≡ false → KeepsOneOf B.empty_handed F.empty_handed worker.old → KeepsOneOf B.empty_handed F.empty_handed worker.new }
 {
     match worker {
         Kind::Block(block) => drive(rt, block, number, structure, routes, gate, told),
@@ -80,7 +84,7 @@ fn run_one<B: Work, F: Work, G: Gate, R: Wait>(
     told: &Told,
 ) -> Returned<Kind<B, F>>
     requires { KeepsOneOf (B.keeps structure.now routes.now) (F.keeps structure.now routes.now) worker }
-    ensures { ComesFrom (KeepsOneOf (B.keeps structure.now routes.now) (F.keeps structure.now routes.now)) (SameOneOf B.same F.same) worker result }
+    ensures { ComesBackFrom (KeepsOneOf (B.keeps structure.now routes.now) (F.keeps structure.now routes.now)) (SameOneOf B.same F.same) (KeepsOneOf B.empty_handed F.empty_handed) worker result }
 {
     if told.is_turned_away(number) {
         return Returned::NotStarted(worker);
@@ -111,7 +115,7 @@ fn start_one<
     requires { KeepsOneOf (B.keeps structure.now routes.now) (F.keeps structure.now routes.now) worker }
     ensures worker { IfOk result (λ thread. thread.promise.worker.value ≡ worker) }
     ensures system { IfOk result (λ thread. (thread.promise.structure.value ≡ structure.now) × (thread.promise.routes.value ≡ routes.now)) }
-    ensures back { IfErr result (λ back. ComesFrom (KeepsOneOf (B.keeps structure.now routes.now) (F.keeps structure.now routes.now)) (SameOneOf B.same F.same) worker back) }
+    ensures back { IfErr result (λ back. ComesBackFrom (KeepsOneOf (B.keeps structure.now routes.now) (F.keeps structure.now routes.now)) (SameOneOf B.same F.same) (KeepsOneOf B.empty_handed F.empty_handed) worker back) }
 {
     let promise = ComesBack {
         worker: Snapshot::of(&worker),
@@ -122,7 +126,7 @@ fn start_one<
         promise,
         move || -> Returned<Kind<B, F>>
             requires { KeepsOneOf (B.keeps structure.now routes.now) (F.keeps structure.now routes.now) worker }
-            ensures { ComesFrom (KeepsOneOf (B.keeps structure.entry.now routes.entry.now) (F.keeps structure.entry.now routes.entry.now)) (SameOneOf B.same F.same) worker result }
+            ensures { ComesBackFrom (KeepsOneOf (B.keeps structure.entry.now routes.entry.now) (F.keeps structure.entry.now routes.entry.now)) (SameOneOf B.same F.same) (KeepsOneOf B.empty_handed F.empty_handed) worker result }
         { run_one(rt, worker, number, structure, routes, gate, told) },
     );
     match started {
@@ -135,9 +139,150 @@ fn start_one<
     }
 }
 
-#[tactic(auto, using(std::proofs::lemmas::Slice::Zip::all_zipped_more))]
-/// Starts the last worker, then the rest beside it, and at last the environment's on this thread, whose number is this.
+/// Starts the last worker of the list in a thread of its own, and takes it off the list. Where that can't start, the worker comes back
+/// at once, behind those that are done. What it needs of the stack is free again when it returns.
+#[inline(never)]
+fn start_last<
+    's,
+    'e: 's,
+    B: Work + Send + Drop + 'e,
+    F: Work + Send + Drop + 'e,
+    G: Gate + 'e,
+    R: Threads + Wait + Sync + 'e,
+>(
+    scope: &'s Scope<'s, &'e ()>,
+    rt: &'e R,
+    workers: &mut Vec<Kind<B, F>>,
+    number_of_environment: u32,
+    done: &mut Vec<Returned<Kind<B, F>>>,
+    structure: &'e Structure,
+    routes: &'e Routes,
+    gate: &'e G,
+    told: &'e Told,
+) -> Option<PromisedHandle<Returned<Kind<B, F>>, ComesBack<B, F>>>
+    requires some { 0 < vec_len workers.old }
+    requires few { vec_len workers.old < 2 ^ 31 }
+    requires sound { All (KeepsOneOf (B.keeps structure.now routes.now) (F.keeps structure.now routes.now)) workers.old.items }
+    requires room { vec_len workers.old + vec_len done.old ≤ vec_capacity done.old }
+    ensures starts { StartsLast (λ w thread. (thread.promise.worker.value ≡ w) × (thread.promise.structure.value ≡ structure.now) × (thread.promise.routes.value ≡ routes.now))
+        (ComesBackFrom (KeepsOneOf (B.keeps structure.now routes.now) (F.keeps structure.now routes.now)) (SameOneOf B.same F.same) (KeepsOneOf B.empty_handed F.empty_handed)) workers.old.items workers.new.items done.old.items done.new.items result }
+    ensures room { vec_capacity done.new ≡ vec_capacity done.old }
+{
+    let Some(worker) = workers.pop() else {
+        unreachable!()
+    };
+    let place = workers.len() as u32;
+    let number = if place < number_of_environment {
+        place
+    } else {
+        place + 1
+    };
+    match start_one(scope, rt, worker, number, structure, routes, gate, told) {
+        Ok(thread) => Some(thread),
+        Err(turned_away) => {
+            done.push_reserved(turned_away);
+            None
+        }
+    }
+}
+
+/// Waits for a worker's thread, and adds the worker to those that are done. One without a thread is there already, at this place, and
+/// comes behind the others.
+#[inline(never)]
+fn come_last<B: Work + Drop, F: Work + Drop, R: Threads + Wait>(
+    rt: &R,
+    thread: Option<PromisedHandle<Returned<Kind<B, F>>, ComesBack<B, F>>>,
+    place: usize,
+    done: &mut Vec<Returned<Kind<B, F>>>,
+)
+    requires there { thread ≡ None → place < vec_len done.old }
+    requires room { IfSome thread (λ t. vec_len done.old < vec_capacity done.old) }
+    ensures joined { IfSome thread (λ t. (back : Returned (Kind B F)) × (done.new.items ≡ done.old.items ++ back ∷ [])
+        × ComesBackFrom (KeepsOneOf (B.keeps t.promise.structure.value t.promise.routes.value) (F.keeps t.promise.structure.value t.promise.routes.value)) (SameOneOf B.same F.same) (KeepsOneOf B.empty_handed F.empty_handed) t.promise.worker.value back) }
+    ensures moved { IfNone thread ((back : Returned (Kind B F)) × (back ≡ slice_index_or done.old.items place back) × (done.new.items ≡ remove done.old.items place ++ back ∷ [])) }
+    ensures room { vec_capacity done.new ≡ vec_capacity done.old }
+{
+    let back = match thread {
+        Some(thread) => thread.join(rt),
+        None => done.remove(place),
+    };
+    done.push_reserved(back);
+}
+
+/// Starts the last worker, then the rest beside it, and at last the environment's on this thread, whose number is this. It says whether
+/// memory was refused to the environment's last step. Each worker takes some stack until its thread has ended; so this hands on
+/// references alone, and what a worker takes itself is in functions of their own.
 fn run_rest<
+    's,
+    'e: 's,
+    B: Work + Send + Drop + 'e,
+    F: Work + Send + Drop + 'e,
+    E: Work,
+    G: Gate + 'e,
+    R: Threads + Wait + Sync + 'e,
+>(
+    scope: &'s Scope<'s, &'e ()>,
+    rt: &'e R,
+    workers: &mut Vec<Kind<B, F>>,
+    environment: &mut E,
+    number_of_environment: u32,
+    done: &mut Vec<Returned<Kind<B, F>>>,
+    structure: &'e Structure,
+    routes: &'e Routes,
+    gate: &'e G,
+    told: &'e Told,
+) -> bool
+    requires few { vec_len workers.old < 2 ^ 31 }
+    requires sound { All (KeepsOneOf (B.keeps structure.now routes.now) (F.keeps structure.now routes.now)) workers.old.items }
+    requires sound_environment { E.keeps structure.now routes.now environment.old }
+    requires room { vec_len workers.old + vec_len done.old ≤ vec_capacity done.old }
+    ensures workers { HaveCome (ComesBackFrom (KeepsOneOf (B.keeps structure.now routes.now) (F.keeps structure.now routes.now)) (SameOneOf B.same F.same) (KeepsOneOf B.empty_handed F.empty_handed)) workers.old.items done.old.items done.new.items }
+    ensures keeps { E.keeps structure.now routes.now environment.new }
+    ensures same { E.same environment.old environment.new }
+    ensures hand { result ≡ false → E.empty_handed environment.old → E.empty_handed environment.new }
+    ensures room { vec_capacity done.new ≡ vec_capacity done.old }
+{
+    if workers.is_empty() {
+        return drive(
+            rt,
+            environment,
+            number_of_environment,
+            structure,
+            routes,
+            gate,
+            told,
+        );
+    }
+    let place = done.len();
+    let thread = start_last(
+        scope,
+        rt,
+        workers,
+        number_of_environment,
+        done,
+        structure,
+        routes,
+        gate,
+        told,
+    );
+    let refused = run_rest(
+        scope,
+        rt,
+        workers,
+        environment,
+        number_of_environment,
+        done,
+        structure,
+        routes,
+        gate,
+        told,
+    );
+    come_last(rt, thread, place, done);
+    refused
+}
+
+/// Runs all workers, and the environment's on this thread.
+fn run_team<
     's,
     'e: 's,
     B: Work + Send + Drop + 'e,
@@ -161,47 +306,28 @@ fn run_rest<
     requires room { vec_len team.workers ≤ vec_capacity team.done }
     ensures workers { AllZip (ComesFrom (KeepsOneOf (B.keeps structure.now routes.now) (F.keeps structure.now routes.now)) (SameOneOf B.same F.same)) team.workers.items result.0.items }
     ensures environment { ComesFrom (E.keeps structure.now routes.now) E.same team.environment result.1 }
-    ensures len { vec_len result.0 ≡ vec_len team.workers }
-    ensures room { vec_capacity result.0 ≡ vec_capacity team.done }
+    ensures hands { AllZip (HandStaysEmpty (KeepsOneOf B.empty_handed F.empty_handed)) team.workers.items result.0.items }
+    ensures environment_hand { HandStaysEmpty E.empty_handed team.environment result.1 }
 {
     let Team {
         mut workers,
         mut environment,
         number_of_environment,
-        done,
+        mut done,
     } = team;
-    let Some(worker) = workers.pop() else {
-        let refused = drive(
-            rt,
-            &mut environment,
-            number_of_environment,
-            structure,
-            routes,
-            gate,
-            told,
-        );
-        return (done, come_back(environment, refused));
-    };
-    let place = workers.len() as u32;
-    let number = if place < number_of_environment {
-        place
-    } else {
-        place + 1
-    };
-    let started = start_one(scope, rt, worker, number, structure, routes, gate, told);
-    let team = Team {
-        workers,
-        environment,
+    let refused = run_rest(
+        scope,
+        rt,
+        &mut workers,
+        &mut environment,
         number_of_environment,
-        done,
-    };
-    let (mut done, last) = run_rest(scope, rt, team, structure, routes, gate, told);
-    let back = match started {
-        Ok(thread) => thread.join(rt),
-        Err(back) => back,
-    };
-    done.push_reserved(back);
-    (done, last)
+        &mut done,
+        structure,
+        routes,
+        gate,
+        told,
+    );
+    (done, come_back(environment, refused))
 }
 
 /// Lets each of the workers make its steps in a thread of its own, and the environment's in this one. All go on until they are
@@ -227,6 +353,8 @@ pub fn run_all<
     requires room { vec_len team.workers ≤ vec_capacity team.done }
     ensures workers { AllZip (ComesFrom (KeepsOneOf (B.keeps structure.now routes.now) (F.keeps structure.now routes.now)) (SameOneOf B.same F.same)) team.workers.items result.0.items }
     ensures environment { ComesFrom (E.keeps structure.now routes.now) E.same team.environment result.1 }
+    ensures hands { AllZip (HandStaysEmpty (KeepsOneOf B.empty_handed F.empty_handed)) team.workers.items result.0.items }
+    ensures environment_hand { HandStaysEmpty E.empty_handed team.environment result.1 }
 {
     let told = Told::new(team.workers.len() as u32 + 1);
     run_told(rt, team, structure, routes, gate, &told)
@@ -254,6 +382,8 @@ fn run_told<
     requires room { vec_len team.workers ≤ vec_capacity team.done }
     ensures workers { AllZip (ComesFrom (KeepsOneOf (B.keeps structure.now routes.now) (F.keeps structure.now routes.now)) (SameOneOf B.same F.same)) team.workers.items result.0.items }
     ensures environment { ComesFrom (E.keeps structure.now routes.now) E.same team.environment result.1 }
+    ensures hands { AllZip (HandStaysEmpty (KeepsOneOf B.empty_handed F.empty_handed)) team.workers.items result.0.items }
+    ensures environment_hand { HandStaysEmpty E.empty_handed team.environment result.1 }
 {
     thread::scope(
         thread::scope_env(),
@@ -262,6 +392,8 @@ fn run_told<
             requires { All (KeepsOneOf (B.keeps structure.now routes.now) (F.keeps structure.now routes.now)) team.workers.items × E.keeps structure.now routes.now team.environment × (vec_len team.workers < 2 ^ 31) × (team.done.items ≡ []) × (vec_len team.workers ≤ vec_capacity team.done) }
             ensures workers { AllZip (ComesFrom (KeepsOneOf (B.keeps structure.entry.now routes.entry.now) (F.keeps structure.entry.now routes.entry.now)) (SameOneOf B.same F.same)) team.workers.items result.0.items }
             ensures environment { ComesFrom (E.keeps structure.entry.now routes.entry.now) E.same team.environment result.1 }
-        { run_rest(scope, rt, team, structure, routes, gate, told) },
+            ensures hands { AllZip (HandStaysEmpty (KeepsOneOf B.empty_handed F.empty_handed)) team.workers.items result.0.items }
+            ensures environment_hand { HandStaysEmpty E.empty_handed team.environment result.1 }
+        { run_team(scope, rt, team, structure, routes, gate, told) },
     )
 }

@@ -6,13 +6,15 @@ use sdl_routes::Routes;
 use std::sync::Wait;
 
 /// Something that makes steps in a system. `keeps` is what each of its steps asks and gives back, in a system of this structure
-/// and these routes. `same` says which worker it is, whatever its steps did. `station` is where it takes.
+/// and these routes. `same` says which worker it is, whatever its steps did. `station` is where it takes. `empty_handed` says that
+/// nothing is in its hand: all that it took or sent has gone on.
 pub trait Work {
-    ghost use Rattle.std.specs.Prelude.{◌≡◌, List};
+    ghost use Rattle.std.specs.Prelude.{◌≡◌, ◌≢◌, List};
     ghost use Rattle.sdl_parts.specs.Structure.{Structure};
     ghost use Rattle.sdl_routes.specs.declared.route.TableRow.{TableRow};
     ghost use Rattle.sdl_routes.specs.declared.route.Station.{Station};
     ghost use Rattle.sdl_ends.specs.Marks as marks;
+    ghost use Rattle.sdl_hand.specs.declared.hand.Stepped.TheVariants.{Memory};
 
     ghost keeps: { Structure → List TableRow → Self → Type 0 };
 
@@ -20,14 +22,18 @@ pub trait Work {
 
     ghost station: { Self → Station };
 
+    ghost empty_handed: { Self → Type 0 };
+
     /// Moves on what still waits for room at the rings where it puts, and says whether nothing of it is left. It is called before
     /// each step, and whoever has something left is not at rest. Takes no memory, and waits for nobody.
     fn flush(&mut self) -> bool
         ensures keeps { (structure : Structure) (routes : List TableRow) → keeps structure routes self.old → keeps structure routes self.new }
-        ensures same { same self.old self.new };
+        ensures same { same self.old self.new }
+        ensures hand { empty_handed self.old → empty_handed self.new };
 
     /// A step. `pick` chooses wherever the worker may choose. Where it may not ask, it waits for nobody outside the system,
-    /// and does what it can without: this is a hint, and no claim rests on it. May wait for other threads.
+    /// and does what it can without: this is a hint, and no claim rests on it. Only after a refusal is anything in its hand. May wait
+    /// for other threads.
     fn step<R: Wait>(
         &mut self,
         rt: &R,
@@ -38,7 +44,8 @@ pub trait Work {
     ) -> Stepped
         requires { keeps structure.now routes.now self.old }
         ensures keeps { keeps structure.now routes.now self.new }
-        ensures same { same self.old self.new };
+        ensures same { same self.old self.new }
+        ensures hand { result ≢ Memory → empty_handed self.old → empty_handed self.new };
 
     /// Whether its next step would ask somebody outside the system, and could wait long for an answer. It is a hint.
     fn asks_outside(&self) -> bool;
@@ -52,7 +59,8 @@ pub trait Work {
     /// are woken.
     fn touched(&mut self) -> Marks
         ensures keeps { (structure : Structure) (routes : List TableRow) → keeps structure routes self.old → keeps structure routes self.new }
-        ensures same { same self.old self.new };
+        ensures same { same self.old self.new }
+        ensures hand { empty_handed self.old → empty_handed self.new };
 
     /// How many items it put. It is a hint, by which it is told how far the worker is ahead of those that take there.
     fn puts(&self) -> u64;
@@ -69,7 +77,7 @@ pub trait Work {
 /// A worker that came back.
 #[derive(Drop)]
 pub enum Returned<W> {
-    /// It made steps until it was told to stop.
+    /// It made steps until it was told to stop. Nothing is in its hand, where nothing was before.
     Ran(W),
     /// Memory was refused to its last step.
     Refused(W),

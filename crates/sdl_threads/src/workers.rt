@@ -3,7 +3,7 @@ ghost use Rattle.std.specs.Prelude.{◌≡◌, ◌≤◌, ◌<◌, ◌^◌, [], 
 ghost use Rattle.std.specs.List.{All, AllZip};
 ghost use Rattle.sdl_routes.specs.Routes.{EachOnce};
 ghost use Rattle.sdl_ends.specs.Marks.{mark};
-ghost use Rattle.sdl_threads.specs.Back.{ComesFrom};
+ghost use Rattle.sdl_threads.specs.Back.{ComesFrom, HandStaysEmpty};
 
 use crate::kinds::Kind;
 use crate::pace::Gate;
@@ -27,6 +27,7 @@ pub struct ForwarderThread {
 }
 
 impl Work for ForwarderThread {
+    ghost use Rattle.std.specs.Prelude.{◌≡◌, None};
     ghost use Rattle.sdl_forward.specs.HandsOn.{IsHandingOn};
     ghost use Rattle.sdl_routes.specs.declared.route.Station.TheVariants.{Line};
     ghost use Rattle.sdl_threads.specs.Workers.{IsSameForwarder, IsSameForwarder-refl, IsSameForwarder-trans};
@@ -36,6 +37,8 @@ impl Work for ForwarderThread {
     ghost same = { IsSameForwarder };
 
     ghost station = { λ w. Line w.forwarder.hop };
+
+    ghost empty_handed = { λ w. w.forwarder.held ≡ None };
 
     ghost itself = { IsSameForwarder-refl };
 
@@ -90,7 +93,7 @@ pub struct BlockThread<S, K: Keeps = Vec<Event>> {
 }
 
 impl<S: Agents, K: Keeps> Work for BlockThread<S, K> {
-    ghost use Rattle.std.specs.Prelude.{◌≡◌};
+    ghost use Rattle.std.specs.Prelude.{◌≡◌, None, []};
     ghost use Rattle.sdl_instances.specs.CoreOf.{CanFire};
     ghost use Rattle.sdl_block.specs.Workers.{behaviours_of, worker_of, system_around};
     ghost use Rattle.sdl_hand.specs.Apart.{IsPuttingOut};
@@ -102,6 +105,8 @@ impl<S: Agents, K: Keeps> Work for BlockThread<S, K> {
     ghost same = { λ u v. IsSameBlock u v };
 
     ghost station = { λ w. Inlet (worker_of w.block).core.block };
+
+    ghost empty_handed = { λ w. ((worker_of w.block).kept ≡ None) × ((worker_of w.block).outgoing ≡ []) };
 
     ghost itself = { λ w. IsSameBlock-refl w };
 
@@ -170,6 +175,8 @@ pub fn run_workers<
     requires marks { EachOnce (map mark (E.station team.environment ∷ map (⟦<AtWork<S, K> as Work>⟧.station) team.workers.items)) }
     ensures workers { AllZip (ComesFrom (⟦<AtWork<S, K> as Work>⟧.keeps structure.now routes.now) ⟦<AtWork<S, K> as Work>⟧.same) team.workers.items result.0.items }
     ensures environment { ComesFrom (E.keeps structure.now routes.now) E.same team.environment result.1 }
+    ensures hands { AllZip (HandStaysEmpty ⟦<AtWork<S, K> as Work>⟧.empty_handed) team.workers.items result.0.items }
+    ensures environment_hand { HandStaysEmpty E.empty_handed team.environment result.1 }
 {
     run_all(rt, team, structure, routes, gate)
 }
