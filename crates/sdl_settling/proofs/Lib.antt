@@ -1,4 +1,5 @@
 pub mod Names
+pub mod Takers
 pub mod Rooms
 pub mod Parts
 pub mod Settles

@@ -1,5 +1,6 @@
 -- What a driver that goes on reads and writes, and the system that it hands back.
-use Rattle.std.proofs.Common.{ℕ, List, Option, map, ◌≡◌, sym, ◌∙◌, subst}
+use Rattle.std.proofs.Common.{ℕ, List, Option, Contains, map, length, ◌≡◌, sym, ◌∙◌, subst}
+use Rattle.std.proofs.lemmas.List.{length-map}
 use Rattle.sdl_signal.specs.declared.values.Item.{Item}
 use Rattle.sdl_routes.specs.declared.route.Station.{Station}
 use Rattle.sdl_routes.specs.Routes.{EachOnce}
@@ -21,6 +22,9 @@ use Rattle.sdl_driver.specs.Drivers.{IsBetweenSteps}
 use Rattle.sdl_driver.specs.declared.parked.Parked.{Parked}
 use Rattle.sdl_driver.specs.Stopped.{plan_of_parked, IsParked}
 use Rattle.sdl_driver.proofs.Drives.{same_plan, map_map}
+use Rattle.sdl_opening.specs.Workers.{Among, taker}
+use Rattle.sdl_settling.specs.Takers.{workers_with}
+use Rattle.sdl_settling.proofs.Takers.{hops_of, taker_with}
 
 module _ {S K I : Type 0} {F : I → Type 0} {g : _} (old new : Driver S K I F g) (same : IsSameSystem old new) where
   pub bound_over : (b : Bound S I F g) → IsSystemOf new b → IsSystemOf old b
@@ -47,6 +51,14 @@ module _ {S K I : Type 0} {F : I → Type 0} {g : _} (may : ℕ → Frame → St
   left_once =
       subst EachOnce (map_map (λ (e : Station × List Item). e.0) (λ (r : Station × Rest). (r.0, left_in r.1)) p.rests.items)
       (order_once (stations_of (lists_of p.rests.items)) parked.work.board.order)
+
+  -- who takes at a station where something is left is among the workers
+  pub taker_left : (s : Station) → Contains (stations_of p.rests.items) s → Among (taker s) (workers_with (length p.blocks.items) (hops_of p.forwarders.items))
+  taker_left s at =
+      let stations : stations_of (lists_of p.rests.items) ≡ stations_of p.rests.items = map_map (λ (e : Station × List Item). e.0) (λ (r : Station × Rest). (r.0, left_in r.1)) p.rests.items in
+      let blocks : length p.blocks.items ≡ length p.checked.blocks = sym (length-map p.blocks.items worker_of) ∙ parked.work.blocks in
+      taker_with p.checked p.routes s (length p.blocks.items) p.forwarders.items parked.plan.structure parked.plan.routes
+      (parked.work.board.only s (subst (λ (l : List Station). Contains l s) (sym stations) at)) blocks parked.work.forwarders
 
   -- the workers stand the same where what is left is on a board
   pub on_board : (board : List (Station × List Item)) → board ≡ lists_of p.rests.items

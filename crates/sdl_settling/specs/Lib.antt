@@ -1,2 +1,3 @@
 pub mod Coming
 pub mod Room
+pub mod Takers

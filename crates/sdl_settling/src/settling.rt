@@ -1,5 +1,5 @@
 //! What joined workers leave is settled on one thread, and the run is closed.
-ghost use Rattle.std.specs.Prelude.{◌≡◌, ℕ, List, Option, Some, ◌+◌, ◌<◌, [], length, map, MatchOption, ⊤};
+ghost use Rattle.std.specs.Prelude.{◌≡◌, ℕ, List, Option, Some, ◌+◌, ◌<◌, [], length, map, slice_get, MatchOption, ⊤};
 ghost use Rattle.sdl_transition.specs.Bound.{AreOneSystem};
 ghost use Rattle.sdl_block.specs.Workers.{behaviours_of};
 ghost use Rattle.sdl_outcome.specs.Plan.{blocks_in, workers_of};
@@ -7,7 +7,10 @@ ghost use Rattle.sdl_outcome.specs.EnvironmentWork.{HasReadSoFar, HasWrittenSoFa
 ghost use Rattle.sdl_driver.specs.Closings.{HasRoom, HasReadIn, HasWrittenIn, StopsByMemory, NamesRefused, IsSystemOf, outcome_in};
 ghost use Rattle.sdl_driver.specs.Drivers.{plan_of, IsDriving};
 ghost use Rattle.sdl_driver.specs.Ended.{HasEnded};
-ghost use Rattle.sdl_driver.specs.Stopped.{plan_of_parked, IsParked, IsSystemOfParked};
+ghost use Rattle.sdl_driver.specs.Stopped.{plan_of_parked, site_of_parked, IsParked, IsSystemOfParked};
+ghost use Rattle.sdl_order.specs.Driver.{outcome_of};
+ghost use Rattle.sdl_opening.specs.Workers.{Among, taker};
+ghost use Rattle.sdl_settling.specs.Takers.{workers_with};
 
 use sdl_driver::closing::{Closing, Room};
 use sdl_driver::{Driver, Parked};
@@ -37,10 +40,12 @@ pub struct Stopped<S, K: Keeps = Vec<Event>> {
 fn number_of_taker(station: Station, blocks: u32, forwarders: &[Forwarder]) -> u32
     requires few { length forwarders.now < 1000 }
     requires blocks { blocks < 1000 }
-    ensures { result < blocks + (length forwarders.now + 1) }
+    requires taken { Among (taker station) (workers_with blocks (map (λ f. f.hop) forwarders.now)) }
+    ensures bound { result < blocks + (length forwarders.now + 1) }
+    ensures taker { slice_get (workers_with blocks (map (λ f. f.hop) forwarders.now)) result ≡ Some (taker station) }
 {
     match station {
-        Station::Inlet(block) => block.0.min(blocks),
+        Station::Inlet(block) => block.0,
         Station::Outlet => blocks,
         Station::Line(hop) => {
             for (place, forwarder) in forwarders.iter().enumerate() {
@@ -48,7 +53,7 @@ fn number_of_taker(station: Station, blocks: u32, forwarders: &[Forwarder]) -> u
                     return blocks + 1 + place as u32;
                 }
             }
-            blocks
+            unreachable!()
         }
     }
 }
@@ -156,6 +161,8 @@ pub fn settle<S: Agents, K: Keeps, T: Wait, R: Read, W: Write>(
         → HasWrittenIn (plan_of_parked stopped.parked) start (W.contents output.new) result }
     ensures stopped { StopsByMemory result.input result.end }
     ensures refusal { MatchOption stopped.refused ⊤ (λ w. NamesRefused result.end (Some w)) }
+    // Where one was refused, nothing is done after the workers have stopped: what the closing shows is what they left.
+    ensures left { MatchOption stopped.refused ⊤ (λ w. outcome_in K.events result ≡ outcome_of (site_of_parked stopped.parked)) }
     ensures bound { IsSystemOfParked stopped.parked result.bound }
 {
     let Stopped {
