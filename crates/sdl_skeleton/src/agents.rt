@@ -160,17 +160,31 @@ fn write_firsts<W: Write>(output: &mut W, sets: usize) -> Result<()> {
         "// The system: the transitions of its sets, one set after the other.\n\nconst FIRST_0: u32 = 0;\n"
     )?;
     for number in 1..sets {
-        let before = number.saturating_sub(1);
-        writeln!(
-            output,
-            "const FIRST_{number}: u32 = FIRST_{before} + 1 + ROWS_{before}.len() as u32;\n"
-        )?;
+        write_first(output, number)?;
     }
     let last = sets.saturating_sub(1);
     writeln!(
         output,
         "/// How many transitions the system has.\npub const TRANSITIONS: u32 = FIRST_{last} + 1 + ROWS_{last}.len() as u32;\n"
     )
+}
+
+/// Writes the number of the first transition of a set, which is not the first set. That of each second one is counted from the
+/// last but one, since the language takes no chain of over 64 constants.
+fn write_first<W: Write>(output: &mut W, set: usize) -> Result<()> {
+    let before = set.saturating_sub(1);
+    if set % 2 == 0 {
+        let last_but_one = set.saturating_sub(2);
+        writeln!(
+            output,
+            "const FIRST_{set}: u32 = FIRST_{last_but_one} + 2 + (ROWS_{last_but_one}.len() + ROWS_{before}.len()) as u32;\n"
+        )
+    } else {
+        writeln!(
+            output,
+            "const FIRST_{set}: u32 = FIRST_{before} + 1 + ROWS_{before}.len() as u32;\n"
+        )
+    }
 }
 
 /// Writes the two functions that find the set of a transition.
