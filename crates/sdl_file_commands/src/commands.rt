@@ -14,6 +14,7 @@ use crate::files::LONGEST_FILE;
 use crate::names::{agent_name, channel_name, gate_name, signal_name};
 use sdl_command::ends::{flushed, report_output};
 use sdl_command::errors::write_error;
+use sdl_command::stack::takes_stack;
 use sdl_command::status::REFUSED;
 use sdl_parts::{Checked, Structure, check};
 use sdl_routes::{Hop, Route, Routes};
@@ -72,6 +73,11 @@ pub fn checked_file<E: Write>(alloc: Global, file: &[u8], errors: &mut E) -> Opt
 {
     if file.len() > LONGEST_FILE {
         write_error(errors, "file: too long");
+        return None;
+    }
+    // from here on the stack of this thread need not grow, whatever the heap takes
+    if !takes_stack(alloc, file) {
+        write_error(errors, FileFault::Memory);
         return None;
     }
     match structure_of_file(alloc, file) {

@@ -503,7 +503,9 @@ impl Idling {
 }
 
 /// Lets the worker of this number make steps until all are told to stop, and at least one. It says whether memory was refused to
-/// the last. All are told to stop where it is, and where the worker has made as many turns as it may.
+/// the last. All are told to stop where it is, and where the worker has made as many turns as it may. It is never put inline: the
+/// recursion that starts the threads would take its stack for each of them.
+#[inline(never)]
 pub(crate) fn drive<W: Work, G: Gate, R: Wait>(
     rt: &R,
     worker: &mut W,
