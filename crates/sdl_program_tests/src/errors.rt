@@ -37,7 +37,7 @@ set = [{ name = 'F' }]
 
 const REFUSALS: [(&str, &[u8]); 5] = [
     ("x =", b"F1 NotToml\n"),
-    ("version = 2", b"F9 OutOfRange system 0 0 0 version\n"),
+    ("version = 3", b"F9 OutOfRange system 0 0 0 version\n"),
     (NOT_IN_GATE, b"C3 NotInGate channel c forth s B.h\n"),
     (NO_AGENTS, b"no agents for S\n"),
     (RENAMED_SET, b"B3 WrongName set 0\n"),

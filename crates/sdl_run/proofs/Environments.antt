@@ -1,5 +1,5 @@
 -- What the environment's steps keep, from the start of the run on.
-use Rattle.std.proofs.Common.{ℕ, List, Option, ◌≡◌, sym, ◌∙◌, subst, take}
+use Rattle.std.proofs.Common.{ℕ, List, Option, None, Bool, true, false, Result, Ok, Err, ◌≡◌, ◌≢◌, refl, ap, sym, ◌∙◌, subst, take}
 use Rattle.std.proofs.KnownBytes.{Appends-kept}
 use Rattle.std.specs.Io.KnownBytes.{Keeps}
 use Rattle.sdl_signal.specs.declared.values.Item.{Item}
@@ -9,10 +9,15 @@ use Rattle.sdl_parts.specs.Structure.{Structure, lexicon_of}
 use Rattle.sdl_routes.specs.declared.route.TableRow.{TableRow}
 use Rattle.sdl_routes.specs.declared.route.Station.{Station}
 use Rattle.sdl_ends.specs.Ends.{WorkerEnds, IsSameEnds, put_at}
+use Rattle.sdl_hand.specs.declared.hand.Refused.{Refused}
+use Rattle.sdl_hand.specs.declared.hand.Stepped.{Stepped}
+use Rattle.sdl_hand.specs.declared.hand.Stepped.TheVariants.{Memory}
+use Rattle.sdl_hand.specs.Puts.{answer_of}
 use Rattle.sdl_hand.proofs.FrontsApart.{has_feed_still}
 use Rattle.sdl_threads.proofs.Flushes.{taken_same}
 use Rattle.sdl_outcome.specs.EnvironmentWork.{EnvWorking, HasReadSoFar, HasWritten, HasWrittenSoFar, received_text}
 use Rattle.sdl_environment.specs.EnvApart.{IsEnvPuttingOut}
+use Rattle.sdl_environment.specs.EnvPhasesApart.{ReceivesApart, TakesOne}
 use Rattle.sdl_run.specs.Environment.{KeepsEnvironment}
 
 module _ (s : Structure) (rows : List TableRow) (old : EnvWorking) (was : Option Item) (before : WorkerEnds) (read_from read_to written_from written_to : Option (List ℕ)) (kept : KeepsEnvironment s rows old was before read_from read_to written_from written_to) where
@@ -80,3 +85,14 @@ written_out s rows old new was is before after read_from read_to read_later writ
     (subst (λ (a : Option Item). KeepsEnvironment s rows old a after read_from read_later written_from written_later) (sym same_astray)
     (subst (λ (e : WorkerEnds). KeepsEnvironment s rows old was e read_from read_later written_from written_later) (sym same_ends)
     (subst (λ (r : Option (List ℕ)). KeepsEnvironment s rows old was before read_from r written_from written_later) (sym same_reading) flushed)))
+
+-- A step that only receives leaves what is in hand, and nothing is astray after it, where it was not refused.
+received_leaves : (s : Structure) (rows : List TableRow) (worker : ℕ) (old : EnvWorking) (before : WorkerEnds) (result : Result Bool Refused) (new : EnvWorking) (is : Option Item) (after : WorkerEnds)
+    → ReceivesApart s rows worker old before result new is after → answer_of result ≢ Memory → (new.outgoing ≡ old.outgoing) × (is ≡ None)
+received_leaves s rows worker old before (Ok true) new is after (i, takes, may, same, none) not = (ap (λ (w : EnvWorking). w.outgoing) same, none)
+received_leaves s rows worker old before (Ok false) new is after (same, takes, none) not = (ap (λ (w : EnvWorking). w.outgoing) same, none)
+received_leaves s rows worker old before (Err r) new is after h not = absurd (not refl)
+
+pub receive_leaves : (s : Structure) (rows : List TableRow) (worker : ℕ) (old : EnvWorking) (before : WorkerEnds) (answer : Stepped) (new : EnvWorking) (is : Option Item) (after : WorkerEnds)
+    → TakesOne s rows worker old before answer new is after → answer ≢ Memory → (new.outgoing ≡ old.outgoing) × (is ≡ None)
+receive_leaves s rows worker old before answer new is after (result, said, h) not = received_leaves s rows worker old before result new is after h (λ e. not (said ∙ e))

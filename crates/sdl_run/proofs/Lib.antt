@@ -7,3 +7,4 @@ pub mod Environments
 pub mod Together
 pub mod Marks
 pub mod Whole
+pub mod Stops

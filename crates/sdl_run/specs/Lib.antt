@@ -1,3 +1,4 @@
 pub mod Sharing
 pub mod Environment
 pub mod Room
+pub mod Stops

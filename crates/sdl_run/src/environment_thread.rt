@@ -55,7 +55,7 @@ impl<'e, 'i, 'o, I: Read, O: Write> EnvironmentThread<'e, 'i, 'o, I, O> {
 }
 
 impl<'e, 'i, 'o, I: Read, O: Write> Work for EnvironmentThread<'e, 'i, 'o, I, O> {
-    ghost use Rattle.std.specs.Prelude.{◌≡◌, refl};
+    ghost use Rattle.std.specs.Prelude.{◌≡◌, [], None, refl};
     ghost use Rattle.std.proofs.Common.{◌∙◌};
     ghost use Rattle.sdl_run.specs.Environment.{KeepsEnvironment};
     ghost use Rattle.sdl_ends.specs.Ends.{IsSameEnds};
@@ -67,6 +67,8 @@ impl<'e, 'i, 'o, I: Read, O: Write> Work for EnvironmentThread<'e, 'i, 'o, I, O>
     ghost same = { λ u v. (v.environment.ghost_name ≡ u.environment.ghost_name) × (v.input.ghost_name ≡ u.input.ghost_name) × (v.output.ghost_name ≡ u.output.ghost_name) × (v.started_input ≡ u.started_input) × (v.started_output ≡ u.started_output) × IsSameEnds u.ends v.ends };
 
     ghost station = { λ w. Outlet };
+
+    ghost empty_handed = { λ w. (w.environment.now.worker.outgoing ≡ []) × (w.environment.now.astray ≡ None) };
 
     ghost itself = { λ w. (refl, refl, refl, refl, refl, record { feeds = refl; tap = refl }) };
 

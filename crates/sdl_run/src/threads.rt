@@ -6,21 +6,23 @@ ghost use Rattle.sdl_driver.specs.Ended.{HasEnded};
 ghost use Rattle.sdl_outcome.specs.Lists.{items_in};
 ghost use Rattle.sdl_serial_run.specs.Serial.{IsBoundOf, IsBackIn, plan_of_parts};
 ghost use Rattle.sdl_run.specs.Room.{IsThreadRoom};
+ghost use Rattle.sdl_run.specs.Stops.{EndsAsTheyCame};
 
 use crate::joining::{Starting, run_apart};
 use crate::room::{ThreadRoom, make_thread_room};
 use sdl_driver::closing::{Closing, StartFault};
 use sdl_instances::bounds::parts_are_bound;
-use sdl_log::{FilledAhead, Keeps};
+use sdl_log::{Event, FilledAhead, Keeps};
 use sdl_parts::Checked;
 use sdl_routes::Routes;
 use sdl_serial_run::blocks::{gather, start_blocks};
 use sdl_serial_run::lists::{in_lists, room_for_lists};
-use sdl_settling::settling::settle;
+use sdl_settling::settling::{Stopped, settle};
 use sdl_threads::Gate;
 use sdl_transition::{Agents, BlockParts, Bound};
 use std::alloc::Global;
 use std::io::{Read, Write};
+use std::snapshot::Snapshot;
 use std::sync::Wait;
 use std::thread::Threads;
 
@@ -33,6 +35,14 @@ struct System<S> {
     budget: u32,
 }
 
+/// A run in threads that has ended.
+#[derive(Drop)]
+pub struct Ended<S, K: Keeps = Vec<Event>> {
+    pub closing: Closing<S, K>,
+    /// Its workers as they stopped, before anything was settled; for contracts alone.
+    pub stopped: Snapshot<Stopped<S, K>>,
+}
+
 /// Runs the blocks in threads, where they all start, and settles what they leave.
 fn run_in<S: Agents + Send, K: Keeps + Send, G: Gate, T: Threads + Wait + Sync, R: Read, W: Write>(
     rt: &T,
@@ -42,15 +52,18 @@ fn run_in<S: Agents + Send, K: Keeps + Send, G: Gate, T: Threads + Wait + Sync, 
     gate: &G,
     input: &mut R,
     output: &mut W,
-) -> Result<Closing<S, K>, Bound<S>>
+) -> Result<Ended<S, K>, Bound<S>>
     requires budget { (1 ≤ system.budget) × (system.budget ≤ 1000000) }
     requires system { AreOneSystem S.may system.checked system.routes system.blocks.items }
     requires room { IsThreadRoom system.checked system.routes thread_room }
-    ensures ended { IfOk result (λ c. HasEnded S.may (plan_of_parts system.checked system.routes system.blocks.items system.budget) (outcome_in K.events c) c.end c.ledger) }
-    ensures reading { IfOk result (λ c. HasReadIn (plan_of_parts system.checked system.routes system.blocks.items system.budget) (R.remaining input.old) (R.remaining input.new) c) }
-    ensures writing { IfOk result (λ c. HasWrittenIn (plan_of_parts system.checked system.routes system.blocks.items system.budget) (W.contents output.old) (W.contents output.new) c) }
-    ensures stopped { IfOk result (λ c. StopsByMemory c.input c.end) }
-    ensures bound { IfOk result (λ c. IsBoundOf system.checked system.routes system.blocks.items c.bound) }
+    ensures ended { IfOk result (λ e. HasEnded S.may (plan_of_parts system.checked system.routes system.blocks.items system.budget) (outcome_in K.events e.closing) e.closing.end e.closing.ledger) }
+    ensures reading { IfOk result (λ e. HasReadIn (plan_of_parts system.checked system.routes system.blocks.items system.budget) (R.remaining input.old) (R.remaining input.new) e.closing) }
+    ensures writing { IfOk result (λ e. HasWrittenIn (plan_of_parts system.checked system.routes system.blocks.items system.budget) (W.contents output.old) (W.contents output.new) e.closing) }
+    ensures stopped { IfOk result (λ e. StopsByMemory e.closing.input e.closing.end) }
+    // Where a worker came back that was refused memory or whose thread could not start, the end names the first, and nothing is
+    // settled.
+    ensures named { IfOk result (λ e. EndsAsTheyCame K.events (length system.blocks.items) e) }
+    ensures bound { IfOk result (λ e. IsBoundOf system.checked system.routes system.blocks.items e.closing.bound) }
     ensures back { IfErr result (λ b. IsBoundOf system.checked system.routes system.blocks.items b × IsBound S.may b) }
     ensures untouched { IfErr result (λ b. (input.new ≡ input.old) × (output.new ≡ output.old)) }
 {
@@ -79,7 +92,11 @@ fn run_in<S: Agents + Send, K: Keeps + Send, G: Gate, T: Threads + Wait + Sync, 
                 budget,
             };
             let stopped = run_apart(rt, starting, opened, gate, input, output);
-            Ok(settle(rt, stopped, room, input, output))
+            let came = Snapshot::of(&stopped);
+            Ok(Ended {
+                closing: settle(rt, stopped, room, input, output),
+                stopped: came,
+            })
         }
         Err((workers, refused, rest)) => {
             let parts = gather(room.parts, workers, refused, rest);
@@ -127,7 +144,7 @@ pub fn run_threads_keeping<
                 budget,
             };
             match run_in(rt, alloc, system, thread_room, gate, input, output) {
-                Ok(closing) => Ok(closing),
+                Ok(ended) => Ok(ended.closing),
                 Err(bound) => Err(StartFault::Memory(bound)),
             }
         }

@@ -1,4 +1,4 @@
-//! Workers in threads without ends: they hand a token round, or put where nobody takes.
+//! Workers in threads without ends: they hand a token round, put where nobody takes, or wait for room.
 ghost use Rattle.std.specs.Prelude.{◌≡◌};
 
 use sdl_ends::mark_of;
@@ -24,6 +24,8 @@ pub enum Job {
     Pass(Arc<Ring, Global>, usize),
     /// It puts something where nobody takes it, so often yet.
     Put(u64),
+    /// What it put waits for room, until so many flushes more.
+    Wait(u64),
 }
 
 /// A worker, and how often it has put.
@@ -46,6 +48,14 @@ impl Jobber {
             job,
             put: 0,
             touched: Marks::none(),
+        }
+    }
+
+    /// How many flushes more it waits for.
+    fn waits(&self) -> Option<u64> {
+        match self.job {
+            Job::Pass(_, _) | Job::Put(_) => None,
+            Job::Wait(left) => Some(left),
         }
     }
 }
@@ -80,6 +90,7 @@ fn work(job: &mut Job) -> Option<u32> {
             *left -= 1;
             Some(NOWHERE)
         }
+        Job::Wait(_) => None,
     }
 }
 
@@ -93,12 +104,18 @@ impl Work for Jobber {
 
     ghost station = { λ w. w.station };
 
+    ghost empty_handed = { λ w. ⊤ };
+
     ghost itself = { λ w. refl };
 
     ghost and_then = { λ u v w p q. q ∙ p };
 
     fn flush(&mut self) -> bool {
-        true
+        let Job::Wait(left) = &mut self.job else {
+            return true;
+        };
+        *left = left.saturating_sub(1);
+        *left == 0
     }
 
     fn step<R: Wait>(
@@ -156,6 +173,16 @@ pub fn put_in_list(worker: &Returned<Kind<Jobber, Jobber>>) -> Option<u64> {
     match worker {
         Returned::Ran(Kind::Block(worker)) => Some(worker.put),
         Returned::Ran(Kind::Forwarder(worker)) => Some(worker.put),
+        Returned::Refused(_) => None,
+        Returned::NotStarted(_) => None,
+    }
+}
+
+/// How many flushes more one of the list waits for, where it ran until it was told to stop.
+pub fn waits_in_list(worker: &Returned<Kind<Jobber, Jobber>>) -> Option<u64> {
+    match worker {
+        Returned::Ran(Kind::Block(worker)) => worker.waits(),
+        Returned::Ran(Kind::Forwarder(worker)) => worker.waits(),
         Returned::Refused(_) => None,
         Returned::NotStarted(_) => None,
     }

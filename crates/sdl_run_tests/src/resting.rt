@@ -1,9 +1,9 @@
-//! How workers in threads come to rest: a token goes round among them, or one runs far ahead where nobody takes.
+//! How workers in threads come to rest: a token goes round among them, one runs far ahead where nobody takes, or one waits for room.
 ghost use Rattle.std.specs.Prelude.{⊤};
 ghost use Rattle.std.specs.List.{All};
 ghost use Rattle.sdl_threads.specs.Kinds.{KeepsOneOf};
 
-use super::jobs::{Job, Jobber, Ring, put_by, put_in_list, station_at};
+use super::jobs::{Job, Jobber, Ring, put_by, put_in_list, station_at, waits_in_list};
 use sdl_examples::ECHO;
 use sdl_routes::Station;
 use sdl_test_systems::{Stop, routes_of};
@@ -142,6 +142,25 @@ fn one_that_waited_for_others_in_vain_comes_to_rest(rt: HostRuntime) -> Result<(
     assert!(rt; workers.len() == 1);
     for worker in workers.as_slice() {
         assert!(rt; put_in_list(worker) == Some(STEPS));
+    }
+    assert!(rt; put_by(&environment) == Some(0));
+    Ok(())
+}
+
+/// More flushes than the steps that a worker makes before it comes to rest.
+const FLUSHES: u64 = 400;
+
+/// Who has a backlog is not at rest: the run goes on until there is room for it.
+#[test]
+fn none_stops_before_there_was_room_for_a_backlog(rt: HostRuntime) -> Result<(), Fail> {
+    let alloc = rt.alloc();
+    let waiting = Jobber::new(station_at(0), Job::Wait(FLUSHES));
+    let workers = vec![in alloc; Kind::Block(waiting)]?;
+    let environment = Jobber::new(Station::Outlet, Job::Put(0));
+    let (workers, environment) = run(&rt, alloc, workers, environment, &OpenGate)?;
+    assert!(rt; workers.len() == 1);
+    for worker in workers.as_slice() {
+        assert!(rt; waits_in_list(worker) == Some(0));
     }
     assert!(rt; put_by(&environment) == Some(0));
     Ok(())

@@ -1,4 +1,5 @@
-use Rattle.std.proofs.Common.{◌+◌, map, length, sym, ◌∙◌, arith, rules}
+use Rattle.std.proofs.Common.{◌≡◌, ◌+◌, map, length, ap, sym, ◌∙◌, arith, rules}
+use Rattle.std.proofs.lemmas.List.{length-map}
 use Rattle.sdl_transition.specs.Rules.{block_rules}
 use Rattle.sdl_instances.specs.Core.{IsBoundIn, signals_of, sets_of}
 use Rattle.sdl_block.specs.Workers.{behaviours_of}
@@ -7,6 +8,7 @@ use Rattle.sdl_driver.proofs.Closes.{system_kept}
 use Rattle.sdl_serial_run.proofs.Begins.{room_for}
 use Rattle.sdl_serial_run.proofs.Fresh.{all_same, parts_count}
 use Rattle.sdl_run.proofs.Whole.{can_fire, system_parked, room_parked, ended_parked, bound_parked, reading_parked, writing_parked}
+use Rattle.sdl_run.proofs.Stops.{as_they_came}
 use Rattle.sdl_run.proofs.threads.run_in.Goals as goal
 
 pub parts_are_bound-requires : goal.parts_are_bound-requires
@@ -62,6 +64,12 @@ pub returns-in-Ok-clause-writing : goal.returns-in-Ok-clause-writing
 returns-in-Ok-clause-writing g c =
     writing_parked g.S.Agents.may (record { checked = c.args.system.checked; routes = c.args.system.routes; blocks = c.in-Ok.blocks; environment = c.args.thread_room.environment; budget = c.args.system.budget }) c.args.system.blocks.items c.run_apart-stopped.result.parked c.run_apart-stopped.ensures.same c.in-Ok.ensures.parts
     c.settle.result _ _ _ c.run_apart-stopped.ensures.writing c.settle.ensures.writing
+
+pub returns-in-Ok-clause-named : goal.returns-in-Ok-clause-named
+returns-in-Ok-clause-named g c =
+    let blocks : length c.in-Ok.blocks.items ≡ length c.args.system.blocks.items = sym (length-map c.in-Ok.blocks.items behaviours_of) ∙ ap length c.in-Ok.ensures.parts in
+    as_they_came g.K.Keeps.events (record { closing = c.settle.result; stopped = c.of-came.result }) c.run_apart-stopped.result c.of-came.ensures (length c.args.system.blocks.items) (length c.in-Ok.blocks.items) blocks
+    c.run_apart-stopped.ensures.named c.settle.ensures.refusal c.settle.ensures.left
 
 pub returns-in-Ok-clause-bound : goal.returns-in-Ok-clause-bound
 returns-in-Ok-clause-bound g c =

@@ -1,6 +1,6 @@
-use Rattle.std.proofs.Common.{ℕ, List, Option, ap, subst, sym}
+use Rattle.std.proofs.Common.{ℕ, List, Option, ◌∙◌, ap, subst, sym}
 use Rattle.sdl_run.specs.Environment.{KeepsEnvironment}
-use Rattle.sdl_run.proofs.Environments.{goes_over, written_out}
+use Rattle.sdl_run.proofs.Environments.{goes_over, written_out, receive_leaves}
 use Rattle.sdl_run.proofs.environment_thread.EnvironmentThreadWork.step.Goals as goal
 
 pub returns-then-is_ready-clause-keeps : goal.returns-then-is_ready-clause-keeps
@@ -33,3 +33,19 @@ returns-clause-keeps g c =
     taken.new.self.worker taken.new.self.astray taken.new.ends (g.I.Read.remaining c.args.self.now.input.now) (g.O.Write.contents taken.new.output) taken.ensures.number taken.ensures.keeps (λ start. taken.ensures.reading start _) taken.ensures.writing in
     goes_over s rows taken.new.self.worker taken.new.self.astray taken.new.ends _ _ _ _ kept
     c.step-2.new.self.worker c.step-2.new.self.astray c.step-2.new.ends _ _ c.step-2.ensures.number c.step-2.ensures.keeps c.step-2.ensures.reading c.step-2.ensures.writing
+
+pub returns-then-is_ready-clause-hand : goal.returns-then-is_ready-clause-hand
+returns-then-is_ready-clause-hand g c = λ not empty. (c.step.ensures.hand not, c.step.ensures.none not)
+
+pub returns-then-not-may_ask-clause-hand : goal.returns-then-not-may_ask-clause-hand
+returns-then-not-may_ask-clause-hand g c = λ not empty.
+    let old = c.args.self.now.environment.now.worker in
+    let taken = c.receive-received in
+    let left =
+    receive_leaves c.args.structure.now c.args.routes.now old.number old c.args.self.now.ends taken.result taken.new.self.worker taken.new.self.astray taken.new.ends
+    (taken.ensures.received empty.1) not in
+    let out = c.lets_out.ensures in
+    (ap (λ e. e.now.worker.outgoing) out.environment ∙ (left.0 ∙ empty.0), ap (λ e. e.now.astray) out.environment ∙ left.1)
+
+pub returns-clause-hand : goal.returns-clause-hand
+returns-clause-hand g c = λ not empty. (c.step-2.ensures.hand not, c.step-2.ensures.none not)
