@@ -9,6 +9,7 @@ mod room;
 mod sharing;
 mod threads;
 
+pub use sdl_audit::{AuditFault, Recounts, audit};
 pub use sdl_serial_run::{
     Closing, EnvOut, Ledger, RunEnd, StartFault, Worker, run_keeping, run_serial,
 };
