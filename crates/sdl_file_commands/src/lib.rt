@@ -2,7 +2,7 @@
 //! the texts of all of them.
 #![tactic(auto)]
 
-mod closing;
+pub mod closing;
 pub mod commands;
 pub mod faults;
 pub mod files;
