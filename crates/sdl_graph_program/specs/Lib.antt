@@ -1,3 +1,4 @@
 pub use Rattle.sdl_file_commands.specs.Running
 pub mod Numbering
 pub mod Outcomes
+pub mod Words

@@ -1,23 +1,41 @@
 -- What a graph's program comes to, and its exit statuses. (This project's own.)
-use Rattle.std.specs.Prelude.{◌≡◌, ℕ, ◌⊎◌, List, Option}
-use Rattle.std.specs.Io.KnownBytes.{Keeps}
+use Rattle.std.specs.Prelude.{◌≡◌, ℕ, ◌⊎◌, Bool, false, true, List, Option, codes}
+use Rattle.std.specs.Io.KnownBytes.{Keeps, Appends}
 use Rattle.sdl_parts.specs.Structure.{Structure}
 use Rattle.sdl_routes.specs.declared.route.TableRow.{TableRow}
+use Rattle.sdl_behaviour.specs.declared.step.Frame.{Frame}
+use Rattle.sdl_behaviour.specs.declared.step.Step.{Step}
 use Rattle.sdl_command.specs.declared.arguments.Options.{Options}
 use Rattle.sdl_file_commands.specs.Commands.{HasPrinted, HasListed}
 use Rattle.sdl_file_commands.specs.Files.{Declares}
 use Rattle.sdl_file_commands.specs.Outcomes.{HasRunBy}
 use Rattle.sdl_file_commands.specs.Texts.{check_text}
 
+-- the line of an audit that finds nothing wrong
+abbrev pub audit_text : List ℕ
+audit_text = codes "audit ok\n"
+
+-- What comes after a run and its books whose status this would be: nothing where no audit was asked for. Else the line that nothing
+-- is wrong, and the same status; or the audit found a fault, or was refused memory, or the output had a fault.
+abbrev pub HasAudited : Bool → Option (List ℕ) → Option (List ℕ) → ℕ → ℕ → Type 0
+HasAudited false old new told status = (new ≡ old) × (status ≡ told)
+HasAudited true old new told status = ((status ≡ told) × Appends old new audit_text) ⊎ (status ≡ 3)
+
+-- A structure was run to an end by agents that answer as they may, its books were written, and what was left was audited where that
+-- was asked for.
+abbrev pub HasRunAudited : (ℕ → Frame → Step → Type 0) → Structure → List TableRow → Options → Bool → Option (List ℕ) → Option (List ℕ) → Option (List ℕ) → Option (List ℕ) → ℕ → Type 0
+HasRunAudited may s routes options audit unread rest old new status =
+    (told : ℕ) × (books : Option (List ℕ)) × HasRunBy may s routes options unread rest old books told × HasAudited audit books new told status
+
 -- The structure was run to an end, and the status tells how; or it tells that an answer of the run broke its offer. What a graph's
 -- transitions answer is not limited by who runs them, but by their offers.
-abbrev pub HasRunGraph : Options → Option (List ℕ) → Option (List ℕ) → Option (List ℕ) → Option (List ℕ) → Structure → List TableRow → ℕ → Type 0
-HasRunGraph options unread rest old new s routes status =
-    (told : ℕ) × HasRunBy (λ _ _ _. Unit {0}) s routes options unread rest old new told × ((status ≡ told) ⊎ (status ≡ 4))
+abbrev pub HasRunGraph : Options → Bool → Option (List ℕ) → Option (List ℕ) → Option (List ℕ) → Option (List ℕ) → Structure → List TableRow → ℕ → Type 0
+HasRunGraph options audit unread rest old new s routes status =
+    (told : ℕ) × HasRunAudited (λ _ _ _. Unit {0}) s routes options audit unread rest old new told × ((status ≡ told) ⊎ (status ≡ 4))
 
 -- a run was refused before it began, or made to an end
-abbrev pub HasRunGraphOrNot : Options → Option (List ℕ) → Option (List ℕ) → Option (List ℕ) → Option (List ℕ) → Structure → List TableRow → ℕ → Type 0
-HasRunGraphOrNot options unread rest old new s routes status = (status ≡ 1) ⊎ HasRunGraph options unread rest old new s routes status
+abbrev pub HasRunGraphOrNot : Options → Bool → Option (List ℕ) → Option (List ℕ) → Option (List ℕ) → Option (List ℕ) → Structure → List TableRow → ℕ → Type 0
+HasRunGraphOrNot options audit unread rest old new s routes status = (status ≡ 1) ⊎ HasRunGraph options audit unread rest old new s routes status
 
 -- a command on a file was refused, or the line of `check` or those of `routes` were written of the structure that the file declares
 abbrev pub IsToldOf : Option (List ℕ) → Option (List ℕ) → List ℕ → ℕ → Type 0

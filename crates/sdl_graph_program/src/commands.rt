@@ -1,5 +1,5 @@
 //! The commands of a graph's program up to a run.
-ghost use Rattle.std.specs.Prelude.{◌≡◌, ◌≢◌, ℕ, List, IfOk, IfErr, IsErr};
+ghost use Rattle.std.specs.Prelude.{◌≡◌, ◌≢◌, ℕ, List, false, IfOk, IfErr, IsErr};
 ghost use Rattle.std.specs.Io.KnownBytes.{Keeps};
 ghost use Rattle.sdl_file_commands.specs.Commands.{IsDone};
 ghost use Rattle.sdl_file_commands.specs.Files.{Declares};
@@ -7,6 +7,7 @@ ghost use Rattle.sdl_file_commands.specs.Outcomes.{HasRun};
 ghost use Rattle.sdl_file_commands.specs.Running.{CanRun};
 ghost use Rattle.sdl_graph_program.specs.Outcomes.{IsDoneAtOnce, IsToldOf};
 
+use crate::words::{PlainWords, plain_words};
 use sdl_command::arguments::{Arguments, Command, Options, read_arguments};
 use sdl_command::errors::{without_memory, write_error};
 use sdl_command::status::{REFUSED, WRONG_ARGUMENTS};
@@ -20,20 +21,23 @@ use std::alloc::{AllocError, Global};
 use std::io::Write;
 use std::rt::{Env, Files};
 
-const USAGE: &str = "usage: check FILE | routes FILE | run [--serial] [--ledger] [--trace] FILE";
+const USAGE: &str =
+    "usage: check FILE | routes FILE | run [--serial] [--ledger] [--trace] [--audit] FILE";
 
 /// A run that is asked for: the structure of a file, with its routes, what is to be told of the run, and where it takes its memory.
 #[derive(Drop)]
 pub struct Prepared {
     pub alloc: Global,
     pub options: Options,
+    /// Whether what the run leaves is audited.
+    pub audit: bool,
     pub checked: Checked,
     pub routes: Routes,
 }
 
 /// Carries out `check` or `routes` on the bytes of a structure file, and answers the exit status; for `run` the run that
-/// is asked for, where the file and its structure keep all rules, and else the status of a refusal.
-#[tactic(auto, unfolding(sdl_file_commands::specs::Running::CanRun))]
+/// is asked for, where the file and its structure keep all rules, and else the status of a refusal. What the run leaves is not
+/// audited, unless the caller asks for that.
 pub fn prepare_file<W: Write, E: Write>(
     alloc: Global,
     file: &[u8],
@@ -43,8 +47,34 @@ pub fn prepare_file<W: Write, E: Write>(
 ) -> Result<Prepared, u8>
     ensures ready { IfOk result (λ p. CanRun p.checked p.routes) }
     ensures declared { IfOk result (λ p. Declares file.now p.checked) }
-    ensures asked { IfOk result (λ p. p.options ≡ options) }
+    ensures asked { IfOk result (λ p. (p.options ≡ options) × (p.audit ≡ false)) }
     // Only a run is prepared, and a run that is not is refused.
+    ensures done { options.command ≢ Command.Run → IfErr result (IsDone HasRun (W.contents output.old) (W.contents output.new) options.command file.now) }
+    ensures run { options.command ≡ Command.Run → IfErr result (λ status. status ≡ 1) }
+    ensures others { options.command ≢ Command.Run → IsErr result }
+    ensures prepared { IfOk result (λ p. p.options.command ≡ Command.Run) }
+    ensures told { IfErr result (IsToldOf (W.contents output.old) (W.contents output.new) file.now) }
+    ensures unwritten { IfOk result (λ p. output.new ≡ output.old) }
+    ensures quiet { IfOk result (λ p. errors.new ≡ errors.old) }
+    ensures refused { IfErr result (λ status. status ≡ 1 → output.new ≡ output.old) }
+    ensures silent { IfErr result (λ status. status ≡ 0 → Keeps (E.contents errors.old) (E.contents errors.new)) }
+{
+    prepare_asked(alloc, file, options, false, output, errors)
+}
+
+/// The same, with an audit of what the run leaves where that is asked for.
+#[tactic(auto, unfolding(sdl_file_commands::specs::Running::CanRun))]
+fn prepare_asked<W: Write, E: Write>(
+    alloc: Global,
+    file: &[u8],
+    options: Options,
+    audit: bool,
+    output: &mut W,
+    errors: &mut E,
+) -> Result<Prepared, u8>
+    ensures ready { IfOk result (λ p. CanRun p.checked p.routes) }
+    ensures declared { IfOk result (λ p. Declares file.now p.checked) }
+    ensures asked { IfOk result (λ p. (p.options ≡ options) × (p.audit ≡ audit)) }
     ensures done { options.command ≢ Command.Run → IfErr result (IsDone HasRun (W.contents output.old) (W.contents output.new) options.command file.now) }
     ensures run { options.command ≡ Command.Run → IfErr result (λ status. status ≡ 1) }
     ensures others { options.command ≢ Command.Run → IsErr result }
@@ -65,6 +95,7 @@ pub fn prepare_file<W: Write, E: Write>(
             Some(routes) => Ok(Prepared {
                 alloc,
                 options,
+                audit,
                 checked,
                 routes,
             }),
@@ -120,14 +151,16 @@ fn prepare_words<H: Env + Files + AllocGlobal, W: Write, E: Write>(
         return Ok(Err(wrong_arguments(errors)));
     };
     let shown = words_behind_the_name(alloc, words.as_slice())?;
-    Ok(prepare_shown(rt, alloc, shown.as_slice(), output, errors))
+    let PlainWords { words, audit } = plain_words(alloc, shown.as_slice())?;
+    Ok(prepare_shown(rt, alloc, words.as_slice(), audit, output, errors))
 }
 
-/// The same for the words after the program's name.
+/// The same for the words after the program's name without `--audit`, which `run` alone may have.
 fn prepare_shown<H: Files, W: Write, E: Write>(
     rt: &H,
     alloc: Global,
     words: &[&str],
+    audit: bool,
     output: &mut W,
     errors: &mut E,
 ) -> Result<Prepared, u8>
@@ -141,10 +174,12 @@ fn prepare_shown<H: Files, W: Write, E: Write>(
     ensures silent { IfErr result (λ status. status ≡ 0 → Keeps (E.contents errors.old) (E.contents errors.new)) }
 {
     match read_arguments(words) {
-        Some(Arguments::File(options, place)) => match words.get(place) {
-            Some(path) => prepare_path(rt, alloc, path, options, output, errors),
-            None => Err(wrong_arguments(errors)),
-        },
+        Some(Arguments::File(options, place)) if options.command == Command::Run || !audit => {
+            match words.get(place) {
+                Some(path) => prepare_path(rt, alloc, path, options, audit, output, errors),
+                None => Err(wrong_arguments(errors)),
+            }
+        }
         _ => Err(wrong_arguments(errors)),
     }
 }
@@ -155,6 +190,7 @@ fn prepare_path<H: Files, W: Write, E: Write>(
     alloc: Global,
     path: &str,
     options: Options,
+    audit: bool,
     output: &mut W,
     errors: &mut E,
 ) -> Result<Prepared, u8>
@@ -168,7 +204,9 @@ fn prepare_path<H: Files, W: Write, E: Write>(
     ensures silent { IfErr result (λ status. status ≡ 0 → Keeps (E.contents errors.old) (E.contents errors.new)) }
 {
     match read_file(rt, alloc, path) {
-        FileRead::Bytes(file) => prepare_file(alloc, file.as_slice(), options, output, errors),
+        FileRead::Bytes(file) => {
+            prepare_asked(alloc, file.as_slice(), options, audit, output, errors)
+        }
         FileRead::CannotRead => {
             write_error(errors, "file: cannot read");
             Err(REFUSED)

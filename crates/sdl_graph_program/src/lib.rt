@@ -2,10 +2,12 @@
 //! graph is written in is passed on.
 #![tactic(auto)]
 
+mod audited;
 pub mod commands;
 mod faults;
 pub mod numbering;
 pub mod runs;
+mod words;
 
 pub use commands::{Prepared, prepare, prepare_file};
 pub use runs::{BROKEN, refused, run_prepared};

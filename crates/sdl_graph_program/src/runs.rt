@@ -3,8 +3,9 @@ ghost use Rattle.std.specs.Prelude.{◌≡◌, ◌⊎◌, MatchOption};
 ghost use Rattle.std.specs.Io.KnownBytes.{Keeps};
 ghost use Rattle.sdl_transition.specs.Bound.{IsBound, structure_of, routes_of};
 ghost use Rattle.sdl_file_commands.specs.Running.{CanRun, HasBudget};
-ghost use Rattle.sdl_graph_program.specs.Outcomes.{HasRunGraphOrNot};
+ghost use Rattle.sdl_graph_program.specs.Outcomes.{HasRunAudited, HasRunGraphOrNot};
 
+use crate::audited::run_audited;
 use crate::commands::Prepared;
 use crate::faults::write_graph_fault;
 use crate::numbering::Numbered;
@@ -14,7 +15,7 @@ use sdl_file_commands::in_threads::run_bound_in_threads;
 use sdl_file_commands::running::Settings;
 use sdl_graph::Graph;
 use sdl_graph_binding::{Broken, Design, GraphAgents, GraphFault, Marks, Stored, bind_graph};
-use sdl_transition::Bound;
+use sdl_transition::{Agents, Bound};
 use std::alloc::Global;
 use std::io::{Read, Write};
 use std::sync::Wait;
@@ -33,7 +34,7 @@ pub fn refused<E: Write>(errors: &mut E, design: &Design, fault: GraphFault) -> 
 
 /// Binds the stored transitions to the structure and runs the agents, and answers the exit status: the first refusal, also of
 /// what was to be stored, or how the run ended. Where a transition broke its offer, a line of standard error names the first, with the number of
-/// answers that broke theirs. The logs are stored where a trace was asked for, and else counted alone.
+/// answers that broke theirs. The logs are stored where a trace or an audit was asked for, and else counted alone.
 #[tactic(auto, unfolding(sdl_file_commands::specs::Running::CanRun))]
 pub fn run_prepared<G: Graph + Send, T: Threads + Wait + Sync, R: Read, W: Write, E: Write>(
     rt: &T,
@@ -45,7 +46,7 @@ pub fn run_prepared<G: Graph + Send, T: Threads + Wait + Sync, R: Read, W: Write
     errors: &mut E,
 ) -> u8
     requires { CanRun prepared.checked prepared.routes }
-    ensures run { HasRunGraphOrNot prepared.options (R.remaining input.old) (R.remaining input.new)
+    ensures run { HasRunGraphOrNot prepared.options prepared.audit (R.remaining input.old) (R.remaining input.new)
         (W.contents output.old) (W.contents output.new) prepared.checked prepared.routes result }
     // Where nothing was run, nothing was read or written.
     ensures refused { result ≡ 1 → (input.new ≡ input.old) × (output.new ≡ output.old) }
@@ -54,6 +55,7 @@ pub fn run_prepared<G: Graph + Send, T: Threads + Wait + Sync, R: Read, W: Write
     let Prepared {
         alloc,
         options,
+        audit,
         checked,
         routes,
     } = prepared;
@@ -67,7 +69,9 @@ pub fn run_prepared<G: Graph + Send, T: Threads + Wait + Sync, R: Read, W: Write
         Err(fault) => return refused(errors, design, fault),
     };
     match bind_graph(alloc, checked, routes, design, transitions) {
-        Ok(bound) => run_marked(rt, settings, bound, design, &marks, input, output, errors),
+        Ok(bound) => run_marked(
+            rt, settings, audit, bound, design, &marks, input, output, errors,
+        ),
         Err(fault) => refused(errors, design, fault),
     }
 }
@@ -76,6 +80,7 @@ pub fn run_prepared<G: Graph + Send, T: Threads + Wait + Sync, R: Read, W: Write
 fn run_marked<G: Graph + Send, T: Threads + Wait + Sync, R: Read, W: Write, E: Write>(
     rt: &T,
     settings: Settings,
+    audit: bool,
     bound: Bound<GraphAgents<G>>,
     design: &Design,
     marks: &Marks,
@@ -85,16 +90,40 @@ fn run_marked<G: Graph + Send, T: Threads + Wait + Sync, R: Read, W: Write, E: W
 ) -> u8
     requires bound { IsBound (λ _ _ _. Unit {0}) bound }
     requires budget { HasBudget (structure_of bound) }
-    ensures run { HasRunGraphOrNot settings.entry.options (R.remaining input.old) (R.remaining input.new)
+    ensures run { HasRunGraphOrNot settings.entry.options audit (R.remaining input.old) (R.remaining input.new)
         (W.contents output.old) (W.contents output.new) (structure_of bound) (routes_of bound) result }
     ensures refused { result ≡ 1 → (input.new ≡ input.old) × (output.new ≡ output.old) }
     ensures silent { result ≡ 0 → Keeps (E.contents errors.old) (E.contents errors.new) }
 {
-    let status = run_bound_in_threads(rt, settings, bound, input, output, &mut *errors);
+    let status = run_told(rt, settings, audit, bound, input, output, &mut *errors);
     if status == REFUSED {
         return REFUSED;
     }
     report_broken(status, design, marks.broken(), errors)
+}
+
+/// Runs a system that is bound, with an audit of what it leaves where that is asked for, and answers the exit status.
+fn run_told<S: Agents + Send + Drop, T: Threads + Wait + Sync, R: Read, W: Write, E: Write>(
+    rt: &T,
+    settings: Settings,
+    audit: bool,
+    bound: Bound<S>,
+    input: &mut R,
+    output: &mut W,
+    errors: &mut E,
+) -> u8
+    requires bound { IsBound S.may bound }
+    requires budget { HasBudget (structure_of bound) }
+    ensures made { (result ≡ 1) ⊎ HasRunAudited S.may (structure_of bound) (routes_of bound) settings.entry.options audit
+        (R.remaining input.old) (R.remaining input.new) (W.contents output.old) (W.contents output.new) result }
+    ensures refused { result ≡ 1 → (input.new ≡ input.old) × (output.new ≡ output.old) }
+    ensures silent { result ≡ 0 → Keeps (E.contents errors.old) (E.contents errors.new) }
+{
+    if audit {
+        run_audited(rt, settings, bound, input, output, errors)
+    } else {
+        run_bound_in_threads(rt, settings, bound, input, output, errors)
+    }
 }
 
 /// Writes which transition broke its offer first, and how many answers did, where one did, and answers the exit status.

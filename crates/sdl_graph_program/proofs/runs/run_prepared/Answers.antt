@@ -13,6 +13,6 @@ run_marked-requires-clause-budget g c κs outlives = subst HasBudget (sym c.in-O
 pub returns-in-Ok-bind_graph-clause-run : goal.returns-in-Ok-bind_graph-clause-run
 returns-in-Ok-bind_graph-clause-run g c =
     let ran : Structure → List TableRow → Type 0 =
-    λ s routes. HasRunGraphOrNot c.args.prepared.options (g.R.Read.remaining c.args.input.now) (g.R.Read.remaining c.run_marked.new.input) (g.W.Write.contents c.args.output.now) (g.W.Write.contents c.run_marked.new.output) s routes c.run_marked.result in
+    λ s routes. HasRunGraphOrNot c.args.prepared.options c.args.prepared.audit (g.R.Read.remaining c.args.input.now) (g.R.Read.remaining c.run_marked.new.input) (g.W.Write.contents c.args.output.now) (g.W.Write.contents c.run_marked.new.output) s routes c.run_marked.result in
     subst (λ (s : Structure). ran s c.args.prepared.routes) c.in-Ok-bind_graph.ensures.structure
     (subst (λ (routes : List TableRow). ran (structure_of c.in-Ok-bind_graph.bound) routes) c.in-Ok-bind_graph.ensures.routes c.run_marked.ensures.run)
