@@ -1,4 +1,4 @@
-//! Whole runs of Ring, and of Echo where a schedule chooses or the writer fails. Runs of Relay in threads where steps wait for one
+//! Whole runs of Ring, and of Echo where a schedule chooses or a stream fails. Runs of Relay in threads where steps wait for one
 //! another. How workers in threads come to rest, a queue whose ends are in threads, and a pile of saved signals.
 #![tactic(auto)]
 
@@ -30,5 +30,7 @@ mod ring;
 mod ring_left;
 #[cfg(test)]
 mod runs;
+#[cfg(test)]
+mod streams;
 #[cfg(test)]
 mod threaded;

@@ -1,0 +1,242 @@
+//! Runs of Echo, on one thread and in threads, whose reader or writer fails after so many bytes or is interrupted so often.
+ghost use Rattle.std.specs.Prelude.{◌≤◌, length};
+ghost use Rattle.sdl_transition.specs.Bound.{IsBound};
+
+use sdl_agents::echo_behaviours;
+use sdl_examples::ECHO;
+use sdl_run::{Closing, Ledger, OpenGate, RunEnd, StartFault, run_serial, run_threads};
+use sdl_signal::{InputEnd, OutputEnd};
+use sdl_test_systems::{Stop, bind_to};
+use sdl_transition::{Agents, Bound};
+use std::alloc::Global;
+use std::io;
+use std::io::{ErrorKind, Read, Write};
+use std::sync::Wait;
+use std::test::Fail;
+use std::thread::Threads;
+
+#[derive(Clone, Copy)]
+enum Form {
+    OneThread,
+    Threads,
+}
+
+/// What a run is given: a reader that gives these bytes and then ends or fails, and a writer that takes so many bytes and then
+/// fails. So many of their first calls are interrupted.
+#[derive(Clone, Copy)]
+struct Streams<'a> {
+    bytes: &'a [u8],
+    breaks: bool,
+    room: usize,
+    interrupted_reads: u32,
+    interrupted_writes: u32,
+}
+
+#[derive(Drop)]
+struct Reader<'a> {
+    left: &'a [u8],
+    breaks: bool,
+    interruptions: u32,
+}
+
+impl Read for Reader<'_> {
+    fn read(&mut self, buffer: &mut [u8]) -> io::Result<usize> {
+        if self.interruptions > 0 {
+            self.interruptions -= 1;
+            return Err(io::Error::from(ErrorKind::Interrupted));
+        }
+        if self.left.is_empty() && self.breaks {
+            return Err(io::Error::from(ErrorKind::Other));
+        }
+        let count = self.left.len().min(buffer.len());
+        buffer[..count].copy_from_slice(&self.left[..count]);
+        self.left = &self.left[count..];
+        Ok(count)
+    }
+}
+
+#[derive(Drop)]
+struct Writer {
+    taken: Vec<u8>,
+    room: usize,
+    interruptions: u32,
+}
+
+impl Write for Writer {
+    fn write(&mut self, bytes: &[u8]) -> io::Result<usize> {
+        if self.interruptions > 0 {
+            self.interruptions -= 1;
+            return Err(io::Error::from(ErrorKind::Interrupted));
+        }
+        if self.room == 0 {
+            return Err(io::Error::from(ErrorKind::Other));
+        }
+        let count = self.room.min(bytes.len());
+        self.taken.extend_from_slice(&bytes[..count])?;
+        self.room -= count;
+        Ok(count)
+    }
+
+    fn flush(&mut self) -> io::Result<()> {
+        Ok(())
+    }
+}
+
+/// What a run left that these tests look at.
+#[derive(Drop)]
+struct Left {
+    written: Vec<u8>,
+    ledger: Ledger,
+    ends: (InputEnd, OutputEnd, RunEnd),
+}
+
+/// More turns than these runs make.
+const BUDGET: u32 = 100;
+
+/// Runs the system.
+fn run_bound<S: Agents + Send + Drop, T: Threads + Wait + Sync>(
+    rt: &T,
+    alloc: Global,
+    bound: Bound<S>,
+    form: Form,
+    streams: &Streams,
+) -> Result<Left, Stop>
+    requires { IsBound S.may bound }
+{
+    let mut input = Reader {
+        left: streams.bytes,
+        breaks: streams.breaks,
+        interruptions: streams.interrupted_reads,
+    };
+    let mut output = Writer {
+        taken: Vec::new(alloc),
+        room: streams.room,
+        interruptions: streams.interrupted_writes,
+    };
+    let ran: Result<Closing<S>, StartFault<S>> = match form {
+        Form::OneThread => run_serial(alloc, bound, BUDGET, &[], &mut input, &mut output),
+        Form::Threads => run_threads(rt, alloc, bound, BUDGET, &OpenGate, &mut input, &mut output),
+    };
+    match ran {
+        Ok(closing) => Ok(Left {
+            written: output.taken,
+            ledger: closing.ledger,
+            ends: (closing.input, closing.output, closing.end),
+        }),
+        Err(StartFault::Memory(_)) => Err(Stop::Memory),
+    }
+}
+
+/// Makes the agents of Echo, and runs it.
+fn run<T: Threads + Wait + Sync>(
+    rt: &T,
+    alloc: Global,
+    form: Form,
+    streams: &Streams,
+) -> Result<Left, Stop> {
+    let behaviours = echo_behaviours!(alloc, 1);
+    let bound = bind_to(alloc, ECHO, behaviours)?;
+    run_bound(rt, alloc, bound, form, streams)
+}
+
+const FORMS: &[Form] = &[Form::OneThread, Form::Threads];
+
+const LINES: &[u8] = b"line ping 7\nline ping 8\n";
+
+const ONE_ANSWER: &[u8] = b"line pong 7\n";
+
+const ANSWERS: &[u8] = b"line pong 7\nline pong 8\n";
+
+/// How many lines stand whole in so many bytes of the two, and the answers to them.
+fn whole_lines(count: usize) -> (u64, &'static [u8]) {
+    if count < 12 {
+        (0, &[])
+    } else if count < 24 {
+        (1, ONE_ANSWER)
+    } else {
+        (2, ANSWERS)
+    }
+}
+
+const WELL: Streams = Streams {
+    bytes: LINES,
+    breaks: false,
+    room: 100,
+    interrupted_reads: 0,
+    interrupted_writes: 0,
+};
+
+/// The ledger of a run that read so many lines, and received an answer to each.
+fn ledger_of(lines: u64) -> Ledger {
+    let both = lines.saturating_mul(2);
+    Ledger {
+        output: both,
+        entered: both,
+        fired: lines,
+        environment: lines,
+        ..Ledger::default()
+    }
+}
+
+/// Wherever the reader fails, what came whole before is carried out and answered.
+#[test]
+fn whole_lines_are_answered_where_the_reader_fails(rt: HostRuntime) -> Result<(), Fail> {
+    for form in FORMS {
+        for count in 0..LINES.len() + 1 {
+            let streams = Streams {
+                bytes: &LINES[..count],
+                breaks: true,
+                ..WELL
+            };
+            let left = run(&rt, rt.alloc(), *form, &streams)?;
+            let (lines, answers) = whole_lines(count);
+            assert!(rt; left.written.as_slice() == answers);
+            assert!(rt; left.ledger == ledger_of(lines));
+            assert!(rt; left.ends == (InputEnd::ReadFault, OutputEnd::Whole, RunEnd::Quiet));
+        }
+    }
+    Ok(())
+}
+
+/// Wherever the writer fails, it has taken all before that, and the run goes on: its ledger is that of a whole one.
+#[test]
+fn a_writer_that_fails_anywhere_changes_no_count(rt: HostRuntime) -> Result<(), Fail> {
+    for form in FORMS {
+        for count in 0..ANSWERS.len() {
+            let streams = Streams {
+                room: count,
+                ..WELL
+            };
+            let left = run(&rt, rt.alloc(), *form, &streams)?;
+            assert!(rt; left.written.as_slice() == &ANSWERS[..count]);
+            assert!(rt; left.ledger == ledger_of(2));
+            assert!(rt; left.ends == (InputEnd::Whole, OutputEnd::WriteFault, RunEnd::Quiet));
+        }
+    }
+    Ok(())
+}
+
+/// Interruptions of the reads and of the writes of one run, how both end, how many lines are read, and what is written.
+const INTERRUPTIONS: &[(u32, u32, InputEnd, OutputEnd, u64, &[u8])] = &[
+    (1_000, 1_000, InputEnd::Whole, OutputEnd::Whole, 2, ANSWERS),
+    (1_001, 1_000, InputEnd::ReadFault, OutputEnd::Whole, 0, b""),
+    (1_000, 1_001, InputEnd::Whole, OutputEnd::WriteFault, 2, b""),
+];
+
+#[test]
+fn a_thousand_interrupted_reads_and_writes_change_nothing(rt: HostRuntime) -> Result<(), Fail> {
+    for form in FORMS {
+        for (reads, writes, input, output, lines, written) in INTERRUPTIONS {
+            let streams = Streams {
+                interrupted_reads: *reads,
+                interrupted_writes: *writes,
+                ..WELL
+            };
+            let left = run(&rt, rt.alloc(), *form, &streams)?;
+            assert!(rt; left.written.as_slice() == *written);
+            assert!(rt; left.ledger == ledger_of(*lines));
+            assert!(rt; left.ends == (*input, *output, RunEnd::Quiet));
+        }
+    }
+    Ok(())
+}
