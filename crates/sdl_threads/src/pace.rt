@@ -11,9 +11,9 @@ use sdl_routes::Routes;
 use std::hint::spin_loop;
 use std::sync::Wait;
 
-/// Called before each step of each worker in a thread. Steps are counted from 0, and the count stays at `u64::MAX` once it is
-/// there. Where the environment waits for the others before it reads, and takes what comes meanwhile, that is no step, unless it has
-/// a backlog. It is for tests, which hold a step back until another was made.
+/// Called once before each step of each worker in a thread. Steps are counted from 0, and the count stays at `u64::MAX` once it is
+/// there. Where the environment waits for the others before it reads, its next step was announced before: the step is made when
+/// something comes to it, or when it reads. It is for tests, which hold a step back until another was made.
 pub trait Gate: Sync {
     /// The worker of this number is about to make the step of this number.
     fn before(&self, worker: u32, step: u64);
@@ -522,6 +522,7 @@ pub(crate) fn drive<W: Work, G: Gate, R: Wait>(
 {
     let mut idling = Idling::new(worker.mark());
     let mut step = 0u64;
+    let mut is_announced = false;
     for _ in rt.forever() {
         for _ in 0..STEPS_AT_ONCE {
             let flushed = worker.flush();
@@ -530,15 +531,16 @@ pub(crate) fn drive<W: Work, G: Gate, R: Wait>(
                 idling.puts(worker.touched(), worker.puts(), flushed);
             }
             let may_ask = !asks || (flushed && idling.may_ask(told));
-            let counts = may_ask || !flushed;
-            if counts {
+            if !is_announced {
                 gate.before(number, step);
+                is_announced = true;
             }
             // (after the greatest pick the least one comes again: which picks there are is open)
             let pick = (step % 4_294_967_296) as u32;
             let stepped = worker.step(rt, structure, routes, pick, may_ask);
-            if counts {
+            if may_ask || !flushed || stepped != Stepped::Idle {
                 step = step.saturating_add(1);
+                is_announced = false;
             }
             match stepped {
                 Stepped::Did => if idling.stirs(told, asks, may_ask) {
