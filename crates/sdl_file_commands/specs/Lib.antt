@@ -1,5 +1,4 @@
 pub mod Running
 pub mod Files
 pub mod Texts
-pub mod Outcomes
 pub mod Commands

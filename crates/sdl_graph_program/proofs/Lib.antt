@@ -1,3 +1,4 @@
+mod Again
 mod Numbers
 mod Behind
 mod Ended

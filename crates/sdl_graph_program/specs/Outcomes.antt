@@ -8,7 +8,7 @@ use Rattle.sdl_behaviour.specs.declared.step.Step.{Step}
 use Rattle.sdl_command.specs.declared.arguments.Options.{Options}
 use Rattle.sdl_file_commands.specs.Commands.{HasPrinted, HasListed}
 use Rattle.sdl_file_commands.specs.Files.{Declares}
-use Rattle.sdl_file_commands.specs.Outcomes.{HasRunBy}
+use Rattle.sdl_file_runs.specs.Outcomes.{HasRunBy}
 use Rattle.sdl_file_commands.specs.Texts.{check_text}
 
 -- the line of an audit that finds nothing wrong

@@ -1,13 +1,15 @@
 //! A run whose closing is audited.
-ghost use Rattle.std.specs.Prelude.{◌≡◌, ◌≤◌, ℕ, ◌⊎◌, false, true, List, Option, IfOk, IfErr, OnOk};
+ghost use Rattle.std.specs.Prelude.{◌≡◌, ◌≢◌, ◌≤◌, ℕ, ◌⊎◌, false, true, List, Option, IfOk, IfErr, OnOk};
 ghost use Rattle.std.specs.Io.KnownBytes.{Keeps, Appends};
 ghost use Rattle.sdl_routes.specs.Routes.{AreRoutesOf};
 ghost use Rattle.sdl_transition.specs.Bound.{IsBound, structure_of, routes_of};
 ghost use Rattle.sdl_outcome.specs.Outcome.{IsComplete};
 ghost use Rattle.sdl_driver.specs.Closings.{HasReadIn, HasWrittenIn, StopsByMemory, IsSameBound, outcome_in, plan_of_bound};
 ghost use Rattle.sdl_driver.specs.Ended.{HasEnded};
+ghost use Rattle.sdl_driver.specs.declared.closing.StartFault.TheVariants.{Memory};
+ghost use Rattle.sdl_serial_run.specs.Serial.{IsBackIn};
 ghost use Rattle.sdl_file_commands.specs.Commands.{HasPrinted};
-ghost use Rattle.sdl_file_commands.specs.Outcomes.{IsToldBy};
+ghost use Rattle.sdl_file_runs.specs.Outcomes.{IsToldBy};
 ghost use Rattle.sdl_file_commands.specs.Running.{HasBudget};
 ghost use Rattle.sdl_graph_program.specs.Outcomes.{HasAudited, HasRunAudited, audit_text};
 
@@ -16,9 +18,9 @@ use sdl_command::arguments::Options;
 use sdl_command::ends::{flushed, report_output};
 use sdl_command::errors::{without_memory, write_error};
 use sdl_command::status::{FAULTY, REFUSED, WHOLE};
-use sdl_file_commands::closing::report_closing;
 use sdl_file_commands::commands::written;
-use sdl_file_commands::running::Settings;
+use sdl_file_runs::closing::report_closing;
+use sdl_file_runs::running::Settings;
 use sdl_packed_log::{Packed, Shows};
 use sdl_run::{Closing, OpenGate, StartFault, run_keeping, run_threads_keeping};
 use sdl_signal::OutputEnd;
@@ -29,7 +31,32 @@ use std::sync::Wait;
 use std::thread::Threads;
 
 /// Runs a system that is bound, with its structure's budget, tells of the run, and audits what it left. Answers the exit status.
-pub(crate) fn run_audited<
+pub fn run_audited<S: Agents + Send + Drop, T: Threads + Wait + Sync, R: Read, W: Write, E: Write>(
+    rt: &T,
+    settings: Settings,
+    bound: Bound<S>,
+    input: &mut R,
+    output: &mut W,
+    errors: &mut E,
+) -> u8
+    requires bound { IsBound S.may bound }
+    requires budget { HasBudget (structure_of bound) }
+    ensures made { (result ≡ 1) ⊎ HasRunAudited S.may (structure_of bound) (routes_of bound) settings.entry.options true
+        (R.remaining input.old) (R.remaining input.new) (W.contents output.old) (W.contents output.new) result }
+    ensures refused { result ≡ 1 → (input.new ≡ input.old) × (output.new ≡ output.old) }
+    ensures silent { result ≡ 0 → Keeps (E.contents errors.old) (E.contents errors.new) }
+{
+    match try_run_audited(rt, settings, bound, input, output, &mut *errors) {
+        Ok(status) => status,
+        Err(StartFault::Memory(_)) => {
+            without_memory(errors);
+            REFUSED
+        }
+    }
+}
+
+/// The same, and where memory is refused before the first step, it says so, and runs the same system with the same reader once more.
+pub fn run_audited_again<
     S: Agents + Send + Drop,
     T: Threads + Wait + Sync,
     R: Read,
@@ -41,35 +68,85 @@ pub(crate) fn run_audited<
     ensures made { (result ≡ 1) ⊎ HasRunAudited S.may (structure_of bound) (routes_of bound) settings.entry.options true
         (R.remaining input.old) (R.remaining input.new) (W.contents output.old) (W.contents output.new) result }
     ensures refused { result ≡ 1 → (input.new ≡ input.old) × (output.new ≡ output.old) }
-    ensures silent { result ≡ 0 → Keeps (E.contents errors.old) (E.contents errors.new) }
 {
-    run_with::<S, Packed, T, R, W, E>(rt, settings, bound, input, output, errors)
+    match try_run_audited(rt, settings, bound, &mut *input, &mut *output, &mut *errors) {
+        Ok(status) => status,
+        Err(fault) => {
+            write_error(errors, "start refused");
+            run_audited(rt, settings, handed_back(fault), input, output, errors)
+        }
+    }
+}
+
+/// The system that a refused start hands back.
+fn handed_back<S: Agents + Drop>(fault: StartFault<S>) -> Bound<S>
+    ensures { fault ≡ Memory result }
+{
+    match fault {
+        StartFault::Memory(bound) => bound,
+    }
+}
+
+/// Runs a system that is bound, with its structure's budget and in threads unless one thread was asked for, tells of the run, and
+/// audits what it left. Answers the exit status. Where memory is refused before the first step, nothing is told, and the system is
+/// handed back. May wait for other threads.
+pub fn try_run_audited<
+    S: Agents + Send + Drop,
+    T: Threads + Wait + Sync,
+    R: Read,
+    W: Write,
+    E: Write,
+>(
+    rt: &T,
+    settings: Settings,
+    bound: Bound<S>,
+    input: &mut R,
+    output: &mut W,
+    errors: &mut E,
+) -> Result<u8, StartFault<S>>
+    requires bound { IsBound S.may bound }
+    requires budget { HasBudget (structure_of bound) }
+    ensures made { IfOk result (HasRunAudited S.may (structure_of bound) (routes_of bound) settings.entry.options true
+        (R.remaining input.old) (R.remaining input.new) (W.contents output.old) (W.contents output.new)) }
+    // The status of a refusal is not that of a run.
+    ensures started { IfOk result (λ status. status ≢ 1) }
+    ensures silent { IfOk result (λ status. status ≡ 0 → Keeps (E.contents errors.old) (E.contents errors.new)) }
+    ensures back { IfErr result (λ f. IsBackIn S.may bound f) }
+    ensures untouched { IfErr result (λ f. (input.new ≡ input.old) × (output.new ≡ output.old) × (errors.new ≡ errors.old)) }
+{
+    try_run_with::<S, Packed, T, R, W, E>(rt, settings, bound, input, output, errors)
 }
 
 /// The same with logs of this kind.
-fn run_with<
+fn try_run_with<
     S: Agents + Send + Drop,
     K: Recounts + Shows + Send,
     T: Threads + Wait + Sync,
     R: Read,
     W: Write,
     E: Write,
->(rt: &T, settings: Settings, bound: Bound<S>, input: &mut R, output: &mut W, errors: &mut E) -> u8
+>(
+    rt: &T,
+    settings: Settings,
+    bound: Bound<S>,
+    input: &mut R,
+    output: &mut W,
+    errors: &mut E,
+) -> Result<u8, StartFault<S>>
     requires bound { IsBound S.may bound }
     requires budget { HasBudget (structure_of bound) }
-    ensures made { (result ≡ 1) ⊎ HasRunAudited S.may (structure_of bound) (routes_of bound) settings.entry.options true
-        (R.remaining input.old) (R.remaining input.new) (W.contents output.old) (W.contents output.new) result }
-    ensures refused { result ≡ 1 → (input.new ≡ input.old) × (output.new ≡ output.old) }
-    ensures silent { result ≡ 0 → Keeps (E.contents errors.old) (E.contents errors.new) }
+    ensures made { IfOk result (HasRunAudited S.may (structure_of bound) (routes_of bound) settings.entry.options true
+        (R.remaining input.old) (R.remaining input.new) (W.contents output.old) (W.contents output.new)) }
+    ensures started { IfOk result (λ status. status ≢ 1) }
+    ensures silent { IfOk result (λ status. status ≡ 0 → Keeps (E.contents errors.old) (E.contents errors.new)) }
+    ensures back { IfErr result (λ f. IsBackIn S.may bound f) }
+    ensures untouched { IfErr result (λ f. (input.new ≡ input.old) × (output.new ≡ output.old) × (errors.new ≡ errors.old)) }
 {
     let structure = bound.checked().structure();
     let budget = structure.budget();
-    match run_stored::<S, K, T, R, W>(rt, settings, bound, budget, input, output) {
-        Ok(closing) => report_audited(rt, settings.options, closing, output, errors),
-        Err(StartFault::Memory(_)) => {
-            without_memory(errors);
-            REFUSED
-        }
+    match run_stored::<S, K, T, R, W>(rt, settings, bound, budget, input, &mut *output) {
+        Ok(closing) => Ok(report_audited(rt, settings.options, closing, output, errors)),
+        Err(fault) => Err(fault),
     }
 }
 
@@ -89,6 +166,7 @@ fn run_stored<S: Agents + Send, K: Recounts + Send, T: Threads + Wait + Sync, R:
     ensures writing { IfOk result (λ c. HasWrittenIn (plan_of_bound bound budget) (W.contents output.old) (W.contents output.new) c) }
     ensures stopped { IfOk result (λ c. StopsByMemory c.input c.end) }
     ensures bound { IfOk result (λ c. IsSameBound bound c.bound) }
+    ensures back { IfErr result (λ f. IsBackIn S.may bound f) }
     ensures untouched { IfErr result (λ f. (input.new ≡ input.old) × (output.new ≡ output.old)) }
 {
     if settings.options.serial {

@@ -3,7 +3,7 @@ ghost use Rattle.std.specs.Prelude.{◌≡◌, ◌≢◌, ℕ, List, false, IfOk
 ghost use Rattle.std.specs.Io.KnownBytes.{Keeps};
 ghost use Rattle.sdl_file_commands.specs.Commands.{IsDone};
 ghost use Rattle.sdl_file_commands.specs.Files.{Declares};
-ghost use Rattle.sdl_file_commands.specs.Outcomes.{HasRun};
+ghost use Rattle.sdl_file_runs.specs.Outcomes.{HasRun};
 ghost use Rattle.sdl_file_commands.specs.Running.{CanRun};
 ghost use Rattle.sdl_graph_program.specs.Outcomes.{IsDoneAtOnce, IsToldOf};
 

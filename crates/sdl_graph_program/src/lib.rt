@@ -2,7 +2,7 @@
 //! graph is written in is passed on.
 #![tactic(auto)]
 
-mod audited;
+pub mod audited;
 pub mod commands;
 mod faults;
 pub mod numbering;

@@ -16,7 +16,7 @@ use Rattle.sdl_command.specs.declared.arguments.Command.TheVariants as command
 use Rattle.sdl_command.specs.Arguments.{arguments_of}
 use Rattle.sdl_command.specs.Pipe.{IsPipedAs}
 use Rattle.sdl_file_commands.specs.Commands.{IsDone}
-use Rattle.sdl_file_commands.specs.Outcomes.{HasRunBy}
+use Rattle.sdl_file_runs.specs.Outcomes.{HasRunBy}
 use Rattle.sdl_program.specs.declared.running.Job.{Job}
 
 -- what the transitions of a built-in system may answer

@@ -13,7 +13,7 @@ use sdl_agents::{
 };
 use sdl_command::status::REFUSED;
 use sdl_file_commands::faults::write_bind_fault;
-use sdl_file_commands::in_threads::run_bound_in_threads;
+use sdl_file_runs::in_threads::run_bound_in_threads;
 use sdl_transition::{Agents, Behaviour, bind};
 use std::alloc::{AllocError, Global};
 use std::io::{Read, Write};

@@ -9,7 +9,7 @@ use crate::built_in::run_system;
 use sdl_agents::system_named;
 use sdl_command::errors::{without_memory, write_error};
 use sdl_command::status::REFUSED;
-use sdl_file_commands::running::Settings;
+use sdl_file_runs::running::Settings;
 use sdl_parts::Checked;
 use sdl_routes::Routes;
 use std::io::{Read, Write};

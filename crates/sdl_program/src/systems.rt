@@ -10,7 +10,7 @@ use crate::running::run_command;
 use sdl_command::arguments::{Command, Options};
 use sdl_command::status::REFUSED;
 use sdl_file_commands::commands::{check_command, checked_file, routes_command, routes_in};
-use sdl_file_commands::running::Settings;
+use sdl_file_runs::running::Settings;
 use sdl_parts::{Checked, Structure};
 use std::alloc::Global;
 use std::io::{Read, Write};

@@ -1,7 +1,7 @@
 //! A run of a structure file over readers and writers in memory.
 use super::bytes::{Bytes, writer_of};
 use sdl_examples::{ECHO, RELAY};
-use sdl_file_commands::running::Settings;
+use sdl_file_runs::running::Settings;
 use sdl_program::{Command, Options, carry_out};
 use std::alloc::Global;
 use std::sync::Wait;

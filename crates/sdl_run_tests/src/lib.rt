@@ -1,7 +1,11 @@
 //! Whole runs of Ring, and of Echo where a schedule chooses or a stream fails. Runs of Relay in threads where steps wait for one
-//! another. How workers in threads come to rest, a queue whose ends are in threads, and a pile of saved signals.
+//! another. How workers in threads come to rest, a queue whose ends are in threads, and a pile of saved signals. What an audit says.
 #![tactic(auto)]
 
+#[cfg(test)]
+mod audited;
+#[cfg(test)]
+mod changes;
 #[cfg(test)]
 mod choices;
 #[cfg(test)]
@@ -16,6 +20,8 @@ mod gates;
 mod held;
 #[cfg(test)]
 mod jobs;
+#[cfg(test)]
+mod one_item;
 #[cfg(test)]
 mod piles;
 #[cfg(test)]

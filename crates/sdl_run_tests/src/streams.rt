@@ -1,10 +1,18 @@
-//! Runs of Echo, on one thread and in threads, whose reader or writer fails after so many bytes or is interrupted so often.
-ghost use Rattle.std.specs.Prelude.{◌≤◌, length};
-ghost use Rattle.sdl_transition.specs.Bound.{IsBound};
+//! Runs of Echo, on one thread and in threads, whose reader or writer fails after so many bytes or is interrupted so often. What
+//! each leaves is audited.
+ghost use Rattle.std.specs.Prelude.{◌≤◌, length, IfOk};
+ghost use Rattle.sdl_routes.specs.Routes.{AreRoutesOf};
+ghost use Rattle.sdl_transition.specs.Bound.{IsBound, structure_of, routes_of};
+ghost use Rattle.sdl_outcome.specs.Lists.{items_in};
+ghost use Rattle.sdl_outcome.specs.Outcome.{IsComplete};
+ghost use Rattle.sdl_driver.specs.Closings.{outcome_in, plan_of_bound};
 
+use crate::changes::{Change, changed};
 use sdl_agents::echo_behaviours;
 use sdl_examples::ECHO;
-use sdl_run::{Closing, Ledger, OpenGate, RunEnd, StartFault, run_serial, run_threads};
+use sdl_run::{
+    AuditFault, Closing, Ledger, OpenGate, RunEnd, StartFault, audit, run_serial, run_threads,
+};
 use sdl_signal::{InputEnd, OutputEnd};
 use sdl_test_systems::{Stop, bind_to};
 use sdl_transition::{Agents, Bound};
@@ -16,7 +24,7 @@ use std::test::Fail;
 use std::thread::Threads;
 
 #[derive(Clone, Copy)]
-enum Form {
+pub enum Form {
     OneThread,
     Threads,
 }
@@ -24,7 +32,7 @@ enum Form {
 /// What a run is given: a reader that gives these bytes and then ends or fails, and a writer that takes so many bytes and then
 /// fails. So many of their first calls are interrupted.
 #[derive(Clone, Copy)]
-struct Streams<'a> {
+pub struct Streams<'a> {
     bytes: &'a [u8],
     breaks: bool,
     room: usize,
@@ -84,22 +92,44 @@ impl Write for Writer {
 
 /// What a run left that these tests look at.
 #[derive(Drop)]
-struct Left {
+pub struct Left {
     written: Vec<u8>,
     ledger: Ledger,
     ends: (InputEnd, OutputEnd, RunEnd),
+    /// What an audit says of it.
+    pub audited: Result<(), AuditFault>,
 }
 
 /// More turns than these runs make.
 const BUDGET: u32 = 100;
 
-/// Runs the system.
+/// Runs the system. What it leaves can be audited.
+fn run_form<S: Agents + Send, T: Threads + Wait + Sync>(
+    rt: &T,
+    alloc: Global,
+    bound: Bound<S>,
+    form: Form,
+    input: &mut Reader,
+    output: &mut Writer,
+) -> Result<Closing<S>, StartFault<S>>
+    requires { IsBound S.may bound }
+    ensures routes { IfOk result (λ c. AreRoutesOf (structure_of c.bound) (routes_of c.bound)) }
+    ensures complete { IfOk result (λ c. IsComplete (plan_of_bound c.bound 0) (outcome_in items_in c)) }
+{
+    match form {
+        Form::OneThread => run_serial(alloc, bound, BUDGET, &[], input, output),
+        Form::Threads => run_threads(rt, alloc, bound, BUDGET, &OpenGate, input, output),
+    }
+}
+
+/// Runs the system, and audits what it left with this change.
 fn run_bound<S: Agents + Send + Drop, T: Threads + Wait + Sync>(
     rt: &T,
     alloc: Global,
     bound: Bound<S>,
     form: Form,
     streams: &Streams,
+    change: Change,
 ) -> Result<Left, Stop>
     requires { IsBound S.may bound }
 {
@@ -113,30 +143,31 @@ fn run_bound<S: Agents + Send + Drop, T: Threads + Wait + Sync>(
         room: streams.room,
         interruptions: streams.interrupted_writes,
     };
-    let ran: Result<Closing<S>, StartFault<S>> = match form {
-        Form::OneThread => run_serial(alloc, bound, BUDGET, &[], &mut input, &mut output),
-        Form::Threads => run_threads(rt, alloc, bound, BUDGET, &OpenGate, &mut input, &mut output),
-    };
-    match ran {
-        Ok(closing) => Ok(Left {
-            written: output.taken,
-            ledger: closing.ledger,
-            ends: (closing.input, closing.output, closing.end),
-        }),
+    match run_form(rt, alloc, bound, form, &mut input, &mut output) {
+        Ok(closing) => {
+            let (closing, audited) = audit(rt, changed(closing, change));
+            Ok(Left {
+                written: output.taken,
+                ledger: closing.ledger,
+                ends: (closing.input, closing.output, closing.end),
+                audited,
+            })
+        }
         Err(StartFault::Memory(_)) => Err(Stop::Memory),
     }
 }
 
-/// Makes the agents of Echo, and runs it.
-fn run<T: Threads + Wait + Sync>(
+/// Makes the agents of Echo, runs it, and audits what it left with this change.
+pub fn run<T: Threads + Wait + Sync>(
     rt: &T,
     alloc: Global,
     form: Form,
     streams: &Streams,
+    change: Change,
 ) -> Result<Left, Stop> {
     let behaviours = echo_behaviours!(alloc, 1);
     let bound = bind_to(alloc, ECHO, behaviours)?;
-    run_bound(rt, alloc, bound, form, streams)
+    run_bound(rt, alloc, bound, form, streams, change)
 }
 
 const FORMS: &[Form] = &[Form::OneThread, Form::Threads];
@@ -158,7 +189,7 @@ fn whole_lines(count: usize) -> (u64, &'static [u8]) {
     }
 }
 
-const WELL: Streams = Streams {
+pub const WELL: Streams = Streams {
     bytes: LINES,
     breaks: false,
     room: 100,
@@ -188,11 +219,12 @@ fn whole_lines_are_answered_where_the_reader_fails(rt: HostRuntime) -> Result<()
                 breaks: true,
                 ..WELL
             };
-            let left = run(&rt, rt.alloc(), *form, &streams)?;
+            let left = run(&rt, rt.alloc(), *form, &streams, Change::Nothing)?;
             let (lines, answers) = whole_lines(count);
             assert!(rt; left.written.as_slice() == answers);
             assert!(rt; left.ledger == ledger_of(lines));
             assert!(rt; left.ends == (InputEnd::ReadFault, OutputEnd::Whole, RunEnd::Quiet));
+            assert!(rt; left.audited == Ok(()));
         }
     }
     Ok(())
@@ -207,10 +239,11 @@ fn a_writer_that_fails_anywhere_changes_no_count(rt: HostRuntime) -> Result<(), 
                 room: count,
                 ..WELL
             };
-            let left = run(&rt, rt.alloc(), *form, &streams)?;
+            let left = run(&rt, rt.alloc(), *form, &streams, Change::Nothing)?;
             assert!(rt; left.written.as_slice() == &ANSWERS[..count]);
             assert!(rt; left.ledger == ledger_of(2));
             assert!(rt; left.ends == (InputEnd::Whole, OutputEnd::WriteFault, RunEnd::Quiet));
+            assert!(rt; left.audited == Ok(()));
         }
     }
     Ok(())
@@ -232,10 +265,11 @@ fn a_thousand_interrupted_reads_and_writes_change_nothing(rt: HostRuntime) -> Re
                 interrupted_writes: *writes,
                 ..WELL
             };
-            let left = run(&rt, rt.alloc(), *form, &streams)?;
+            let left = run(&rt, rt.alloc(), *form, &streams, Change::Nothing)?;
             assert!(rt; left.written.as_slice() == *written);
             assert!(rt; left.ledger == ledger_of(*lines));
             assert!(rt; left.ends == (*input, *output, RunEnd::Quiet));
+            assert!(rt; left.audited == Ok(()));
         }
     }
     Ok(())

@@ -5,7 +5,7 @@ use Rattle.sdl_routes.specs.declared.route.TableRow.{TableRow}
 use Rattle.sdl_transition.specs.Bound.{structure_of, blocks_of}
 use Rattle.sdl_transition.specs.Rules.{block_rules}
 use Rattle.sdl_file_commands.specs.Running.{CanRun, HasBudget}
-use Rattle.sdl_file_commands.specs.Outcomes.{HasRunBy}
+use Rattle.sdl_file_runs.specs.Outcomes.{HasRunBy}
 use Rattle.sdl_program.proofs.built_in.run_behaviours.Goals as goal
 
 pub bind-requires-clause-allowed : goal.bind-requires-clause-allowed

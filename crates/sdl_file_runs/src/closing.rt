@@ -2,15 +2,15 @@
 ghost use Rattle.std.specs.Prelude.{◌≡◌, false, IsOk};
 ghost use Rattle.std.specs.Io.KnownBytes.{Keeps};
 ghost use Rattle.sdl_command.specs.Status.{HasFlushed};
-ghost use Rattle.sdl_file_commands.specs.Outcomes.{status_of_end, IsToldBy};
+ghost use Rattle.sdl_file_runs.specs.Outcomes.{status_of_end, IsToldBy};
 
 use crate::ledger::write_ledger;
-use crate::names::block_name;
-use crate::trace::write_trace;
 use sdl_command::arguments::Options;
 use sdl_command::ends::{flushed, report_input, report_output};
 use sdl_command::errors::write_error;
 use sdl_command::status::{FAULTY, WHOLE};
+use sdl_file_commands::names::block_name;
+use sdl_file_commands::trace::write_trace;
 use sdl_packed_log::Shows;
 use sdl_parts::Structure;
 use sdl_run::{Closing, RunEnd};

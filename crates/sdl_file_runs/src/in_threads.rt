@@ -1,7 +1,7 @@
 //! A run of a bound system in threads.
 ghost use Rattle.std.specs.Prelude.{◌≡◌, ◌⊎◌};
 ghost use Rattle.std.specs.Io.KnownBytes.{Keeps};
-ghost use Rattle.sdl_file_commands.specs.Outcomes.{HasRunOrNot, HasMade};
+ghost use Rattle.sdl_file_runs.specs.Outcomes.{HasRunOrNot, HasMade};
 ghost use Rattle.sdl_file_commands.specs.Running.{HasBudget};
 ghost use Rattle.sdl_transition.specs.Bound.{IsBound, structure_of, routes_of};
 ghost use Rattle.sdl_driver.specs.Closings.{plan_of_bound};

@@ -1,11 +1,11 @@
-use Rattle.std.proofs.Common.{rules, inl, inr, map}
+use Rattle.std.proofs.Common.{rules, map}
 use Rattle.sdl_transition.specs.Rules.{block_rules}
 use Rattle.sdl_transition.specs.Bound.{structure_of, routes_of, blocks_of}
 use Rattle.sdl_driver.specs.Closings.{outcome_in}
-use Rattle.sdl_file_commands.proofs.Told.{was_run, not_refused}
+use Rattle.sdl_file_runs.proofs.Told.{was_run, not_refused}
 use Rattle.sdl_audit.proofs.Callers.{complete_again, routes_again}
 use Rattle.sdl_graph_program.proofs.Ended.{not_one}
-use Rattle.sdl_graph_program.proofs.audited.run_with.Goals as goal
+use Rattle.sdl_graph_program.proofs.audited.try_run_with.Goals as goal
 
 pub report_audited-requires-clause-routes : goal.report_audited-requires-clause-routes
 report_audited-requires-clause-routes g c = routes_again c.args.bound c.in-Ok.closing.bound c.in-Ok.ensures.bound c.requires.bound.routes_are
@@ -17,8 +17,7 @@ report_audited-requires-clause-complete g c =
 pub returns-in-Ok-clause-made : goal.returns-in-Ok-clause-made
 returns-in-Ok-clause-made g c =
     let t = c.report_audited.ensures.told in
-    let rules_of = map block_rules (blocks_of c.args.bound) in
-    inr (
+    let rules_of = map block_rules (blocks_of c.args.bound) in (
       t.0,
       t.1,
       (
@@ -34,7 +33,7 @@ returns-in-Ok-clause-made g c =
       t.4,
     )
 
-pub returns-in-Ok-clause-refused : goal.returns-in-Ok-clause-refused
-returns-in-Ok-clause-refused g c refused =
+pub returns-in-Ok-clause-started : goal.returns-in-Ok-clause-started
+returns-in-Ok-clause-started g c refused =
     let t = c.report_audited.ensures.told in
-    absurd (not_one _ _ t.0 c.report_audited.result (not_refused c.in-Ok.closing.input c.in-Ok.closing.output c.in-Ok.closing.end t.0 t.2) t.4 refused)
+    not_one _ _ t.0 c.report_audited.result (not_refused c.in-Ok.closing.input c.in-Ok.closing.output c.in-Ok.closing.end t.0 t.2) t.4 refused

@@ -2,8 +2,8 @@ use Rattle.std.proofs.Common.{rules, inr, map}
 use Rattle.sdl_transition.specs.Rules.{block_rules}
 use Rattle.sdl_transition.specs.Bound.{structure_of, routes_of, blocks_of}
 use Rattle.sdl_driver.specs.Closings.{outcome_in}
-use Rattle.sdl_file_commands.proofs.Told.{run_told, was_run, not_refused}
-use Rattle.sdl_file_commands.proofs.in_threads.run_with.Goals as goal
+use Rattle.sdl_file_runs.proofs.Told.{run_told, was_run, not_refused}
+use Rattle.sdl_file_runs.proofs.running.run_with.Goals as goal
 
 pub returns-in-Ok-clause-run : goal.returns-in-Ok-clause-run
 returns-in-Ok-clause-run g c =

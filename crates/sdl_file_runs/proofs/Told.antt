@@ -18,7 +18,7 @@ use Rattle.sdl_ledger.specs.declared.ledger.Ledger.{Ledger}
 use Rattle.sdl_driver.specs.Closings.{StopsByMemory}
 use Rattle.sdl_driver.specs.Ended.{HasEnded}
 use Rattle.sdl_command.specs.Status.{status_of_input, status_of_output}
-use Rattle.sdl_file_commands.specs.Outcomes.{HasRun, WasRun, IsToldBy, plan_with, status_of_end, status_of_run}
+use Rattle.sdl_file_runs.specs.Outcomes.{HasRun, WasRun, IsToldBy, plan_with, status_of_end, status_of_run}
 
 has_run : (may : ℕ → Frame → Step → Type 0) (s : Structure) (routes : List TableRow) (rules : List (List Rules)) (o : Outcome) (end : RunEnd) (ledger : Ledger) (read : InputEnd) (written : OutputEnd) (status : ℕ)
     → HasEnded may (plan_with s routes rules) o end ledger → StopsByMemory read end → IsToldBy read written end status → HasRun s routes status
