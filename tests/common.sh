@@ -72,3 +72,24 @@ content() {
         awk '{ n = $1; sub(/^[0-9]+ ?/, ""); for (i = 0; i < n; i++) print }' "$1-repeat"
     fi
 }
+
+# Whether a file has the lines of all files of a folder, those of each in their order.
+in_order() {
+    [ "$(cat "$2"/* | wc -l)" = "$(wc -l <"$1")" ] || return 1
+    for part in "$2"/*; do
+        grep -Fxf "$part" "$1" | cmp -s - "$part" || return 1
+    done
+}
+
+# output_fits CASE FILE: whether the file, to which a program wrote, is what the case wants. Where its content is fixed, it stands in
+# $work/stdout.wanted.
+output_fits() {
+    if [ -d "$1/stdout-in-order" ]; then
+        in_order "$2" "$1/stdout-in-order"
+    elif [ -f "$1/stdout-in-any-order" ]; then
+        sort "$1/stdout-in-any-order" >"$work/stdout.wanted"
+        sort "$2" | cmp -s - "$work/stdout.wanted"
+    else
+        cmp -s "$2" "$work/stdout.wanted"
+    fi
+}

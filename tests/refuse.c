@@ -1,9 +1,10 @@
 /* Loaded before the C library, it refuses the program's allocation of the number in REFUSE, counted from 1. It then makes the file
-   that REFUSE_MARK names, where there is one. */
+   that REFUSE_MARK names, where there is one. So it refuses the thread of the number in REFUSE_THREAD. */
 #define _GNU_SOURCE
 #include <dlfcn.h>
 #include <errno.h>
 #include <fcntl.h>
+#include <pthread.h>
 #include <stdatomic.h>
 #include <stdlib.h>
 #include <unistd.h>
@@ -44,4 +45,13 @@ int posix_memalign(void **memory, size_t alignment, size_t size) {
     if (!next) next = dlsym(RTLD_NEXT, "posix_memalign");
     if (is_refused()) return ENOMEM;
     return next(memory, alignment, size);
+}
+
+int pthread_create(pthread_t *thread, const pthread_attr_t *attributes, void *(*start)(void *), void *with) {
+    static int (*next)(pthread_t *, const pthread_attr_t *, void *(*)(void *), void *);
+    static atomic_long started;
+    if (!next) next = dlsym(RTLD_NEXT, "pthread_create");
+    const char *number = getenv("REFUSE_THREAD");
+    if (atomic_fetch_add(&started, 1) + 1 == (number ? atol(number) : 0)) return EAGAIN;
+    return next(thread, attributes, start, with);
 }
