@@ -1,0 +1,4 @@
+pub mod Offered
+pub mod Room
+pub mod Conforming
+pub mod Examples

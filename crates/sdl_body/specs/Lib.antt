@@ -1,0 +1,3 @@
+pub mod Doing
+pub mod Offering
+pub mod Sound

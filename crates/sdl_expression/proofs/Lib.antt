@@ -1,0 +1,2 @@
+pub mod KeepSorts
+pub mod Examples

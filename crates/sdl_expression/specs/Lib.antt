@@ -1,0 +1,4 @@
+pub mod Arithmetic
+pub mod Scene
+pub mod Values
+pub mod Sorted
