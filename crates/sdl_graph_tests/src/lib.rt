@@ -1,5 +1,4 @@
-//! Tests of offers, steps and frames as a designer writes them. Tests of graphs: binding by names, the marks of broken answers, and
-//! runs.
+//! Tests of offers, steps and frames as a designer writes them. Tests of graphs: binding by names, and the marks of broken answers.
 #![tactic(auto)]
 
 #[cfg(test)]
@@ -13,32 +12,16 @@ mod conformity;
 #[cfg(test)]
 mod designs;
 #[cfg(test)]
-mod echo;
-#[cfg(test)]
 mod filling;
 #[cfg(test)]
 mod graphs;
 #[cfg(test)]
 mod light;
 #[cfg(test)]
-mod office;
-#[cfg(test)]
 mod pair;
-#[cfg(test)]
-mod programs;
 #[cfg(test)]
 mod reading;
 #[cfg(test)]
-mod running;
-#[cfg(test)]
-mod runs;
-#[cfg(test)]
 mod sample;
 #[cfg(test)]
-mod saving;
-#[cfg(test)]
 mod storing;
-#[cfg(test)]
-mod texts;
-#[cfg(test)]
-mod wheel;

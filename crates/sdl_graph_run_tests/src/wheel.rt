@@ -1,5 +1,4 @@
 //! A wheel of 16 positions, its structure, and a wheel with a broken offer.
-use super::graphs::WHEEL_FROM;
 use sdl_behaviour::{Dest, Frame, Kind, Offer, Step, Via};
 use sdl_graph::{OfferBuilder, StepBuilder, integer_variable, no_offer, no_step};
 use sdl_graph_binding::{Design, SetDesign};
@@ -157,18 +156,18 @@ fn wheel_step(number: u32, frame: &Frame) -> Step {
     }
 }
 
-/// The number of the start of the wheel, among those of all graphs.
-pub const SOUND: u32 = WHEEL_FROM;
+/// The number of the start of the wheel, among those of both.
+pub const SOUND: u32 = 0;
 
 /// The number of the start of a wheel in which a look in position 2 does not offer its output.
-pub const FAULTY: u32 = WHEEL_FROM + TRANSITIONS;
+pub const FAULTY: u32 = TRANSITIONS;
 
 /// The number of the transition whose offer is broken.
 pub const BROKEN: u32 = FAULTY + 9;
 
 /// The offers of both wheels, from 0 on.
 pub fn offer(number: u32) -> Offer {
-    if number == BROKEN - WHEEL_FROM {
+    if number == BROKEN {
         OfferBuilder::start(1, &[Sort::Integer])
             .row(StateId(2), signal_of(Move::Look), &[])
             .next_state(StateId(2))

@@ -6,7 +6,7 @@ use Rattle.sdl_outcome.specs.Outcome.{IsComplete}
 use Rattle.sdl_driver.specs.Closings.{outcome_in, plan_of_bound, IsSameBound}
 use Rattle.sdl_driver.specs.Ended.{HasEnded}
 use Rattle.sdl_audit.proofs.Callers.{complete_again, routes_again}
-use Rattle.sdl_run_tests.proofs.streams.run_form.Goals as goal
+use Rattle.sdl_stream_tests.proofs.streams.run_form.Goals as goal
 
 -- two facts of a value, if there is one, give a third
 if_both : {A E : Type 0} (r : Result A E) (P Q R : A → Type 0) → ((x : A) → P x → Q x → R x) → IfOk r P → IfOk r Q → IfOk r R

@@ -1,5 +1,4 @@
 //! Echo as a graph, and in it an Echo whose row does not offer its output, and two that put their steps together in place.
-use super::graphs::ECHO_FROM;
 use sdl_graph_program::{
     Design, Dest, Frame, Kind, Offer, OfferBuilder, SetDesign, SignalId, Sort, StateId, Step,
     StepBuilder, Value, Via, in_place, integer_parameter, no_offer, no_step,
@@ -28,20 +27,20 @@ fn fill_ping(frame: &Frame, id: SignalId, step: &mut Step) {
     in_place::output(step, id, &[given], Dest::Anywhere, Via::Any);
 }
 
-/// The number of the start of Echo, among those of all graphs.
-pub const SOUND: u32 = ECHO_FROM;
+/// The number of the start of Echo, among those of all of these.
+pub const SOUND: u32 = 0;
 
 /// The number of the start of an Echo whose row does not offer the output that it makes.
-pub const MUTE: u32 = ECHO_FROM + 2;
+pub const MUTE: u32 = 2;
 
 /// The number of the start of an Echo whose row is put together in place alone.
-pub const FILLED: u32 = ECHO_FROM + 4;
+pub const FILLED: u32 = 4;
 
 /// The number of the start of an Echo whose row breaks its offer in place, and keeps to it where it is built.
-pub const MENDED: u32 = ECHO_FROM + 6;
+pub const MENDED: u32 = 6;
 
 /// A number that no transition has.
-pub const ABSENT: u32 = ECHO_FROM + 8;
+pub const ABSENT: u32 = 8;
 
 /// The offers of all of them, from 0 on, each of a start and a row.
 pub fn offer(number: u32) -> Offer {
