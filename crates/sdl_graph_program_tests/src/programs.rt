@@ -59,7 +59,7 @@ const TRIALS: [Trial; 6] = [
         lines: PINGS,
         status: BROKEN,
         output: b"",
-        errors: b"broken offer transition 203 answers 2\n",
+        errors: b"broken offer transition 3 answers 2\n",
     },
     // A broken offer is told after a fault of the input.
     Trial {
@@ -68,7 +68,7 @@ const TRIALS: [Trial; 6] = [
         lines: b"line ping 7\nline\n",
         status: 4,
         output: b"",
-        errors: b"input line 2: L3 Missing\nbroken offer transition 203 answers 1\n",
+        errors: b"input line 2: L3 Missing\nbroken offer transition 3 answers 1\n",
     },
     // A number without an offer is not stored, and nothing is run.
     Trial {
@@ -77,7 +77,7 @@ const TRIALS: [Trial; 6] = [
         lines: PINGS,
         status: 1,
         output: b"",
-        errors: b"G1 NoOffer transition 208\n",
+        errors: b"G1 NoOffer transition 8\n",
     },
 ];
 
