@@ -17,10 +17,11 @@ fn past_semicolons<'a>(at: Cursor<'a>) -> Cursor<'a>
     ensures shorter { length result.tokens.now ≤ length at.entry.tokens.now }
     ensures spelled { Reads AreSemicolons at.entry.tokens.now result.tokens.now }
 {
-    match at.sign(Sign::Semicolon) {
-        Ok(rest) => past_semicolons(rest),
-        Err(_) => at,
+    let mut here = at;
+    while let Ok(rest) = here.sign(Sign::Semicolon) {
+        here = rest;
     }
+    here
 }
 
 /// Whether the statement ends with a brace.
