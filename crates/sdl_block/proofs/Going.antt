@@ -1,8 +1,12 @@
 -- The phases of a step, as parts, and what their answers say.
-use Rattle.std.proofs.Common.{◌≡◌, ℕ, ◌+◌, ◌≤◌, ◌⊎◌, inl, inr, Bool, true, false, ◌||◌, Result, Ok, Err, List, [], ◌∷◌, ◌++◌, Option, None, Some, length, All, refl, ap, sym, ◌∙◌, subst, append-nil, length-append, true≢false, arith}
+use Rattle.std.proofs.Common.{◌≡◌, ℕ, ◌+◌, ◌≤◌, inl, inr, Bool, true, false, ◌||◌, Result, Ok, Err, List, [], ◌∷◌, ◌++◌, Option, None, length, All, refl, ap, sym, ◌∙◌, subst, append-nil, length-append, true≢false, arith}
 use Rattle.std.specs.Option.{option_to_list}
+use Rattle.std.specs.Prelude.{MatchOption, MatchResult, ⊤}
 use Rattle.std.proofs.lemmas.List.Elements.{All-nil}
+use Rattle.sdl_signal.specs.declared.ids.BlockId.{BlockId}
 use Rattle.sdl_signal.specs.declared.values.Item.{Item}
+use Rattle.sdl_routes.specs.declared.route.TableRow.{TableRow}
+use Rattle.sdl_routes.specs.declared.route.Station.TheVariants as station
 use Rattle.sdl_behaviour.specs.declared.step.Frame.{Frame}
 use Rattle.sdl_behaviour.specs.declared.step.Step.{Step}
 use Rattle.sdl_log.specs.declared.event.Event.{Event}
@@ -11,13 +15,16 @@ use Rattle.sdl_log.specs.declared.event.Arrival.{Arrival}
 use Rattle.sdl_log.specs.declared.event.Arrival.TheVariants as arrival
 use Rattle.sdl_instances.specs.Machine.{System}
 use Rattle.sdl_instances.specs.Run.{arrived, sent, turns, turn_in}
-use Rattle.sdl_instances.specs.Core.{IsSound, IsLegalIn, arrival_event}
+use Rattle.sdl_instances.specs.Core.{Core, IsSound, IsLegalIn, arrival_event}
 use Rattle.sdl_instances.specs.Calls.{KeepsRest}
+use Rattle.sdl_forward.specs.Queues.{Relations, Fills}
 use Rattle.sdl_hand.specs.declared.hand.Refused.{Refused}
-use Rattle.sdl_hand.specs.Work.{Working}
-use Rattle.sdl_block.specs.Phases.{IsSpent, LetsArrive, MakesTurn}
+use Rattle.sdl_hand.specs.Work.{Working, beginning_at}
+use Rattle.sdl_hand.specs.PutsBy.{PutsOutBy}
+use Rattle.sdl_block.specs.Phases.{IsSpent, ArrivesOrStays, MakesTurn}
+use Rattle.sdl_block.specs.Around.{Queues, TakesBy, PutsBy, LetsBy, around}
 use Rattle.sdl_hand.specs.Puts.{AreRouted}
-use Rattle.sdl_block.proofs.Parts.{Queues, Part, part_then, keeps-same}
+use Rattle.sdl_block.proofs.Parts.{Part, part_then, keeps-same}
 
 abbrev is_cons : {X : Type 0} → List X → Bool
 is_cons [] = false
@@ -52,28 +59,39 @@ arrived_none (event.Discarded i c) is = absurd (let bad : ⊥ = omega (arith, is
 pub routed : (sys : System) (items : List Item) → All (IsLegalIn sys) items → AreRouted sys.routes items
 routed sys items legal = λ k d within. ((legal k d within).carried.0, (legal k d within).carried.1)
 
-module _ {B : Type 0} (q : Queues B) where
-  -- the item taken is the kept one, or else one more is taken
-  abbrev pub TakesBy : Working → B → Item → B → Type 0
-  TakesBy w before i after = ((w.kept ≡ Some i) × q.Still before after) ⊎ ((w.kept ≡ None) × q.Moves [] (i ∷ []) before after)
+module _ {B : Type 0} (q : Relations B) (rows : List TableRow) (core : Core) where
+  -- what was put out, around the block
+  pub puts_so : (old : List Item) (before : B) (result : Result Bool Refused) (new : List Item) (after : B) → PutsOutBy q rows old before result new after → PutsBy (around q rows core) old before result new after
+  puts_so old before (Ok true) new after (puts, some, none) = (q.puts_move (station.Inlet core.block) (λ s. beginning_at rows s old) before after puts, some, none)
+  puts_so old before (Ok false) new after (was, none, same) = (was, none, subst (q.Still before) (sym same) (q.still_same before))
+  puts_so old before (Err r) new after (put, whole, puts) = (put, whole, q.puts_move (station.Inlet core.block) (λ s. beginning_at rows s put) before after puts)
 
-  -- all that was in hand is put, or the first part of it is
-  abbrev pub PutsBy : List Item → B → Result Bool Refused → List Item → B → Type 0
-  PutsBy old before (Ok true) new after = q.Moves old [] before after × (old ≡ [] → ⊥) × (new ≡ [])
-  PutsBy old before (Ok false) new after = (old ≡ []) × (new ≡ []) × q.Still before after
-  PutsBy old before (Err _) new after = (put : List Item) × (put ++ new ≡ old) × q.Moves put [] before after
+module _ {B : Type 0} (q : Relations B) (may : ℕ → Frame → Step → Type 0) (sys : System) (old : Working) (before : B) where
+  -- what is kept then: what was, or what was taken; none where nothing was there to be taken
+  abbrev Kept : BlockId → Option Item → B → Type 0
+  Kept block kept after = MatchOption kept ((old.kept ≡ None) × q.Still before after × q.Empty before (station.Inlet block)) (λ i. Fills q (station.Inlet block) old.kept before i after)
+
+  takes_so : (i : Item) (after : B) → Fills q (station.Inlet old.core.block) old.kept before i after → TakesBy (around q sys.routes old.core) old before i after
+  takes_so i after (inl (kept, same)) = inl (kept, subst (q.Still before) (sym same) (q.still_same before))
+  takes_so i after (inr (none, moves)) = inr (none, moves)
+
+  -- the item that is kept then arrives, or stays
+  pub lets_from : (block : BlockId) → block ≡ old.core.block → (kept : Option Item) (result : Result Bool Refused) (new : Working) (after : B) → (IsSpent old.core → ⊥) → Kept block kept after → ArrivesOrStays may sys (record old { kept = kept }) result new
+      → LetsBy may sys (around q sys.routes old.core) old before result new after
+  lets_from block here kept (Ok true) new after unspent took (i, is, arrives) = (i, unspent, takes_so i after (subst (λ (k : Option Item). Kept old.core.block k after) is (subst (λ (b : BlockId). Kept b kept after) here took)), arrives)
+  lets_from block here kept (Ok false) new after unspent took (none, same) =
+      let (was, still, empty) = subst (λ (k : Option Item). Kept old.core.block k after) none (subst (λ (b : BlockId). Kept b kept after) here took) in
+      (same ∙ ap (λ (k : Option Item). record old { kept = k }) (none ∙ sym was), still, was, inr empty)
+  lets_from block here kept (Err r) new after unspent took (i, is, same) =
+      inr (unspent, (i, takes_so i after (subst (λ (k : Option Item). Kept old.core.block k after) is (subst (λ (b : BlockId). Kept b kept after) here took)), same ∙ ap (λ (k : Option Item). record old { kept = k }) is))
+
+  -- none arrives once the budget is used
+  pub lets_none : (result : Result Bool Refused) → IsSpent old.core → MatchResult result (λ arrived. (arrived ≡ false) × (old.kept ≡ None)) (λ _. ⊤) → LetsBy may sys (around q sys.routes old.core) old before result old before
+  lets_none (Ok true) spent (said, none) = absurd (true≢false said)
+  lets_none (Ok false) spent (said, none) = (refl, q.still_same before, none, inl spent)
+  lets_none (Err r) spent said = inl (spent, refl, q.still_same before)
 
 module _ (may : ℕ → Frame → Step → Type 0) (sys : System) {B : Type 0} (q : Queues B) where
-  -- unless the budget is used, the item taken arrives, or is kept
-  abbrev pub LetsBy : Working → B → Result Bool Refused → Working → B → Type 0
-  LetsBy old before (Ok true) new after =
-      (i : Item) × (IsSpent old.core → ⊥) × TakesBy q old before i after × LetsArrive may sys (record old { kept = None }) i new
-  LetsBy old before (Ok false) new after =
-      (new ≡ old) × q.Still before after × (old.kept ≡ None) × (IsSpent old.core ⊎ q.Empty before)
-  LetsBy old before (Err _) new after =
-      (IsSpent old.core × (new ≡ old) × q.Still before after)
-      ⊎ ((IsSpent old.core → ⊥) × ((i : Item) × TakesBy q old before i after × (new ≡ record old { kept = Some i })))
-
   -- part of a step in which at most so many items are taken, and after the budget is used nothing happens
   pub record Going (most : ℕ) (old : Working) (before : B) (new : Working) (after : B) : Type 0 where
     pub put : List Item

@@ -1,5 +1,5 @@
 -- What the steps of a block keep where each queue has ends of its own.
-use Rattle.std.proofs.Common.{◌≡◌, ℕ, List, [], ◌∷◌, ◌++◌, Option, All, slice_get, option_and_then, refl, ap, sym, ◌∙◌, subst, append_assoc, append-nil, arith}
+use Rattle.std.proofs.Common.{◌≡◌, ℕ, Bool, true, false, Ok, Some, List, [], ◌∷◌, ◌++◌, Option, All, slice_get, option_and_then, refl, ap, sym, ◌∙◌, subst, append_assoc, append-nil, arith}
 use Rattle.std.specs.Option.{option_to_list}
 use Rattle.std.specs.List.{flat_map}
 use Rattle.std.proofs.lemmas.List.Concat.{flat_map-append}
@@ -7,6 +7,8 @@ use Rattle.std.proofs.lemmas.List.Elements.{All-nil, All-cons, All-head, All-tai
 use Rattle.sdl_signal.specs.declared.ids.BlockId.{BlockId}
 use Rattle.sdl_signal.specs.declared.values.Item.{Item}
 use Rattle.sdl_routes.specs.declared.route.TableRow.{TableRow}
+use Rattle.sdl_routes.specs.declared.route.Station.{Station}
+use Rattle.sdl_routes.specs.declared.route.Station.TheVariants as station
 use Rattle.sdl_behaviour.specs.declared.step.Frame.{Frame}
 use Rattle.sdl_behaviour.specs.declared.step.Step.{Step}
 use Rattle.sdl_transition.specs.Rules.{Rules}
@@ -16,16 +18,19 @@ use Rattle.sdl_instances.specs.Run.{Leads, arrived, sent, sent_by, done_in, all_
 use Rattle.sdl_instances.specs.Core.{Core, IsSound, IsBoundIn, IsLegalIn, system_of}
 use Rattle.sdl_instances.proofs.Home.{IsHome, IsFromBlock, next_home, run_home}
 use Rattle.sdl_ends.specs.Ends.{WorkerEnds, IsSameEnds, put_at, taken_by}
+use Rattle.sdl_forward.specs.Queues.{Relations}
+use Rattle.sdl_forward.specs.ByEnds.{by_ends, has_feed_still}
 use Rattle.sdl_hand.specs.declared.hand.Stepped.{Stepped}
 use Rattle.sdl_hand.specs.declared.hand.Stepped.TheVariants.{Did, Idle, Memory}
-use Rattle.sdl_hand.specs.Work.{Working, beginning_at, with_core}
+use Rattle.sdl_hand.specs.Work.{Working, beginning_at, first_station, with_core}
 use Rattle.sdl_hand.specs.Apart.{WorksApart, IsIdleApart, StepsApart, HasOwnWays, IsPuttingOut, AreFresh, HasPutOut}
 use Rattle.sdl_hand.specs.PutsApart.{HasWayOut, HaveWaysOut}
+use Rattle.sdl_hand.specs.PutsBy.{CanPutOut}
 use Rattle.sdl_hand.proofs.Fronts.{beginning-append}
-use Rattle.sdl_hand.proofs.FrontsApart.{has_feed_still}
+use Rattle.sdl_block.specs.Phases.{TriesTurn}
+use Rattle.sdl_block.specs.Around.{HasWays, around}
 use Rattle.sdl_block.proofs.Again.{all_behind}
 use Rattle.sdl_block.proofs.Going.{Going}
-use Rattle.sdl_block.proofs.AtEnds.{at_ends, works_so}
 use Rattle.sdl_block.proofs.Parts.{sent-append, arrived-append, keeps-same}
 use Rattle.sdl_block.proofs.Systems.{same_system}
 
@@ -51,15 +56,29 @@ all_weaker : {X : Type 0} (P Q : X → Type 0) → ((x : X) → P x → Q x) →
 all_weaker P Q f [] h = All-nil Q
 all_weaker P Q f (x ∷ xs) h = All-cons Q x xs (f x (All-head P x xs h)) (all_weaker P Q f xs (All-tail P x xs h))
 
--- so the block has a feed where it goes
-way_of : (sys : System) (block : BlockId) (ends : WorkerEnds) → HasOwnWays sys block ends → (i : Item) → IsFromBlock sys.sets sys.routes block i → HasWayOut sys.routes ends i
-way_of sys block ends ways i (set, serial, d, row, sender, found, here, at, from) = λ s first.
-    ways i.route.0 row s at (set, d, from, found, here)
-    (sym (ap (λ (o : Option TableRow). option_and_then (λ r. slice_get r.route.stations.items 0) o) at) ∙ first)
+-- so it can be put where it goes
+module _ {B : Type 0} (q : Relations B) (may : ℕ → Frame → Step → Type 0) (sys : System) where
+  sent_ways : (c : Core) (queues : B) → IsSound may sys c → HasWays q sys c.block queues → CanPutOut q sys.routes queues (sent c.log)
+  sent_ways c queues sound ways =
+      all_weaker (IsFromBlock sys.sets sys.routes c.block) (λ i. (s : Station) → first_station sys.routes i ≡ Some s → q.CanPut queues s)
+      (λ i (set, serial, d, row, sender, found, here, at, from). λ s first.
+      ways i.route.0 row s at (set, d, from, found, here) (sym (ap (λ (o : Option TableRow). option_and_then (λ r. slice_get r.route.stations.items 0) o) at) ∙ first))
+      (sent c.log) (sent_from may sys c sound)
 
-pub sent_ways : (may : ℕ → Frame → Step → Type 0) (sys : System) (c : Core) (ends : WorkerEnds) → IsSound may sys c → HasOwnWays sys c.block ends → HaveWaysOut sys.routes ends (sent c.log)
-sent_ways may sys c ends sound ways =
-    all_weaker (IsFromBlock sys.sets sys.routes c.block) (HasWayOut sys.routes ends) (way_of sys c.block ends ways) (sent c.log) (sent_from may sys c sound)
+  -- as can what a turn sent
+  pub turn_ways : (t : Bool) (old new : Working) (queues : B) → TriesTurn may sys old (Ok t) new → old.outgoing ≡ [] → HasWays q sys old.core.block queues → CanPutOut q sys.routes queues new.outgoing
+  turn_ways true old new queues made none ways =
+      let all = sent_ways new.core queues made.sound (λ r row s at (set, d, from, found, here) first. ways r row s at (set, d, from, found, here ∙ made.rest.0) first) in
+      subst (CanPutOut q sys.routes queues) (sym made.hand)
+      (all_behind (λ i. (s : Station) → first_station sys.routes i ≡ Some s → q.CanPut queues s) (sent old.core.log) (sent (made.event ∷ []))
+      (subst (CanPutOut q sys.routes queues) (ap sent made.log ∙ sent-append old.core.log (made.event ∷ [])) all))
+  turn_ways false old new queues (same, work) none ways =
+      subst (CanPutOut q sys.routes queues) (sym (ap (λ (w : Working). w.outgoing) same ∙ none)) (All-nil (λ i. (s : Station) → first_station sys.routes i ≡ Some s → q.CanPut queues s))
+
+  -- a part of a step keeps it
+  pub ways_then : (old : Working) (before : B) (new : Working) (after : B) → HasWays q sys old.core.block before → Going may sys (around q sys.routes old.core) 1 old before new after → HasWays q sys new.core.block after
+  ways_then old before new after ways g = λ r row s at (set, d, from, found, here) first.
+      q.can_still (station.Inlet old.core.block) (λ t. beginning_at sys.routes t g.put) g.taken before after s g.part.moves (ways r row s at (set, d, from, found, here ∙ g.part.rest.0) first)
 
 module _ (may : ℕ → Frame → Step → Type 0) (sys : System) where
   -- what is in hand may travel, and there is a feed for each item
@@ -67,7 +86,7 @@ module _ (may : ℕ → Frame → Step → Type 0) (sys : System) where
   hand_legal w ends k = all_behind (IsLegalIn sys) k.put w.outgoing (subst (All (IsLegalIn sys)) (sym k.whole) k.legal)
 
   pub hand_ways : (w : Working) (ends : WorkerEnds) → IsPuttingOut may sys w ends → HaveWaysOut sys.routes ends w.outgoing
-  hand_ways w ends k = all_behind (HasWayOut sys.routes ends) k.put w.outgoing (subst (HaveWaysOut sys.routes ends) (sym k.whole) (sent_ways may sys w.core ends k.sound k.ways))
+  hand_ways w ends k = all_behind (HasWayOut sys.routes ends) k.put w.outgoing (subst (HaveWaysOut sys.routes ends) (sym k.whole) (sent_ways by_ends may sys w.core ends k.sound k.ways))
 
   -- a step keeps it
   pub keeps_on : (old : Working) (before : WorkerEnds) (new : Working) (after : WorkerEnds) → IsPuttingOut may sys old before → WorksApart may sys old before new after → IsSameEnds before after → IsPuttingOut may sys new after
@@ -88,10 +107,6 @@ module _ (may : ℕ → Frame → Step → Type 0) (sys : System) where
             (All-append (IsLegalIn sys) (sent old.core.log) (sent w.events) k.legal w.legal);
         ways = λ r row s at (set, d, from, found, here) first. has_feed_still before after s same (k.ways r row s at (set, d, from, found, here ∙ w.rest.0) first);
       }
-
-  -- as does a part of one
-  pub keeps_going : (old : Working) (before : WorkerEnds) (new : Working) (after : WorkerEnds) → IsPuttingOut may sys old before → Going may sys (at_ends sys.routes) 1 old before new after → IsPuttingOut may sys new after
-  keeps_going old before new after k g = keeps_on old before new after k (works_so may sys old before new after g) g.part.moves.same
 
   works_idle : (old : Working) (before after : WorkerEnds) → IsIdleApart old before after → IsSound may sys old.core → WorksApart may sys old before old after
   works_idle old before after idle sound =

@@ -3,6 +3,7 @@ pub mod Systems
 pub mod Going
 pub mod Stepping
 pub mod Rounds
+pub mod Ran
 pub mod OnBoard
 pub mod Again
 pub mod AtEnds

@@ -14,6 +14,7 @@ use Rattle.sdl_instances.specs.Run.{arrived, arrived_in, done_in, sent, sent_by,
 use Rattle.sdl_instances.specs.Core.{Core, IsSound, IsLegalIn}
 use Rattle.sdl_instances.specs.Calls.{KeepsRest}
 use Rattle.sdl_hand.specs.Work.{Working}
+use Rattle.sdl_block.specs.Around.{Queues}
 
 pub sent-append : (xs ys : List Event) → sent (xs ++ ys) ≡ sent xs ++ sent ys
 sent-append xs ys = ap (flat_map sent_by) (flat_map-append done_in xs ys) ∙ flat_map-append sent_by (all_done xs) (all_done ys)
@@ -34,20 +35,6 @@ keeps-same a = (refl, refl, refl, refl)
 pub through : {X : Type 0} (was in1 out1 mid in2 out2 is : List X) → was ++ in1 ≡ out1 ++ mid → mid ++ in2 ≡ out2 ++ is → was ++ (in1 ++ in2) ≡ (out1 ++ out2) ++ is
 through was in1 out1 mid in2 out2 is h k =
     sym (append_assoc was in1 in2) ∙ ap (λ l. l ++ in2) h ∙ append_assoc out1 mid in2 ∙ ap (λ l. out1 ++ l) k ∙ sym (append_assoc out1 out2 is)
-
--- The queues around a block, as a step finds them: a board, or the ends of a worker.
-pub record Queues (B : Type 0) : Type 1 where
-  -- so many items were put, and so many taken, and nothing else
-  pub Moves : List Item → List Item → B → B → Type 0
-  -- nothing was put or taken
-  pub Still : B → B → Type 0
-  -- no item is there to be taken
-  pub Empty : B → Type 0
-  pub still_moves : (a b : B) → Still a b → Moves [] [] a b
-  pub still_same : (b : B) → Still b b
-  pub still_then : (a b c : B) → Still a b → Still b c → Still a c
-  pub empty_before : (a b : B) → Still a b → Empty b → Empty a
-  pub moves_then : (put1 taken1 put2 taken2 : List Item) (a b c : B) → Moves put1 taken1 a b → Moves put2 taken2 b c → Moves (put1 ++ put2) (taken1 ++ taken2) a c
 
 module _ (may : ℕ → Frame → Step → Type 0) (sys : System) {B : Type 0} (q : Queues B) where
   -- a part of a step, with what it put, what it took, and the new events

@@ -19,8 +19,9 @@ use Rattle.sdl_hand.specs.Work.{Working}
 use Rattle.sdl_hand.specs.Puts.{answer_of}
 use Rattle.sdl_block.specs.Phases.{IsSpent, TriesTurn}
 use Rattle.sdl_block.specs.Rounds.{new_events, arrivals, turns_made}
-use Rattle.sdl_block.proofs.Parts.{Queues, arrived-append, turns-append}
-use Rattle.sdl_block.proofs.Going.{TakesBy, LetsBy, PutsBy, arrived_one, arrived_none}
+use Rattle.sdl_block.specs.Around.{Queues, TakesBy, LetsBy, PutsBy}
+use Rattle.sdl_block.proofs.Parts.{arrived-append, turns-append}
+use Rattle.sdl_block.proofs.Going.{arrived_one, arrived_none}
 use Rattle.sdl_block.proofs.Stepping.{holding}
 
 -- one where it did something

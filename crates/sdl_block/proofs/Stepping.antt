@@ -15,8 +15,9 @@ use Rattle.sdl_hand.specs.declared.hand.Refused.{Refused}
 use Rattle.sdl_hand.specs.Work.{Working}
 use Rattle.sdl_hand.specs.Puts.{answer_of}
 use Rattle.sdl_block.specs.Phases.{IsSpent, TriesTurn, PutsFirst, IsEmptyAfter}
-use Rattle.sdl_block.proofs.Parts.{Queues, Part, no_part, keeps-same}
-use Rattle.sdl_block.proofs.Going.{LetsBy, PutsBy, Going, Says, going_then, says_then, put_going, taken_part, turn_part, cons_not_nil, sent_none, arrived_one}
+use Rattle.sdl_block.specs.Around.{Queues, LetsBy, PutsBy}
+use Rattle.sdl_block.proofs.Parts.{Part, no_part, keeps-same}
+use Rattle.sdl_block.proofs.Going.{Going, Says, going_then, says_then, put_going, taken_part, turn_part, cons_not_nil, sent_none, arrived_one}
 
 -- the block with the core and another hand
 abbrev pub holding : Core → Option Item → List Item → Working

@@ -3,3 +3,4 @@ pub mod Phases
 pub mod Rounds
 pub mod Picks
 pub mod PhasesApart
+pub mod Around

@@ -1,9 +1,8 @@
 -- The parts of a step of a block, one by one.
-use Rattle.std.specs.Prelude.{◌≡◌, ℕ, ◌≤◌, ◌⊎◌, Bool, true, false, List, [], ◌∷◌, ◌++◌, Option, None, Some, Result, Ok, Err, length, All}
+use Rattle.std.specs.Prelude.{◌≡◌, ℕ, ◌≤◌, ◌⊎◌, Bool, true, false, List, [], ◌∷◌, ◌++◌, None, Some, Result, Ok, Err, length, All}
 use Rattle.sdl_signal.specs.declared.values.Pid.{Pid}
 use Rattle.sdl_signal.specs.declared.values.Item.{Item}
 use Rattle.sdl_routes.specs.declared.route.Station.{Station}
-use Rattle.sdl_routes.specs.declared.route.Station.TheVariants as station
 use Rattle.sdl_behaviour.specs.declared.step.Frame.{Frame}
 use Rattle.sdl_behaviour.specs.declared.step.Step.{Step}
 use Rattle.sdl_log.specs.declared.event.Event.{Event}
@@ -12,21 +11,11 @@ use Rattle.sdl_instances.specs.Machine.{System}
 use Rattle.sdl_instances.specs.Run.{sent, turns, turn_in}
 use Rattle.sdl_instances.specs.Core.{Core, IsReady, IsSound, IsLegalIn, arrival_event}
 use Rattle.sdl_instances.specs.Calls.{KeepsRest}
-use Rattle.sdl_forward.specs.Boards.{waiting, ChangesOnly}
 use Rattle.sdl_hand.specs.declared.hand.Stepped.{Stepped}
 use Rattle.sdl_hand.specs.declared.hand.Stepped.TheVariants as stepped
 use Rattle.sdl_hand.specs.declared.hand.Refused.{Refused}
 use Rattle.sdl_hand.specs.Puts.{answer_of}
 use Rattle.sdl_hand.specs.Work.{Working, StepsAs}
-
--- The item taken is the kept one, or else the front of the inlet; there is none where that is empty.
-abbrev pub TakesFrom : Working → List (Station × List Item) → Option Item → List (Station × List Item) → Type 0
-TakesFrom w before None after = (w.kept ≡ None) × (waiting before (station.Inlet w.core.block) ≡ []) × (after ≡ before)
-TakesFrom w before (Some i) after =
-    ((w.kept ≡ Some i) × (after ≡ before))
-    ⊎ ((w.kept ≡ None)
-    × (waiting before (station.Inlet w.core.block) ≡ i ∷ waiting after (station.Inlet w.core.block))
-    × ChangesOnly before after (station.Inlet w.core.block))
 
 -- the item arrives, which is one event
 pub record LetsArrive (may : ℕ → Frame → Step → Type 0) (sys : System) (old : Working) (i : Item) (new : Working) : Type 0 where
@@ -45,16 +34,6 @@ ArrivesOrStays may sys old (Err _) new = (i : Item) × (old.kept ≡ Some i) × 
 -- the budget is used
 abbrev pub IsSpent : Core → Type 0
 IsSpent c = turns c.log ≡ c.budget
-
--- Unless the budget is used, the item taken arrives, or is kept; the answer says whether it arrived.
-abbrev pub LetsIn : (ℕ → Frame → Step → Type 0) → System → Working → List (Station × List Item) → Result Bool Refused → Working → List (Station × List Item) → Type 0
-LetsIn may sys old before (Ok true) new after =
-    (i : Item) × (IsSpent old.core → ⊥) × TakesFrom old before (Some i) after × LetsArrive may sys (record old { kept = None }) i new
-LetsIn may sys old before (Ok false) new after =
-    (new ≡ old) × (after ≡ before) × (old.kept ≡ None) × (IsSpent old.core ⊎ (waiting before (station.Inlet old.core.block) ≡ []))
-LetsIn may sys old before (Err _) new after =
-    (IsSpent old.core × (new ≡ old) × (after ≡ before))
-    ⊎ ((IsSpent old.core → ⊥) × ((i : Item) × TakesFrom old before (Some i) after × (new ≡ record old { kept = Some i })))
 
 -- an instance makes a turn, which is one event, and what it sends is in hand
 pub record MakesTurn (may : ℕ → Frame → Step → Type 0) (sys : System) (old new : Working) : Type 0 where

@@ -1,7 +1,6 @@
 //! A block at work: its core with its inlet, and the items that it has in hand.
 #![tactic(auto)]
 
-mod apart;
 pub mod laws;
 pub mod worker;
 

@@ -20,7 +20,7 @@ use Rattle.sdl_outcome.specs.EnvironmentWork.{EnvWorking, IsEnvFresh, IsEnvSound
 use Rattle.sdl_environment.specs.EnvApart.{HasGateWays, EnvWorksApart, EnvStepsApart, IsEnvPuttingOut}
 use Rattle.sdl_environment.proofs.EnvAgain.{fresh_sound}
 use Rattle.sdl_environment.proofs.EnvPieces.{sent-append}
-use Rattle.sdl_environment.proofs.EnvSending.{ways_still}
+use Rattle.sdl_forward.specs.ByEnds.{has_feed_still}
 
 counted_append : (w n : ℕ) (os ps : List Origin) → AreCounted w n os → AreCounted w (n + length os) ps → AreCounted w n (os ++ ps)
 counted_append w n [] ps h k = subst (λ (m : ℕ). AreCounted w m ps) (omega arith) k
@@ -54,7 +54,7 @@ module _ (s : Structure) (rows : List TableRow) (worker : ℕ) where
         coming = all_sent (ComesIn rows) old.put w.outs new.put w.outputs k.coming w.coming;
         legal = all_sent (IsLegalItem s rows worker) old.put w.outs new.put w.outputs k.legal w.legal;
         lost = w.lost;
-        ways = ways_still rows before after same k.ways;
+        ways = λ r row t gate at from first. has_feed_still before after t same (k.ways r row t gate at from first);
       }
 
   -- where nothing is done

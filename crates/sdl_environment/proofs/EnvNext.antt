@@ -1,6 +1,5 @@
 -- What a step has done where no part of it was refused.
-use Rattle.std.proofs.Common.{◌≡◌, ◌≢◌, ◌+◌, inl, inr, Bool, true, false, Result, Ok, Err, List, [], ◌∷◌, IfOk, length, length-append, refl, ap, sym, ◌∙◌, ◌⊎◌, subst, true≢false}
-use Rattle.std.specs.Result.{IsErr}
+use Rattle.std.proofs.Common.{◌≡◌, ◌≢◌, ◌+◌, inl, inr, Bool, true, false, Result, Ok, Err, List, [], ◌∷◌, IfOk, length, length-append, refl, ap, sym, ◌∙◌, ◌⊎◌, subst}
 use Rattle.sdl_signal.specs.declared.values.Item.{Item}
 use Rattle.sdl_signal.specs.Names.{Lexicon}
 use Rattle.sdl_routes.specs.declared.route.TableRow.{TableRow}
@@ -9,26 +8,17 @@ use Rattle.sdl_routes.specs.declared.route.Station.TheVariants.{Outlet}
 use Rattle.sdl_forward.specs.Boards.{waiting}
 use Rattle.sdl_hand.specs.declared.hand.Refused.{Refused}
 use Rattle.sdl_hand.specs.declared.hand.Stepped.TheVariants.{Memory}
-use Rattle.sdl_hand.specs.Puts.{PutsOut, answer_of}
+use Rattle.sdl_hand.specs.Puts.{answer_of}
 use Rattle.sdl_outcome.specs.EnvironmentWork.{EnvWorking}
 use Rattle.sdl_environment.specs.EnvPhases.{Reads, Receives}
 use Rattle.sdl_environment.specs.EnvSteps.{ReadsNext, TakesNext, StepsOn}
-use Rattle.sdl_environment.proofs.EnvPieces.{holding}
-
-put_whole : (rows : List TableRow) (did : Bool) (old : List Item) (before : List (Station × List Item)) (new : List Item) (after : List (Station × List Item)) → PutsOut rows old before (Ok did) new after → new ≡ []
-put_whole rows true old before new after (puts, some, none) = none
-put_whole rows false old before new after (was, none, board) = none
+use Rattle.sdl_environment.specs.EnvSends.{SentOn}
 
 module _ (names : Lexicon) (rows : List TableRow) where
   pub line_next : (did : Bool) (old new : EnvWorking) → Reads names rows old (Ok did) new → ReadsNext old new
   line_next true old new (unended, inl r) = λ none. inl (ap (λ (w : EnvWorking). length w.put) r.same ∙ length-append old.put (r.out ∷ []))
   line_next true old new (unended, inr r) = λ none. inr (λ e. let ended = ap (λ (w : EnvWorking). w.ended) r.same in cc)
   line_next false old new (same, ended) = λ none. absurd (ended none)
-
-  pub line_keeps : (did : Bool) (old new : EnvWorking) → Reads names rows old (Ok did) new → new.received ≡ old.received
-  line_keeps true old new (unended, inl r) = ap (λ (w : EnvWorking). w.received) r.same
-  line_keeps true old new (unended, inr r) = ap (λ (w : EnvWorking). w.received) r.same
-  line_keeps false old new (same, ended) = ap (λ (w : EnvWorking). w.received) same
 
 item_next : (did : Bool) (old : EnvWorking) (before : List (Station × List Item)) (new : EnvWorking) (after : List (Station × List Item)) → Receives old before (Ok did) new after → TakesNext old new after
 item_next true old before new after (i, front, changes, same) = inl (ap (λ (w : EnvWorking). length w.received) same ∙ length-append old.received (i ∷ []))
@@ -48,24 +38,14 @@ read_around old w1 w2 new ended put last_ended last_put h = λ none. elim (h (en
 take_around : (old w3 new : EnvWorking) (after : List (Station × List Item)) → w3.received ≡ old.received → TakesNext w3 new after → TakesNext old new after
 take_around old w3 new after same h = subst (λ (l : List Item). (length new.received ≡ length l + 1) ⊎ (waiting after Outlet ≡ [])) same h
 
--- a put, a reading, a put and a receiving, none of them refused
-pub steps_on : (names : Lexicon) (rows : List TableRow) (old w1 w2 w3 new : EnvWorking) (b1 b2 b3 : List (Station × List Item)) (r q t : Bool)
-    → w1 ≡ holding old w1.outgoing → Reads names rows w1 (Ok r) w2
-    → PutsOut rows w2.outgoing b1 (Ok q) w3.outgoing b2 → w3 ≡ holding w2 w3.outgoing → Receives w3 b2 (Ok t) new b3 → StepsOn old new b3
-steps_on names rows old w1 w2 w3 new b1 b2 b3 r q t first read put last received =
-    let keeps = item_keeps t w3 b2 new b3 received in
-    record {
-      hand = keeps.0 ∙ put_whole rows q w2.outgoing b1 w3.outgoing b2 put;
-      read = read_around old w1 w2 new (ap (λ (w : EnvWorking). w.ended) first) (ap (λ (w : EnvWorking). w.put) first)
-          (keeps.1 ∙ ap (λ (w : EnvWorking). w.ended) last) (keeps.2 ∙ ap (λ (w : EnvWorking). w.put) last) (line_next names rows r w1 w2 read);
-      taken = take_around old w3 new b3 (ap (λ (w : EnvWorking). w.received) last ∙ line_keeps names rows r w1 w2 read ∙ ap (λ (w : EnvWorking). w.received) first) (item_next t w3 b2 new b3 received);
-    }
+-- a sending and a receiving, neither of them refused
+pub steps_on : (old mid : EnvWorking) (between : List (Station × List Item)) (new : EnvWorking) (after : List (Station × List Item)) (t : Bool)
+    → SentOn old mid → mid.received ≡ old.received → Receives mid between (Ok t) new after → StepsOn old new after
+steps_on old mid between new after t on same received =
+    let keeps = item_keeps t mid between new after received in
+    record { hand = keeps.0 ∙ on.hand; read = read_around old old mid new refl refl keeps.1 keeps.2 on.read; taken = take_around old mid new after same (item_next t mid between new after received) }
 
 -- what is said of an answer that is no refusal
-pub refused_on : (old new : EnvWorking) (after : List (Station × List Item)) (result : Result Bool Refused) → IsErr result → IfOk result (λ did. StepsOn old new after)
-refused_on old new after (Err r) h = tt
-refused_on old new after (Ok did) h = absurd (true≢false (sym h))
-
 pub unrefused : {P : Type 0} (result : Result Bool Refused) → IfOk result (λ did. P) → answer_of result ≢ Memory → P
 unrefused (Ok did) h not = h
 unrefused (Err r) h not = absurd (not refl)

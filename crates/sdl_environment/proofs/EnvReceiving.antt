@@ -8,19 +8,20 @@ use Rattle.sdl_signal.specs.declared.values.Item.{Item}
 use Rattle.sdl_parts.specs.Structure.{Structure, lexicon_of}
 use Rattle.sdl_routes.specs.declared.route.TableRow.{TableRow}
 use Rattle.sdl_routes.specs.declared.route.Station.{Station}
-use Rattle.sdl_ends.specs.Ends.{WorkerEnds, put_at, taken_by}
+use Rattle.sdl_ends.specs.Ends.{WorkerEnds, IsSameEnds, put_at, taken_by}
+use Rattle.sdl_forward.specs.ByEnds.{by_ends, taken_same}
 use Rattle.sdl_hand.specs.declared.hand.Refused.{Refused}
 use Rattle.sdl_outcome.specs.EnvironmentWork.{EnvWorking, IsEnvSound, IsLegalItem, GoesOut, ReadsOn}
-use Rattle.sdl_environment.specs.EnvPhases.{HasReadBy, HasWrittenBy}
+use Rattle.sdl_environment.specs.EnvPhases.{HasReadBy}
 use Rattle.sdl_environment.specs.EnvApart.{EnvWorksApart, FoundRoom, TakesNextApart}
-use Rattle.sdl_environment.specs.EnvPhasesApart.{SendsApart, SendsNothing, SendsTo, SentOn, ReceivesApart, EnvStepsToApart}
-use Rattle.sdl_environment.proofs.EnvPieces.{no_readings, noted}
+use Rattle.sdl_environment.specs.EnvSends.{Sends, SendsTo, SentOn}
+use Rattle.sdl_environment.specs.EnvPhasesApart.{ReceivesApart, EnvStepsToApart}
+use Rattle.sdl_environment.proofs.EnvPieces.{no_readings, noted, same_noted}
 use Rattle.sdl_environment.proofs.EnvReading.{read_same}
-use Rattle.sdl_environment.proofs.EnvStepping.{written_same}
-use Rattle.sdl_environment.proofs.EnvSending.{sends_of, put_same}
+use Rattle.sdl_environment.proofs.EnvSending.{sends_of, sends_any}
 
-same_noted : (old new : EnvWorking) → new ≡ old → new ≡ record old { received = new.received; output = new.output }
-same_noted old new same = subst (λ (w : EnvWorking). w ≡ record old { received = w.received; output = w.output }) (sym same) refl
+put_same : (a b : WorkerEnds) → b.feeds ≡ a.feeds → (s : Station) → put_at b s ≡ put_at a s
+put_same a b same s = ap (λ fs. put_at (record { tap = None; feeds = fs }) s) same
 
 module _ (s : Structure) (rows : List TableRow) (worker : ℕ) where
   abbrev Leaves : Item → Type 0
@@ -102,7 +103,7 @@ module _ (s : Structure) (rows : List TableRow) (worker : ℕ) where
 
   -- what was sent and then what was received are a step
   abbrev works_of : (result : Result Bool Refused) (old : EnvWorking) (before : WorkerEnds) (mid : EnvWorking) (between : WorkerEnds) (new : EnvWorking) (is : Option Item) (after : WorkerEnds)
-      → SendsApart s rows worker old before mid between → Receiving result mid between new is after → EnvWorksApart s rows worker old None before new is after
+      → Sends by_ends s rows worker old before mid between → Receiving result mid between new is after → EnvWorksApart s rows worker old None before new is after
   works_of result old before mid between new is after a r =
       record {
         outs = a.outs;
@@ -110,8 +111,8 @@ module _ (s : Structure) (rows : List TableRow) (worker : ℕ) where
         taken = r.taken;
         more = r.more;
         one = r.one;
-        takes = r.takes ∙ ap (λ l. l ++ r.taken) a.takes;
-        puts = λ t. r.puts t ∙ a.puts t;
+        takes = r.takes ∙ ap (λ l. l ++ r.taken) (taken_same before between a.puts.tap);
+        puts = λ t. r.puts t ∙ a.puts.each t;
         came = r.came;
         received = r.received ∙ ap (λ l. l ++ r.more) a.received;
         leaves = r.leaves;
@@ -125,43 +126,17 @@ module _ (s : Structure) (rows : List TableRow) (worker : ℕ) where
         sound = noted s rows worker mid new.received new r.same a.sound;
       }
 
-  sends_nothing : (old : EnvWorking) (before : WorkerEnds) (new : EnvWorking) (after : WorkerEnds) → SendsNothing old before new after → IsEnvSound s rows worker old → SendsApart s rows worker old before new after
-  sends_nothing old before new after h sound =
-      sends_of s rows worker old before [] [] new after
-      (record {
-        putting = record { takes = h.takes; puts = λ t. h.puts t ∙ sym (append-nil (put_at before t)) };
-        received = ap (λ (w : EnvWorking). w.received) h.same;
-        output = ap (λ (w : EnvWorking). w.output) h.same;
-        went = ap (λ (w : EnvWorking). w.outgoing) h.same ∙ sym (append-nil old.outgoing);
-        outputs = ap (λ (w : EnvWorking). w.put) h.same ∙ sym (append-nil old.put);
-        sound = subst (IsEnvSound s rows worker) (sym h.same) sound;
-      })
-      (no_readings s rows worker old new (inl (refl, ap (λ (w : EnvWorking). w.ended) h.same, ap (λ (w : EnvWorking). w.reading) h.same)))
-
   -- a step that only receives
-  sends_still : (w : EnvWorking) (ends : WorkerEnds) → IsEnvSound s rows worker w → SendsApart s rows worker w ends w ends
+  sends_still : (w : EnvWorking) (ends : WorkerEnds) → IsEnvSound s rows worker w → Sends by_ends s rows worker w ends w ends
   sends_still w ends sound =
-      sends_of s rows worker w ends [] [] w ends
-      (record {
-        putting = record { takes = refl; puts = λ t. sym (append-nil (put_at ends t)) };
-        received = refl;
-        output = refl;
-        went = sym (append-nil w.outgoing);
-        outputs = sym (append-nil w.put);
-        sound = sound;
-      })
+      sends_of by_ends s rows worker w ends [] [] w ends
+      (record { puts = by_ends.puts_none ends; received = refl; output = refl; went = sym (append-nil w.outgoing); outputs = sym (append-nil w.put); sound = sound })
       (no_readings s rows worker w w (inl (refl, refl, refl)))
 
   pub works_receiving : (result : Result Bool Refused) (old : EnvWorking) (before : WorkerEnds) (new : EnvWorking) (is : Option Item) (after : WorkerEnds)
       → ReceivesApart s rows worker old before result new is after → IsEnvSound s rows worker old → EnvWorksApart s rows worker old None before new is after
   works_receiving result old before new is after receives sound =
       works_of result old before old before new is after (sends_still old before sound) (receiving result old before new is after receives)
-
-  sends_any : (result : Result Bool Refused) (old : EnvWorking) (before : WorkerEnds) (new : EnvWorking) (after : WorkerEnds) → SendsTo s rows worker old before result new after → IsEnvSound s rows worker old
-      → SendsApart s rows worker old before new after
-  sends_any (Ok true) old before new after h sound = h.0
-  sends_any (Ok false) old before new after h sound = sends_nothing old before new after h sound
-  sends_any (Err r) old before new after h sound = h
 
   -- what holds of each refusal holds of an answer that is one
   steps_refused : (result : Result Bool Refused) → IsErr result → (old : EnvWorking) (before : WorkerEnds) (new : EnvWorking) (is : Option Item) (after : WorkerEnds)
@@ -171,27 +146,27 @@ module _ (s : Structure) (rows : List TableRow) (worker : ℕ) where
 
   module _ (old : EnvWorking) (b0 : WorkerEnds) (mid : EnvWorking) (b1 : WorkerEnds) where
     -- a refusal as the hand is put out or a line is read
-    pub steps_at_sending : (result : Result Bool Refused) → IsErr result → (is : Option Item) → is ≡ None → (r : Refused) → SendsTo s rows worker old b0 (Err r) mid b1
+    pub steps_at_sending : (result : Result Bool Refused) → IsErr result → (is : Option Item) → is ≡ None → (r : Refused) → SendsTo by_ends s rows worker old b0 (Err r) mid b1
         → EnvStepsToApart s rows worker old None b0 result mid is b1
     steps_at_sending result err is none r sends =
         steps_refused result err old b0 mid is b1 (works_of (Err r) old b0 mid b1 mid is b1 sends (nothing_received (Err r) (λ said. cc) mid b1 mid is b1 refl none refl (λ t. refl)))
 
-    module _ (d : Bool) (sends : SendsTo s rows worker old b0 (Ok d) mid b1) (sound : IsEnvSound s rows worker old) (new : EnvWorking) (is : Option Item) (b2 : WorkerEnds) where
+    module _ (d : Bool) (sends : SendsTo by_ends s rows worker old b0 (Ok d) mid b1) (sound : IsEnvSound s rows worker old) (new : EnvWorking) (is : Option Item) (b2 : WorkerEnds) where
       -- a refusal as an item is received
       pub steps_at_receiving : (result : Result Bool Refused) → IsErr result → (r : Refused) → ReceivesApart s rows worker mid b1 (Err r) new is b2 → EnvStepsToApart s rows worker old None b0 result new is b2
       steps_at_receiving result err r receives =
-          steps_refused result err old b0 new is b2 (works_of (Err r) old b0 mid b1 new is b2 (sends_any (Ok d) old b0 mid b1 sends sound) (receiving (Err r) mid b1 new is b2 receives))
+          steps_refused result err old b0 new is b2 (works_of (Err r) old b0 mid b1 new is b2 (sends_any by_ends s rows worker (Ok d) old b0 mid b1 sends sound) (receiving (Err r) mid b1 new is b2 receives))
 
       pub steps_apart : (t : Bool) → ReceivesApart s rows worker mid b1 (Ok t) new is b2 → EnvStepsToApart s rows worker old None b0 (Ok (d || t)) new is b2
       steps_apart t receives = by d t sends receives
         where
-          by : (c e : Bool) → SendsTo s rows worker old b0 (Ok c) mid b1 → ReceivesApart s rows worker mid b1 (Ok e) new is b2 → EnvStepsToApart s rows worker old None b0 (Ok (c || e)) new is b2
+          by : (c e : Bool) → SendsTo by_ends s rows worker old b0 (Ok c) mid b1 → ReceivesApart s rows worker mid b1 (Ok e) new is b2 → EnvStepsToApart s rows worker old None b0 (Ok (c || e)) new is b2
           by true e a r =
               let got = receiving (Ok e) mid b1 new is b2 r in
               (works_of (Ok e) old b0 mid b1 new is b2 a.0 got, λ (same, outs, put, taken). a.1 (sym (ap (λ (w : EnvWorking). w.ended) got.same) ∙ same, outs, put))
           by false true a r =
               let got = receiving (Ok true) mid b1 new is b2 r in
-              (works_of (Ok true) old b0 mid b1 new is b2 (sends_nothing old b0 mid b1 a sound) got, λ (same, outs, put, taken). got.did refl taken)
+              (works_of (Ok true) old b0 mid b1 new is b2 (sends_any by_ends s rows worker (Ok false) old b0 mid b1 a sound) got, λ (same, outs, put, taken). got.did refl taken)
           by false false a (same, takes, none) = (
             same ∙ a.same,
             none,
@@ -199,8 +174,8 @@ module _ (s : Structure) (rows : List TableRow) (worker : ℕ) where
               ended = a.ended;
               outgoing = a.outgoing;
               none = refl;
-              taken = takes.taken ∙ a.takes;
-              puts = λ t. put_same b1 b2 takes.feeds t ∙ a.puts t;
+              taken = takes.taken ∙ ap taken_by a.queues;
+              puts = λ t. put_same b1 b2 takes.feeds t ∙ ap (λ (e : WorkerEnds). put_at e t) a.queues;
             },
           )
 
@@ -237,14 +212,14 @@ module _ {A : Type 0} (s : Structure) (rows : List TableRow) (worker : ℕ) (fou
 
   -- a sending before it takes and receives nothing
   pub takes_after_sending : (d t : Bool) (old : EnvWorking) (b0 : WorkerEnds) (mid : EnvWorking) (b1 : WorkerEnds) (new : EnvWorking) (is : Option Item) (b2 : WorkerEnds)
-      → SendsTo s rows worker old b0 (Ok d) mid b1 → IsEnvSound s rows worker old → ReceivesApart s rows worker mid b1 (Ok t) new is b2 → FoundRoom mid.received found → TakesNextApart old b0 found new b2
+      → SendsTo by_ends s rows worker old b0 (Ok d) mid b1 → IsEnvSound s rows worker old → ReceivesApart s rows worker mid b1 (Ok t) new is b2 → FoundRoom mid.received found → TakesNextApart old b0 found new b2
   takes_after_sending d t old b0 mid b1 new is b2 sends sound receives room =
-      let a = sends_any s rows worker (Ok d) old b0 mid b1 sends sound in
+      let a = sends_any by_ends s rows worker (Ok d) old b0 mid b1 sends sound in
       let took = takes_alone t mid b1 new is b2 receives room in
       record {
         room = subst (λ (l : List Item). FoundRoom l found) a.received took.room;
         taken = took.taken;
-        takes = took.takes ∙ ap (λ l. l ++ took.taken) a.takes;
+        takes = took.takes ∙ ap (λ l. l ++ took.taken) (taken_same b0 b1 a.puts.tap);
         received = took.received ∙ ap (λ l. l ++ took.taken) a.received;
       }
 
@@ -253,15 +228,14 @@ pub hand_after_receiving : (s : Structure) (rows : List TableRow) (worker : ℕ)
     → ReceivesApart s rows worker old before result new is after → new.outgoing ≡ old.outgoing
 hand_after_receiving s rows worker result old before new is after receives = ap (λ (w : EnvWorking). w.outgoing) (receiving s rows worker result old before new is after receives).same
 
--- what was read so far is not changed by a receiving, and what was written so far not by a sending
+-- what was read so far is not changed by a receiving
 pub read_after_receiving : (s : Structure) (rows : List TableRow) (worker own : ℕ) (start now : Option (List ℕ)) (result : Result Bool Refused) (old : EnvWorking) (before : WorkerEnds) (new : EnvWorking) (is : Option Item) (after : WorkerEnds)
     → ReceivesApart s rows worker old before result new is after → HasReadBy (lexicon_of s) rows own start now old → HasReadBy (lexicon_of s) rows own start now new
 read_after_receiving s rows worker own start now result old before new is after receives =
     let same = (receiving s rows worker result old before new is after receives).same in
     read_same (lexicon_of s) rows own start now old new (ap (λ (w : EnvWorking). w.ended) same) (ap (λ (w : EnvWorking). w.put) same) (ap (λ (w : EnvWorking). w.reading) same)
 
-pub written_after_sending : (s : Structure) (rows : List TableRow) (worker : ℕ) (start now : Option (List ℕ)) (result : Result Bool Refused) (old : EnvWorking) (before : WorkerEnds) (new : EnvWorking) (after : WorkerEnds)
-    → SendsTo s rows worker old before result new after → IsEnvSound s rows worker old → HasWrittenBy (lexicon_of s) rows start now old → HasWrittenBy (lexicon_of s) rows start now new
-written_after_sending s rows worker start now result old before new after sends sound =
-    let a = sends_any s rows worker result old before new after sends sound in
-    written_same (lexicon_of s) rows start now old new a.received a.output
+-- the ends stay the same
+pub same_after_sending : (s : Structure) (rows : List TableRow) (worker : ℕ) (result : Result Bool Refused) (old : EnvWorking) (before : WorkerEnds) (new : EnvWorking) (after : WorkerEnds)
+    → SendsTo by_ends s rows worker old before result new after → IsEnvSound s rows worker old → IsSameEnds before after
+same_after_sending s rows worker result old before new after sends sound = (sends_any by_ends s rows worker result old before new after sends sound).puts.same

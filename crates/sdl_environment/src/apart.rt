@@ -9,13 +9,12 @@ ghost use Rattle.sdl_parts.specs.Structure.{IsStructure};
 ghost use Rattle.sdl_routes.specs.Routes.{AreRoutesOf};
 ghost use Rattle.sdl_ends.specs.Ends.{IsSameEnds};
 ghost use Rattle.sdl_hand.specs.declared.hand.Stepped.TheVariants.{Memory};
-ghost use Rattle.sdl_hand.specs.Puts.{AreRouted};
-ghost use Rattle.sdl_hand.specs.PutsApart.{HaveWaysOut, PutsOutApart};
 ghost use Rattle.sdl_outcome.specs.EnvironmentWork.{IsEnvSound, HasReadSoFar, HasWrittenSoFar};
 ghost use Rattle.sdl_environment.specs.EnvSteps.{ReadsNext};
 ghost use Rattle.sdl_environment.specs.EnvPicks.{ReadsAt};
 ghost use Rattle.sdl_environment.specs.EnvApart.{EnvStepsApart, IsEnvPuttingOut, HasGateWays, FoundRoom, TakesNextApart};
-ghost use Rattle.sdl_environment.specs.EnvPhasesApart.{SendsTo, SentOn, ReceivesApart, TakesOne, EnvStepsToApart};
+ghost use Rattle.sdl_environment.specs.EnvSends.{SentOn};
+ghost use Rattle.sdl_environment.specs.EnvPhasesApart.{ReceivesApart, TakesOne, EnvStepsToApart};
 
 use crate::environment::EnvWorker;
 use crate::leaving::may_leave;
@@ -184,7 +183,7 @@ impl EnvApart {
         let RoutedStructure { structure, routes } = routed;
         let sent = self
             .worker
-            .send_apart(rt, structure, routes, ends, pick, input)?;
+            .send_over(rt, structure, routes, ends, pick, input)?;
         let received = self.worker.receive_one_apart(
             rt,
             structure,
@@ -199,52 +198,6 @@ impl EnvApart {
 }
 
 impl EnvWorker {
-    /// Puts out what is in hand, reads a line, unless the reading has ended, and puts out what its output sends. It says
-    /// whether anything was done.
-    fn send_apart<T: Wait, R: Read>(
-        &mut self,
-        rt: &T,
-        structure: &Structure,
-        routes: &Routes,
-        ends: &mut Ends,
-        pick: u32,
-        input: &mut R,
-    ) -> Result<bool, Refused>
-        requires sound { IsEnvSound structure.now routes.now self.old.number self.old }
-        requires ways { HasGateWays routes.now ends.old }
-        ensures sends { SendsTo structure.now routes.now self.old.number self.old ends.old result self.new ends.new }
-        ensures pick { ReadsAt routes.now pick self.old self.new }
-        ensures on { IfOk result (λ did. SentOn self.old self.new) }
-        ensures reading { (start : Option (List ℕ)) → HasReadSoFar structure.now routes.now self.old.number start (R.remaining input.old) self.old
-            → HasReadSoFar structure.now routes.now self.old.number start (R.remaining input.new) self.new }
-        ensures ended { (e : InputEnd) → self.old.ended ≡ Some e → input.new ≡ input.old }
-        ensures past { (e : Ended) → self.old.reading.source.ended ≡ Some e → input.new ≡ input.old }
-        ensures unread { self.old.reading.source.ended ≡ None → HoldsLine self.old.reading.source.ahead → input.new ≡ input.old }
-        ensures ends { IsSameEnds ends.old ends.new }
-    {
-        let names = structure.names();
-        let put = self.put_out_apart(rt, routes, ends)?;
-        let read = self.read_one(names, routes, pick, input)?;
-        self.put_out_apart(rt, routes, ends)?;
-        Ok(put | read)
-    }
-
-    /// Puts out what is in hand, and says whether there was anything.
-    fn put_out_apart<T: Wait>(
-        &mut self,
-        rt: &T,
-        routes: &Routes,
-        ends: &mut Ends,
-    ) -> Result<bool, Refused>
-        requires routed { AreRouted routes.now self.old.outgoing }
-        requires ways { HaveWaysOut routes.now ends.old self.old.outgoing }
-        ensures put { PutsOutApart routes.now self.old.outgoing ends.old result self.new.outgoing ends.new }
-        ensures rest { self.new ≡ record self.old { outgoing = self.new.outgoing } }
-        ensures ends { IsSameEnds ends.old ends.new }
-    {
-        self.hand.put_out_apart(rt, routes, ends)
-    }
-
     /// Takes an item, and writes its line. It says whether there was one. An item that may not leave is astray. Nothing is taken
     /// before there is room for it in what was received.
     fn receive_one_apart<T: Wait, W: Write>(

@@ -11,16 +11,19 @@ ghost use Rattle.sdl_routes.specs.Routes.{AreRoutesOf};
 ghost use Rattle.sdl_routes.specs.declared.route.Station.TheVariants.{Outlet};
 ghost use Rattle.sdl_forward.specs.Boards.{waiting, IsBoardOf};
 ghost use Rattle.sdl_hand.specs.declared.hand.Stepped.TheVariants.{Memory};
-ghost use Rattle.sdl_hand.specs.Puts.{AreRouted, PutsOut};
+ghost use Rattle.sdl_hand.specs.Puts.{AreRouted};
+ghost use Rattle.sdl_hand.specs.PutsBy.{CanPutOut, PutsOutBy};
 ghost use Rattle.sdl_outcome.specs.EnvironmentWork.{IsEnvFresh, IsEnvSound, IsLegalItem, GoesOut, EnvStepsAs, HasReadSoFar, HasWrittenSoFar};
 ghost use Rattle.sdl_environment.specs.EnvPhases.{IsWritable, HasReadBy, HasWrittenBy, Reads, Receives, EnvStepsTo};
 ghost use Rattle.sdl_environment.specs.EnvPicks.{ReadsAt};
+ghost use Rattle.sdl_environment.specs.EnvSends.{HasWaysIn, SendsTo, SentOn};
 ghost use Rattle.sdl_environment.specs.EnvSteps.{ReadsNext, TakesNext, StepsOn};
 
 use crate::outputs::{output_of, send};
 use crate::writing::write;
 use arrayvec::ArrayVec;
 use sdl_forward::Board;
+use sdl_forward::queues::Queues;
 use sdl_hand::{Hand, Refused, Stepped, answer_of};
 use sdl_outcome::EnvOut;
 use sdl_parts::Structure;
@@ -150,29 +153,59 @@ impl EnvWorker {
         ensures unread { self.old.reading.source.ended ≡ None → HoldsLine self.old.reading.source.ahead → input.new ≡ input.old }
         ensures board { IsBoardOf routes.now board.new }
     {
+        let sent = self.send_over(&(), structure, routes, board, pick, input)?;
+        let received = self.receive_one(structure.names(), routes, board, output)?;
+        Ok(sent | received)
+    }
+
+    /// Over any queues: puts out what is in hand, reads a line, unless the reading has ended, and puts out what its output sends.
+    /// It says whether anything was done.
+    pub(crate) fn send_over<H, Q: Queues<H>, R: Read>(
+        &mut self,
+        rt: &H,
+        structure: &Structure,
+        routes: &Routes,
+        queues: &mut Q,
+        pick: u32,
+        input: &mut R,
+    ) -> Result<bool, Refused>
+        requires sound { IsEnvSound structure.now routes.now self.old.number self.old }
+        requires ways { HasWaysIn Q.relations routes.now queues.old }
+        ensures sends { SendsTo Q.relations structure.now routes.now self.old.number self.old queues.old result self.new queues.new }
+        ensures pick { ReadsAt routes.now pick self.old self.new }
+        ensures on { IfOk result (λ did. SentOn self.old self.new) }
+        ensures reading { (start : Option (List ℕ)) → HasReadSoFar structure.now routes.now self.old.number start (R.remaining input.old) self.old
+            → HasReadSoFar structure.now routes.now self.old.number start (R.remaining input.new) self.new }
+        ensures ended { (e : InputEnd) → self.old.ended ≡ Some e → input.new ≡ input.old }
+        ensures past { (e : Ended) → self.old.reading.source.ended ≡ Some e → input.new ≡ input.old }
+        ensures unread { self.old.reading.source.ended ≡ None → HoldsLine self.old.reading.source.ahead → input.new ≡ input.old }
+    {
         let names = structure.names();
-        let put = self.put_out(routes, board)?;
+        let put = self.put_out(rt, routes, queues)?;
         let read = self.read_one(names, routes, pick, input)?;
-        self.put_out(routes, board)?;
-        let received = self.receive_one(names, routes, board, output)?;
-        Ok(put | read | received)
+        self.put_out(rt, routes, queues)?;
+        Ok(put | read)
     }
 
     /// Puts out what is in hand, and says whether there was anything.
     #[inline(always)]
-    fn put_out(&mut self, routes: &Routes, board: &mut Board) -> Result<bool, Refused>
+    fn put_out<H, Q: Queues<H>>(
+        &mut self,
+        rt: &H,
+        routes: &Routes,
+        queues: &mut Q,
+    ) -> Result<bool, Refused>
         requires routed { AreRouted routes.now self.old.outgoing }
-        requires board { IsBoardOf routes.now board.old }
-        ensures put { PutsOut routes.now self.old.outgoing board.old result self.new.outgoing board.new }
+        requires ways { CanPutOut Q.relations routes.now queues.old self.old.outgoing }
+        ensures put { PutsOutBy Q.relations routes.now self.old.outgoing queues.old result self.new.outgoing queues.new }
         ensures rest { self.new ≡ record self.old { outgoing = self.new.outgoing } }
-        ensures board { IsBoardOf routes.now board.new }
     {
-        self.hand.put_out(routes, board)
+        self.hand.put_out_over(rt, routes, queues)
     }
 
     /// Reads a line, unless the reading has ended, and outputs its signal. It says whether the reading went on.
     #[inline(always)]
-    pub(crate) fn read_one<R: Read>(
+    fn read_one<R: Read>(
         &mut self,
         names: &Names,
         routes: &Routes,

@@ -1,9 +1,8 @@
 -- What waits at a station, when the entry at one place of the list changes.
-use Rattle.std.proofs.Common.{◌≡◌, ◌≢◌, ℕ, zero, suc, ◌<◌, false, cond, List, [], ◌∷◌, ◌++◌, length, Option, Some, None, MatchOption, Result, Ok, Err, MatchResult, Contains, slice_get, slice_set, slice_index_or, refl, ap, sym, ◌∙◌, subst, arith}
+use Rattle.std.proofs.Common.{◌≡◌, ◌≢◌, ℕ, zero, suc, ◌<◌, false, cond, List, [], ◌∷◌, ◌++◌, length, Option, Some, None, MatchOption, Contains, slice_get, slice_set, slice_index_or, refl, ap, sym, ◌∙◌, subst, arith}
 use Rattle.std.proofs.lemmas.Bool.{cond-true, cond-false}
 use Rattle.std.proofs.lemmas.List.{length-map}
 use Rattle.std.proofs.lemmas.Option.{same_Some, get_or_from_slice_get, slice_get_within, slice_get_read}
-use Rattle.std.specs.declared.alloc.AllocError.{AllocError}
 use Rattle.sdl_signal.specs.declared.values.Item.{Item}
 use Rattle.sdl_routes.specs.declared.route.Station.{Station}
 use Rattle.sdl_routes.specs.Routes.{EachOnce}
@@ -177,8 +176,11 @@ module _ (rests : List (Station × Rest)) (s : Station) (k : ℕ) (entry : Stati
     takes None h = (was ∙ h.0, as_before (h.1 ∙ sym h.0))
     takes (Some item) h = was ∙ h ∙ ap (λ xs. item ∷ xs) (sym (waits_now after))
 
-    pub puts : (item : Item) (result : Result (Unit {0}) (Item × AllocError)) → MatchResult result (λ _. after ≡ queue ++ item ∷ []) (λ back. (back.0 ≡ item) × (after ≡ queue))
-        → MatchResult result (λ _. waiting (lists_of (slice_set rests k (entry.0, Serial after))) s ≡ waiting (lists_of rests) s ++ item ∷ [])
-        (λ back. (back.0 ≡ item) × (lists_of (slice_set rests k (entry.0, Serial after)) ≡ lists_of rests))
-    puts item (Ok u) h = waits_now after ∙ h ∙ ap (λ xs. xs ++ item ∷ []) (sym was)
-    puts item (Err back) h = (h.0, as_before h.1)
+    pub puts : (left old : Option Item) → MatchOption left (MatchOption old (after ≡ queue) (λ item. after ≡ queue ++ item ∷ [])) (λ back. (old ≡ Some back) × (after ≡ queue))
+        → MatchOption left
+        (MatchOption old (lists_of (slice_set rests k (entry.0, Serial after)) ≡ lists_of rests)
+        (λ item. waiting (lists_of (slice_set rests k (entry.0, Serial after))) s ≡ waiting (lists_of rests) s ++ item ∷ []))
+        (λ back. (old ≡ Some back) × (lists_of (slice_set rests k (entry.0, Serial after)) ≡ lists_of rests))
+    puts None None h = as_before h
+    puts None (Some item) h = waits_now after ∙ h ∙ ap (λ xs. xs ++ item ∷ []) (sym was)
+    puts (Some back) old h = (h.0, as_before h.1)

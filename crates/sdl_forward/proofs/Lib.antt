@@ -5,7 +5,7 @@ pub mod Places
 pub mod Adopted
 pub mod Fresh
 pub mod Onward
-pub mod Bringing
+pub mod Sides
 pub mod Handing
 pub mod Rows
 pub mod Marks

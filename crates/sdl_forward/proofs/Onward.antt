@@ -1,16 +1,15 @@
--- The station behind another on a route, and an item that is put there.
-use Rattle.std.proofs.Common.{◌≡◌, ◌≢◌, ℕ, zero, suc, ◌<◌, ◌≤◌, true, List, [], ◌∷◌, ◌++◌, length, Option, Some, None, IfSome, option_and_then, Contains, slice_get, slice_index_or, inl, inr, refl, ap, sym, ◌∙◌, subst, arith}
+-- The station behind another on a route.
+use Rattle.std.proofs.Common.{◌≡◌, ◌≢◌, ℕ, zero, suc, ◌<◌, ◌≤◌, true, List, [], ◌∷◌, length, Option, Some, None, IfSome, option_and_then, Contains, slice_get, slice_index_or, inl, inr, refl, ap, sym, ◌∙◌, subst, arith}
 use Rattle.std.specs.List.{AllByRecursion}
 use Rattle.std.proofs.lemmas.Bool.{cond-true, cond-false}
 use Rattle.std.proofs.lemmas.Option.{same_Some, slice_get_within, get_or_from_slice_get, option_and_then_some}
 use Rattle.sdl_signal.specs.declared.values.Item.{Item}
 use Rattle.sdl_routes.specs.declared.route.TableRow.{TableRow}
 use Rattle.sdl_routes.specs.declared.route.Station.{Station}
-use Rattle.sdl_routes.specs.declared.route.Station.TheVariants.{Line}
 use Rattle.sdl_routes.specs.Routes.{EachOnce, FollowsIn}
 use Rattle.sdl_routes.specs.Table.{IsTableRoute, IsTable}
-use Rattle.sdl_forward.specs.Boards.{same_station, waiting, ChangesOnly, IsStationOf}
-use Rattle.sdl_forward.specs.Forwards.{Forwarding, station_behind, next_station, standing, Moves}
+use Rattle.sdl_forward.specs.Boards.{same_station, IsStationOf}
+use Rattle.sdl_forward.specs.Forwards.{station_behind, next_station}
 use Rattle.sdl_forward.proofs.Same.{same_station_itself, other_station, cases_station}
 
 follows_is : (ss : List Station) (s : Station) (next : Option Station) → FollowsIn ss (Some s) next → next ≡ station_behind s ss
@@ -83,17 +82,21 @@ next_passed rows s item t next =
       (at.0, slice_get_within row.route.stations.items at.0 t at.1, get_or_from_slice_get row.route.stations.items at.0 t t at.1),
     ))
 
--- and so is what the table answers, for any station or for none
-answered_in : (rows : List TableRow) (r : ℕ) (after : Option Station) (t : Station) (o : Option TableRow) → slice_get rows r ≡ o
-    → (length rows ≤ r → Some t ≡ None) → IfSome o (λ row. FollowsIn row.route.stations.items after (Some t)) → IsStationOf rows t
-answered_in rows r after t None there unknown h = absurd (let e : Some t ≡ None = unknown (none_past rows r there) in cc)
-answered_in rows r None t (Some row) there unknown h = (
+-- so is the first one
+pub first_passed : (rows : List TableRow) (r : ℕ) (row : TableRow) (t : Station) → slice_get rows r ≡ Some row → slice_get row.route.stations.items 0 ≡ Some t → IsStationOf rows t
+first_passed rows r row t there first = (
   r,
   row,
   slice_get_within rows r row there,
   get_or_from_slice_get rows r row row there,
-  (0, slice_get_within row.route.stations.items 0 t (sym h), get_or_from_slice_get row.route.stations.items 0 t t (sym h)),
+  (0, slice_get_within row.route.stations.items 0 t first, get_or_from_slice_get row.route.stations.items 0 t t first),
 )
+
+-- and so is what the table answers, for any station or for none
+answered_in : (rows : List TableRow) (r : ℕ) (after : Option Station) (t : Station) (o : Option TableRow) → slice_get rows r ≡ o
+    → (length rows ≤ r → Some t ≡ None) → IfSome o (λ row. FollowsIn row.route.stations.items after (Some t)) → IsStationOf rows t
+answered_in rows r after t None there unknown h = absurd (let e : Some t ≡ None = unknown (none_past rows r there) in cc)
+answered_in rows r None t (Some row) there unknown h = first_passed rows r row t there (sym h)
 answered_in rows r (Some s) t (Some row) there unknown h =
     let at = behind_in row.route.stations.items s t (sym (follows_is row.route.stations.items s (Some t) h)) in (
       r,
@@ -107,25 +110,7 @@ pub answered_passed : (rows : List TableRow) (r : ℕ) (after : Option Station) 
     → IfSome (slice_get rows r) (λ row. FollowsIn row.route.stations.items after (Some t)) → (length rows ≤ r → Some t ≡ None) → IsStationOf rows t
 answered_passed rows r after t known unknown = answered_in rows r after t (slice_get rows r) refl unknown known
 
-next_other : (rows : List TableRow) (s : Station) (item : Item) (t : Station) → IsTable rows → next_station rows s item ≡ Some t → t ≢ s
+pub next_other : (rows : List TableRow) (s : Station) (item : Item) (t : Station) → IsTable rows → next_station rows s item ≡ Some t → t ≢ s
 next_other rows s item t table next =
     option_and_then_some (λ (row : TableRow). station_behind s row.route.stations.items) (slice_get rows item.route.0) t next
     (λ row there behind. behind_other row.route.stations.items s t (each_at IsTableRoute rows item.route.0 row table.shown there).stations_once behind)
-
--- an item that was taken, put at its next station
-pub moves : (rows : List TableRow) (was is : Forwarding) (old mid new : List (Station × List Item)) (item : Item) (to : Station)
-    → IsTable rows → standing was old ≡ item ∷ waiting mid (Line was.hop) → ChangesOnly old mid (Line was.hop) → is ≡ record { hop = was.hop; held = None }
-    → next_station rows (Line was.hop) item ≡ Some to → waiting new to ≡ waiting mid to ++ item ∷ [] → ChangesOnly mid new to
-    → Moves rows was old is new
-moves rows was is old mid new item to table taken before emptied next back after =
-    let further = next_other rows (Line was.hop) item to table next in
-    record {
-      item = item;
-      to = to;
-      first = taken ∙ ap (λ (xs : List Item). item ∷ xs) (sym (after.others (Line was.hop) (λ e. further (sym e))));
-      next = next;
-      further = further;
-      back = back ∙ ap (λ (xs : List Item). xs ++ item ∷ []) (before.others to further);
-      others = λ s not_line not_to. after.others s not_to ∙ before.others s not_line;
-      emptied = emptied;
-    }

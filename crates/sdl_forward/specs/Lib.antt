@@ -1,6 +1,10 @@
 pub mod Boards
 pub mod Busy
+pub mod Queues
+pub mod OnBoard
+pub mod ByEnds
 pub mod Forwards
 pub mod Carries
+pub mod StepsBy
 pub mod HandsOn
 pub mod Serials

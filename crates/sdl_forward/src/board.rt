@@ -1,5 +1,5 @@
 //! A board: the queues of all stations, on one thread.
-ghost use Rattle.std.specs.Prelude.{◌≡◌, ◌<◌, ◌≤◌, List, [], ◌∷◌, ◌++◌, Contains, ⊤, map, IfOk, MatchBool, MatchResult, MatchOption};
+ghost use Rattle.std.specs.Prelude.{◌≡◌, ◌<◌, ◌≤◌, List, [], ◌∷◌, ◌++◌, Some, Contains, ⊤, map, IfOk, MatchBool, MatchResult, MatchOption};
 ghost use Rattle.sdl_queue.specs.declared.rest.Rest.TheVariants.{Serial};
 ghost use Rattle.sdl_routes.specs.declared.route.Hop.{Hop};
 ghost use Rattle.sdl_routes.specs.declared.route.Station.{Station};
@@ -66,7 +66,6 @@ impl Board {
 
     /// Puts the item at the back of the station, which is one of the board's. Where memory is refused, the item comes back and
     /// the board is as it was.
-    #[inline(always)]
     pub fn put(&mut self, station: Station, item: Item) -> Result<(), (Item, AllocError)>
         requires { Contains (stations_of self.old) station }
         ensures put { MatchResult result
@@ -74,12 +73,30 @@ impl Board {
             (λ back. (back.0 ≡ item) × (self.new ≡ self.old)) }
         ensures others { ChangesOnly self.old self.new station }
     {
+        let mut slot = Some(item);
+        self.put_from(station, &mut slot);
+        match slot {
+            None => Ok(()),
+            Some(back) => Err((back, AllocError)),
+        }
+    }
+
+    /// Puts the item of the slot, where it has one, at the back of the station, which is one of the board's, and leaves the slot
+    /// empty. Where memory is refused, the item stays there and the board is as it was.
+    #[inline(always)]
+    pub fn put_from(&mut self, station: Station, slot: &mut Option<Item>)
+        requires { Contains (stations_of self.old) station }
+        ensures put { MatchOption slot.new
+            (MatchOption slot.old (self.new ≡ self.old) (λ item. waiting self.new station ≡ waiting self.old station ++ item ∷ []))
+            (λ back. (slot.old ≡ Some back) × (self.new ≡ self.old)) }
+        ensures others { ChangesOnly self.old self.new station }
+    {
         let Some(place) = self.hints.find(self.rests.as_slice(), station) else {
             unreachable!()
         };
         self.busy.note(station, true);
         match &mut self.rests[place].1 {
-            Rest::Serial(queue) => queue.put(item),
+            Rest::Serial(queue) => put_slot(queue, slot),
             Rest::Ruled(_) => unreachable!(),
             Rest::Ring(_) => unreachable!(),
         }
@@ -125,6 +142,22 @@ impl Board {
         ensures { lists_of result.items ≡ self }
     {
         self.rests
+    }
+}
+
+/// Puts the item of the slot, where it has one, at the back of the queue, and leaves the slot empty. Where memory is refused, the
+/// item stays there and the queue is as it was. The item is taken out of its slot only here, so that it is copied once.
+#[inline(always)]
+fn put_slot(queue: &mut SerialQueue, slot: &mut Option<Item>)
+    ensures { MatchOption slot.new
+        (MatchOption slot.old (queue.new ≡ queue.old) (λ item. queue.new ≡ queue.old ++ item ∷ []))
+        (λ back. (slot.old ≡ Some back) × (queue.new ≡ queue.old)) }
+{
+    let Some(item) = slot.take() else {
+        return;
+    };
+    if let Err((item, _)) = queue.put(item) {
+        *slot = Some(item);
     }
 }
 

@@ -1,14 +1,21 @@
 //! Forwarders: each takes the items of one delaying path and puts each at the next station of its route.
-ghost use Rattle.std.specs.Prelude.{◌≡◌, ◌∷◌, None, MatchOption, option_copied};
+ghost use Rattle.std.specs.Prelude.{◌≡◌, None, MatchOption, option_copied};
 ghost use Rattle.sdl_routes.specs.declared.route.Station.TheVariants.{Line};
 ghost use Rattle.sdl_routes.specs.Table.{IsTable};
-ghost use Rattle.sdl_forward.specs.Boards.{waiting, ChangesOnly, IsBoardOf};
-ghost use Rattle.sdl_forward.specs.Forwards.{Rests, Forwards, standing, next_station};
+ghost use Rattle.sdl_ends.specs.Ends.{IsSameEnds};
+ghost use Rattle.sdl_forward.specs.Boards.{IsBoardOf};
+ghost use Rattle.sdl_forward.specs.Carries.{Carries, HasWaysOn};
+ghost use Rattle.sdl_forward.specs.Forwards.{Forwards, next_station};
+ghost use Rattle.sdl_forward.specs.Queues.{Fills};
+ghost use Rattle.sdl_forward.specs.StepsBy.{StepsBy, CanPutOn};
 
 use crate::Board;
+use crate::queues::Queues;
+use sdl_ends::Ends;
 use sdl_routes::{Hop, Routes, Station};
 use sdl_signal::Item;
 use std::marker::Model;
+use std::sync::Wait;
 
 /// What a step of a forwarder did.
 #[derive(Clone, Copy, Debug, PartialEq, Eq)]
@@ -25,7 +32,7 @@ pub enum Forwarded {
 #[derive(Drop)]
 pub struct Forwarder {
     hop: Hop,
-    pub(crate) held: Option<Item>,
+    held: Option<Item>,
 }
 
 impl Model for Forwarder {
@@ -58,24 +65,9 @@ impl Forwarder {
         self.held.as_ref()
     }
 
-    /// Takes the item that it holds, or else the front of its path.
-    #[inline(always)]
-    fn take(&mut self, board: &mut Board) -> Option<Item>
-        ensures taken { MatchOption result
-            (Rests self.old board.old self.new board.new)
-            (λ item. standing self.old board.old ≡ item ∷ waiting board.new (Line self.old.hop)) }
-        ensures emptied { self.new ≡ record { hop = self.old.hop; held = None } }
-        ensures others { ChangesOnly board.old board.new (Line self.old.hop) }
-    {
-        if self.held.is_some() {
-            return self.held.take();
-        }
-        board.take(Station::Line(self.hop))
-    }
-
     /// The station after its path on the item's route.
     #[inline(always)]
-    pub(crate) fn next(&self, routes: &Routes, item: &Item) -> Option<Station>
+    fn next(&self, routes: &Routes, item: &Item) -> Option<Station>
         ensures next { next_station routes.now (Line self.now.hop) item.now ≡ result }
         ensures table { IsTable routes.now }
     {
@@ -97,19 +89,55 @@ impl Forwarder {
         ensures step { Forwards routes.now self.old board.old result self.new board.new }
         ensures board { IsBoardOf routes.now board.new }
     {
-        let Some(item) = self.take(board) else {
+        self.step_over(&(), routes, board)
+    }
+
+    /// The same step through the forwarder's own ends. May wait for other threads.
+    pub fn step<R: Wait>(&mut self, rt: &R, routes: &Routes, ends: &mut Ends) -> Forwarded
+        requires { HasWaysOn routes.now self.old.hop ends.old }
+        ensures step { Carries routes.now self.old ends.old result self.new ends.new }
+        ensures ends { IsSameEnds ends.old ends.new }
+    {
+        self.step_over(rt, routes, ends)
+    }
+
+    /// A step, over any queues.
+    #[inline(always)]
+    fn step_over<H, Q: Queues<H>>(&mut self, rt: &H, routes: &Routes, queues: &mut Q) -> Forwarded
+        requires { CanPutOn Q.relations routes.now self.old.hop queues.old }
+        ensures { StepsBy Q.relations routes.now self.old queues.old result self.new queues.new }
+    {
+        let mut slot = None;
+        self.take_into(rt, queues, &mut slot);
+        let Some(item) = &slot else {
             return Forwarded::Idle;
         };
-        let Some(next) = self.next(routes, &item) else {
-            self.held = Some(item);
+        let Some(next) = self.next(routes, item) else {
+            self.held = slot;
             return Forwarded::Held;
         };
-        match board.put(next, item) {
-            Ok(()) => Forwarded::Moved,
-            Err((item, _)) => {
-                self.held = Some(item);
-                Forwarded::Held
-            }
+        queues.put_from(rt, next, &mut slot);
+        if slot.is_some() {
+            self.held = slot;
+            return Forwarded::Held;
         }
+        Forwarded::Moved
+    }
+
+    /// Takes the item that it holds, or else one of its path, into the slot, which is empty. So an item that can be put at once is not
+    /// copied into the forwarder and out again.
+    #[inline(always)]
+    fn take_into<H, Q: Queues<H>>(&mut self, rt: &H, queues: &mut Q, slot: &mut Option<Item>)
+        requires { slot.old ≡ None }
+        ensures taken { MatchOption slot.new
+            ((self.old.held ≡ None) × Q.relations.Still queues.old queues.new × Q.relations.Empty queues.old (Line self.old.hop))
+            (λ item. Fills Q.relations (Line self.old.hop) self.old.held queues.old item queues.new) }
+        ensures emptied { self.new ≡ record { hop = self.old.hop; held = None } }
+    {
+        if self.held.is_some() {
+            *slot = self.held.take();
+            return;
+        }
+        queues.take_into(rt, Station::Line(self.hop), slot);
     }
 }

@@ -2,12 +2,12 @@
 #![tactic(auto)]
 
 mod adopting;
-mod apart;
 pub mod board;
 mod busy;
 pub mod forwarder;
 mod hints;
 pub mod laws;
+pub mod queues;
 
 pub use board::Board;
 pub use forwarder::{Forwarded, Forwarder};

@@ -1,31 +1,33 @@
 -- Items that are put one by one, from the front.
-use Rattle.std.proofs.Common.{◌≡◌, Bool, true, false, Ok, List, [], ◌∷◌, ◌++◌, refl, ap, sym, ◌∙◌, subst, append_assoc, append-nil, true≢false, not}
-use Rattle.std.proofs.lemmas.List.Elements.{filter-append, All-tail, All-append, All-cons, All-nil}
+use Rattle.std.proofs.Common.{◌≡◌, Bool, true, false, cond, Result, Ok, Err, List, [], ◌∷◌, ◌++◌, Option, Some, None, ◌<◌, length, arith, IfSome, option_and_then, slice_get, refl, ap, sym, ◌∙◌, subst, append_assoc, append-nil, true≢false}
+use Rattle.std.specs.Result.{IsErr}
+use Rattle.std.proofs.lemmas.List.Elements.{filter-append, All-tail}
 use Rattle.sdl_signal.specs.declared.values.Item.{Item}
 use Rattle.sdl_routes.specs.declared.route.TableRow.{TableRow}
 use Rattle.sdl_routes.specs.declared.route.Station.{Station}
-use Rattle.sdl_forward.specs.Boards.{waiting, IsBoardOf, AreAllStations}
+use Rattle.sdl_routes.specs.Routes.{FollowsIn}
+use Rattle.sdl_forward.specs.Boards.{waiting}
+use Rattle.sdl_forward.specs.Queues.{Relations, nothing, one_at, with_more}
+use Rattle.sdl_hand.specs.declared.hand.Refused.{Refused}
 use Rattle.sdl_hand.specs.Work.{beginning_at, first_station, is_station}
-use Rattle.sdl_hand.specs.Puts.{AreRouted, IsRouted, Puts, PutsOut}
+use Rattle.sdl_hand.specs.Puts.{AreRouted, IsRouted, Puts}
+use Rattle.sdl_hand.specs.PutsBy.{CanPutOut, PutsFirsts, PutsOutBy}
 
 pub beginning-append : (rows : List TableRow) (s : Station) (xs ys : List Item) → beginning_at rows s (xs ++ ys) ≡ beginning_at rows s xs ++ beginning_at rows s ys
 beginning-append rows s xs ys = filter-append (λ i. is_station s (first_station rows i)) xs ys
 
-pub put_more : (rows : List TableRow) (before : List (Station × List Item)) (put : List Item) (between : List (Station × List Item)) (more : List Item) (after : List (Station × List Item))
-    → Puts rows before put between → Puts rows between more after → Puts rows before (put ++ more) after
-put_more rows before put between more after a b =
-    record {
-      each = λ s.
-          b.each s ∙ ap (λ l. l ++ beginning_at rows s more) (a.each s) ∙ append_assoc (waiting before s) (beginning_at rows s put) (beginning_at rows s more)
-          ∙ ap (λ l. waiting before s ++ l) (sym (beginning-append rows s put more));
-      stations = b.stations ∙ a.stations;
-    }
-
 pub put_none : (rows : List TableRow) (before : List (Station × List Item)) → Puts rows before [] before
 put_none rows before = record { each = λ s. sym (append-nil (waiting before s)); stations = refl }
 
-pub board_after : (rows : List TableRow) (before : List (Station × List Item)) (put : List Item) (after : List (Station × List Item)) → Puts rows before put after → IsBoardOf rows before → IsBoardOf rows after
-board_after rows before put after p h = subst (AreAllStations rows) (sym p.stations) h
+-- the front one of the items goes on by its route
+
+pub first_so : (o : Option TableRow) (s : Station) (row : TableRow) → o ≡ Some row → IfSome o (λ row. FollowsIn row.route.stations.items None (Some s))
+    → option_and_then (λ row. slice_get row.route.stations.items 0) o ≡ Some s
+first_so None s row there h = absurd (let e : None ≡ Some row = there in cc)
+first_so (Some x) s row there h = sym h
+
+pub front_routed : (rows : List TableRow) (items : List Item) (i : Item) (new : List Item) → items ≡ i ∷ new → AreRouted rows items → IsRouted rows i
+front_routed rows items i new front routed = let lt : 0 < length (i ∷ new) = omega arith in (subst (AreRouted rows) front routed) 0 i lt
 
 abbrev is_cons : {X : Type 0} → List X → Bool
 is_cons [] = false
@@ -35,38 +37,55 @@ not_nil : {X : Type 0} (x : X) (put xs : List X) → put ++ x ∷ xs ≡ [] → 
 not_nil x [] xs e = true≢false (ap is_cons e)
 not_nil x (y ∷ put) xs e = true≢false (ap is_cons e)
 
--- What holds while the hand is put out from `old`: those in front are put, and the others are in hand.
-abbrev pub IsPutting : List TableRow → List Item → List (Station × List Item) → List Item → List (Station × List Item) → Type 0
-IsPutting rows old before new after =
-    ((put : List Item) × (put ++ new ≡ old) × Puts rows before put after)
-    × AreRouted rows new
-    × IsBoardOf rows after
-    × (old ≡ [] → after ≡ before)
+module _ {B : Type 0} (q : Relations B) (rows : List TableRow) where
+  -- some are put, and then more
+  pub puts_both : (before : B) (put : List Item) (between : B) (more : List Item) (after : B) → PutsFirsts q rows before put between → PutsFirsts q rows between more after → PutsFirsts q rows before (put ++ more) after
+  puts_both before put between more after h k =
+      let same : with_more (λ t. beginning_at rows t put) (λ t. beginning_at rows t more) ≡ (λ t. beginning_at rows t (put ++ more)) = λ j t. sym (beginning-append rows t put more) j in
+      subst (λ (p : Station → List Item). q.Puts p before after) same (q.puts_then (λ t. beginning_at rows t put) (λ t. beginning_at rows t more) before between after h k)
 
-pub putting_on : (rows : List TableRow) (old : List Item) (before : List (Station × List Item)) (mid : List Item) (between : List (Station × List Item)) (i : Item) (new : List Item) (after : List (Station × List Item))
-    → IsPutting rows old before mid between → mid ≡ i ∷ new → Puts rows between (i ∷ []) after → IsPutting rows old before new after
-putting_on rows old before mid between i new after ((put, same, puts), routed, board, nothing) front one =
-    let whole : put ++ i ∷ new ≡ old = ap (λ l. put ++ l) (sym front) ∙ same in (
-      (put ++ i ∷ [], append_assoc put (i ∷ []) new ∙ whole, put_more rows before put between (i ∷ []) after puts one),
-      All-tail (IsRouted rows) i new (subst (AreRouted rows) front routed),
-      board_after rows between (i ∷ []) after one board,
-      λ none. absurd (not_nil i put new (whole ∙ none)),
-    )
+  -- one is put at its first station
+  puts_one : (before : B) (i : Item) (s : Station) (after : B) → first_station rows i ≡ Some s → q.Puts (one_at s i) before after → PutsFirsts q rows before (i ∷ []) after
+  puts_one before i s after first one = subst (λ (o : Option Station). q.Puts (λ t. cond (is_station t o) (i ∷ []) []) before after) (sym first) one
 
-pub putting_starts : (rows : List TableRow) (old : List Item) (before : List (Station × List Item)) → AreRouted rows old → IsBoardOf rows before → IsPutting rows old before old before
-putting_starts rows old before routed board = (([], refl, put_none rows before), routed, board, λ none. refl)
+  -- What holds while the hand is put out from `old`: those in front are put, and the others are in hand.
+  pub record IsPutting (old : List Item) (before : B) (new : List Item) (after : B) : Type 0 where
+    pub put : List Item
+    pub whole : put ++ new ≡ old
+    pub puts : PutsFirsts q rows before put after
+    pub routed : AreRouted rows new
+    pub ways : CanPutOut q rows after new
+    pub none : old ≡ [] → after ≡ before
 
--- all is put
-pub putting_ends : (rows : List TableRow) (old : List Item) (before : List (Station × List Item)) (new : List Item) (after : List (Station × List Item)) (some : Bool)
-    → IsPutting rows old before new after → new ≡ [] → (some ≡ true → old ≡ [] → ⊥) → (some ≡ false → old ≡ []) → PutsOut rows old before (Ok some) new after
-putting_ends rows old before new after true ((put, same, puts), routed, board, nothing) none said unsaid =
-    let all : put ≡ old = sym (append-nil put) ∙ ap (λ l. put ++ l) (sym none) ∙ same in
-    (subst (λ l. Puts rows before l after) all puts, said refl, none)
-putting_ends rows old before new after false ((put, same, puts), routed, board, nothing) none said unsaid = (unsaid refl, none, nothing (unsaid refl))
+  pub putting_starts : (old : List Item) (before : B) → AreRouted rows old → CanPutOut q rows before old → IsPutting old before old before
+  putting_starts old before routed ways = record { put = []; whole = refl; puts = q.puts_none before; routed = routed; ways = ways; none = λ none. refl }
 
-pub routed_more : (rows : List TableRow) (items : List Item) (i : Item) → AreRouted rows items → IsRouted rows i → AreRouted rows (items ++ i ∷ [])
-routed_more rows items i routed one = All-append (IsRouted rows) items (i ∷ []) routed (All-cons (IsRouted rows) i [] one (All-nil (IsRouted rows)))
+  pub putting_on : (old : List Item) (before : B) (mid : List Item) (between : B) (i : Item) (s : Station) (new : List Item) (after : B)
+      → IsPutting old before mid between → mid ≡ i ∷ new → first_station rows i ≡ Some s → q.Puts (one_at s i) between after → IsPutting old before new after
+  putting_on old before mid between i s new after p front first one =
+      let whole : p.put ++ i ∷ new ≡ old = ap (λ l. p.put ++ l) (sym front) ∙ p.whole in
+      let moved = q.puts_move s (one_at s i) between after one in
+      let still = All-tail (λ x. (t : Station) → first_station rows x ≡ Some t → q.CanPut between t) i new (subst (CanPutOut q rows between) front p.ways) in
+      record {
+        put = p.put ++ i ∷ [];
+        whole = append_assoc p.put (i ∷ []) new ∙ whole;
+        puts = puts_both before p.put between (i ∷ []) after p.puts (puts_one between i s after first one);
+        routed = All-tail (IsRouted rows) i new (subst (AreRouted rows) front p.routed);
+        ways = λ k x at t there. q.can_still s (one_at s i) [] between after t moved (still k x at t there);
+        none = λ none. absurd (not_nil i p.put new (whole ∙ none));
+      }
 
-pub so_true : (b : Bool) → not b ≡ false → b ≡ true
-so_true true h = refl
-so_true false h = absurd (true≢false h)
+  -- all is put
+  pub putting_ends : (old : List Item) (before : B) (new : List Item) (after : B) (some : Bool)
+      → IsPutting old before new after → new ≡ [] → (some ≡ true → old ≡ [] → ⊥) → (some ≡ false → old ≡ []) → PutsOutBy q rows old before (Ok some) new after
+  putting_ends old before new after true p none said unsaid =
+      let all : p.put ≡ old = sym (append-nil p.put) ∙ ap (λ l. p.put ++ l) (sym none) ∙ p.whole in
+      (subst (λ l. PutsFirsts q rows before l after) all p.puts, said refl, none)
+  putting_ends old before new after false p none said unsaid = (unsaid refl, none, p.none (unsaid refl))
+
+  -- a put is refused
+  pub putting_refused : (old : List Item) (before : B) (mid : List Item) (between : B) (result : Result Bool Refused) → IsErr result → (new : List Item) (after : B)
+      → IsPutting old before mid between → new ≡ mid → q.Puts nothing between after → PutsOutBy q rows old before result new after
+  putting_refused old before mid between (Err r) err new after p same none =
+      (p.put, ap (λ l. p.put ++ l) same ∙ p.whole, subst (λ l. PutsFirsts q rows before l after) (append-nil p.put) (puts_both before p.put between [] after p.puts none))
+  putting_refused old before mid between (Ok did) err new after p same none = absurd (true≢false (sym err))

@@ -1,4 +1,5 @@
 pub mod Work
 pub mod Puts
+pub mod PutsBy
 pub mod PutsApart
 pub mod Apart

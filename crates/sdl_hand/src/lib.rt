@@ -1,7 +1,6 @@
 //! What a worker has in hand between two steps, what a step answers, and what a step of a block does.
 #![tactic(auto)]
 
-mod apart;
 pub mod hand;
 mod putting;
 

@@ -1,13 +1,21 @@
 //! Putting out what is in hand.
-ghost use Rattle.std.specs.Prelude.{◌≡◌, ◌≢◌, ◌<◌, ◌≤◌, ◌∷◌, [], length, IfErr, MatchResult};
+ghost use Rattle.std.specs.Prelude.{◌≡◌, ◌≢◌, ◌<◌, ◌≤◌, ◌∷◌, [], Some, length, IfErr, MatchResult};
 ghost use Rattle.sdl_signal.specs.declared.values.Item.{Item};
+ghost use Rattle.sdl_routes.specs.declared.route.Station.{Station};
+ghost use Rattle.sdl_ends.specs.Ends.{IsSameEnds};
 ghost use Rattle.sdl_forward.specs.Boards.{IsBoardOf};
-ghost use Rattle.sdl_hand.specs.Puts.{AreRouted, IsRouted, Puts, PutsOut};
+ghost use Rattle.sdl_forward.specs.Queues.{nothing, one_at};
+ghost use Rattle.sdl_hand.specs.Work.{first_station};
+ghost use Rattle.sdl_hand.specs.Puts.{AreRouted, PutsOut};
+ghost use Rattle.sdl_hand.specs.PutsBy.{CanPutOut, PutsOutBy};
+ghost use Rattle.sdl_hand.specs.PutsApart.{HaveWaysOut, PutsOutApart};
 
 use crate::hand::{Hand, Refused};
+use sdl_ends::Ends;
 use sdl_forward::Board;
+use sdl_forward::queues::Queues;
 use sdl_routes::Routes;
-use sdl_signal::Item;
+use std::sync::Wait;
 
 impl Hand {
     /// Puts the outgoing items, from the front, each at the first station of its route, and says whether there was one.
@@ -22,50 +30,79 @@ impl Hand {
         ensures routed { AreRouted routes.now self.new.outgoing.items }
         ensures board { IsBoardOf routes.now board.new }
     {
+        self.put_out_over(&(), routes, board)
+    }
+
+    /// Puts the outgoing items through the worker's ends, from the front, each at the first station of its route, and says
+    /// whether there was one. A refusal leaves that item and those behind it in hand. May wait for other threads.
+    #[inline(always)]
+    pub fn put_out_apart<R: Wait>(
+        &mut self,
+        rt: &R,
+        routes: &Routes,
+        ends: &mut Ends,
+    ) -> Result<bool, Refused>
+        requires routed { AreRouted routes.now self.old.outgoing.items }
+        requires ways { HaveWaysOut routes.now ends.old self.old.outgoing.items }
+        ensures put { PutsOutApart routes.now self.old.outgoing.items ends.old result self.new.outgoing.items ends.new }
+        ensures refused { IfErr result (λ _. self.new.outgoing.items ≢ []) }
+        ensures kept { self.new.kept ≡ self.old.kept }
+        ensures ends { IsSameEnds ends.old ends.new }
+    {
+        self.put_out_over(rt, routes, ends)
+    }
+
+    /// The same over any queues.
+    #[inline(always)]
+    pub fn put_out_over<H, Q: Queues<H>>(
+        &mut self,
+        rt: &H,
+        routes: &Routes,
+        queues: &mut Q,
+    ) -> Result<bool, Refused>
+        requires routed { AreRouted routes.now self.old.outgoing.items }
+        requires ways { CanPutOut Q.relations routes.now queues.old self.old.outgoing.items }
+        ensures put { PutsOutBy Q.relations routes.now self.old.outgoing.items queues.old result self.new.outgoing.items queues.new }
+        ensures refused { IfErr result (λ _. self.new.outgoing.items ≢ []) }
+        ensures kept { self.new.kept ≡ self.old.kept }
+        ensures routed { AreRouted routes.now self.new.outgoing.items }
+    {
         let some = !self.outgoing.as_slice().is_empty();
         while !self.outgoing.as_slice().is_empty() {
-            self.put_front(routes, board)?;
+            self.put_front(rt, routes, queues)?;
         }
         Ok(some)
     }
 
-    /// Puts the front one of the outgoing items at the first station of its route. A refusal changes nothing.
+    /// Puts the front one of the outgoing items at the first station of its route. A refusal puts nothing.
     #[inline(always)]
-    fn put_front(&mut self, routes: &Routes, board: &mut Board) -> Result<(), Refused>
+    fn put_front<H, Q: Queues<H>>(
+        &mut self,
+        rt: &H,
+        routes: &Routes,
+        queues: &mut Q,
+    ) -> Result<(), Refused>
         requires some { 0 < length self.old.outgoing.items }
         requires few { length self.old.outgoing.items ≤ 8 }
         requires routed { AreRouted routes.now self.old.outgoing.items }
-        requires board { IsBoardOf routes.now board.old }
+        requires ways { CanPutOut Q.relations routes.now queues.old self.old.outgoing.items }
         ensures put { MatchResult result
-            (λ _. (i : Item) × (self.old.outgoing.items ≡ i ∷ self.new.outgoing.items) × Puts routes.now board.old (i ∷ []) board.new)
-            (λ _. (self.new.outgoing.items ≡ self.old.outgoing.items) × (board.new ≡ board.old)) }
+            (λ _. (i : Item) × (s : Station) × (self.old.outgoing.items ≡ i ∷ self.new.outgoing.items) × (first_station routes.now i ≡ Some s) × Q.relations.Puts (one_at s i) queues.old queues.new)
+            (λ _. (self.new.outgoing.items ≡ self.old.outgoing.items) × Q.relations.Puts nothing queues.old queues.new) }
         ensures kept { self.new.kept ≡ self.old.kept }
     {
         let item = self.outgoing.remove(0);
-        match put_first(routes, board, item) {
-            Ok(()) => Ok(()),
-            Err(item) => {
+        let Some(station) = routes.next(item.route, None) else {
+            unreachable!()
+        };
+        let mut slot = Some(item);
+        queues.put_from(rt, station, &mut slot);
+        match slot {
+            None => Ok(()),
+            Some(item) => {
                 self.outgoing.insert(0, item);
                 Err(Refused)
             }
         }
-    }
-}
-
-/// Puts the item at the first station of its route. A refusal hands it back, and the board is as it was.
-#[inline(always)]
-fn put_first(routes: &Routes, board: &mut Board, item: Item) -> Result<(), Item>
-    requires routed { IsRouted routes.now item }
-    requires board { IsBoardOf routes.now board.old }
-    ensures { MatchResult result
-        (λ _. Puts routes.now board.old (item ∷ []) board.new)
-        (λ back. (back ≡ item) × (board.new ≡ board.old)) }
-{
-    let Some(station) = routes.next(item.route, None) else {
-        unreachable!()
-    };
-    match board.put(station, item) {
-        Ok(()) => Ok(()),
-        Err((item, _)) => Err(item),
     }
 }

@@ -1,33 +1,19 @@
-use Rattle.std.proofs.Common.{Ok, ap, inl, refl, subst, sym}
+use Rattle.std.proofs.Common.{Ok, Err, ap, subst, sym}
 use Rattle.sdl_transition.specs.Rules.{block_rules}
 use Rattle.sdl_instances.specs.Machine.{System}
 use Rattle.sdl_instances.specs.Core.{IsSound}
-use Rattle.sdl_block.specs.Phases.{TriesTurn}
-use Rattle.sdl_block.specs.Picks.{TriesTurnAt}
+use Rattle.sdl_block.specs.Around.{Turn, GoesThrough, around, at_put, at_arrival, at_turn, at_last, whole}
 use Rattle.sdl_block.specs.Workers.{worker_of, system_around}
 use Rattle.sdl_block.proofs.Going.{routed}
+use Rattle.sdl_block.proofs.Keeps.{turn_ways, ways_then}
+use Rattle.sdl_block.proofs.Ran.{out_so, refused_so, arrived_so}
+use Rattle.sdl_block.proofs.Stepping.{holding, legal_after}
 use Rattle.sdl_block.proofs.Systems.{same_system}
-use Rattle.sdl_block.proofs.Stepping.{refused_hand}
-use Rattle.sdl_block.proofs.OnBoard.{refused_so, ends_at_put, ends_at_arrival, ends_at_turn, ends_at_last, ends_whole, empty_after, sound_then, keeps_then, empty_then, legal_then, board_so, round_at_put, round_at_arrival, round_at_turn, round_at_last, round_whole}
 use Rattle.sdl_block.proofs.worker.BlockWorker.try_step.Goals as goal
 
-pub put_out-requires-clause-routed : goal.put_out-requires-clause-routed
-put_out-requires-clause-routed g c = routed (system_around c.args.self.now c.args.routes.now) c.args.self.now.hand.outgoing.items c.requires.legal
-
-pub returns-in_err-put-clause-step : goal.returns-in_err-put-clause-step
-returns-in_err-put-clause-step g c =
-    let may = g.S.Agents.may in
-    let sys = system_around c.args.self.now c.args.routes.now in
-    refused_so may sys c.from_residual.result c.from_residual.ensures.0 _ c.args.board.now _ c.put_out.new.board
-    (λ r. (ends_at_put may sys (worker_of c.args.self.now) c.args.board.now r c.put_out.new.self.kept c.put_out.new.self.outgoing.items c.put_out.new.board c.in_err-put.ensures.put c.in_err-put.ensures.kept c.requires.sound).0)
-
-pub returns-in_err-arrived-clause-step : goal.returns-in_err-arrived-clause-step
-returns-in_err-arrived-clause-step g c =
-    let may = g.S.Agents.may in
-    let sys = system_around c.args.self.now c.args.routes.now in
-    refused_so may sys c.from_residual-in_err-arrived.result c.from_residual-in_err-arrived.ensures.0 _ c.args.board.now _ c.let_one_arrive.new.board
-    (λ r. (ends_at_arrival may sys (worker_of c.args.self.now) c.args.board.now c.in_ok-put.put c.put_out.new.self.kept c.put_out.new.self.outgoing.items c.put_out.new.board c.in_ok-put.ensures.put c.in_ok-put.ensures.kept c.requires.sound r
-    (worker_of c.let_one_arrive.new.self) c.let_one_arrive.new.board c.in_err-arrived.ensures.arrived).0)
+pub put_out_over-requires-clause-routed : goal.put_out_over-requires-clause-routed
+put_out_over-requires-clause-routed g c =
+    routed (system_around c.args.self.now c.args.routes.now) c.args.self.now.hand.outgoing.items c.requires.legal
 
 pub make_turn-requires-clause-parts : goal.make_turn-requires-clause-parts
 make_turn-requires-clause-parts g c =
@@ -36,263 +22,137 @@ make_turn-requires-clause-parts g c =
 pub make_turn-requires-clause-sound : goal.make_turn-requires-clause-sound
 make_turn-requires-clause-sound g c =
     let may = g.S.Agents.may in
+    let q = g.Q.Queues.relations in
     let sys = system_around c.args.self.now c.args.routes.now in
-    let keeps = keeps_then may sys (worker_of c.args.self.now) c.args.board.now c.in_ok-put.put c.put_out.new.self.kept c.put_out.new.self.outgoing.items c.put_out.new.board c.in_ok-put.ensures.put c.in_ok-put.ensures.kept c.requires.sound
-    c.in_ok-arrived.arrived (worker_of c.let_one_arrive.new.self) c.let_one_arrive.new.board c.in_ok-arrived.ensures.arrived in
-    let same = same_system (worker_of c.args.self.now).core (worker_of c.let_one_arrive.new.self).core c.args.routes.now _ _ keeps (ap (λ p. block_rules p) c.let_one_arrive.ensures.parts) in
-    subst (λ (s : System). IsSound may s (worker_of c.let_one_arrive.new.self).core) (sym same) (sound_then may sys (worker_of c.args.self.now) c.args.board.now c.in_ok-put.put c.put_out.new.self.kept c.put_out.new.self.outgoing.items c.put_out.new.board c.in_ok-put.ensures.put c.in_ok-put.ensures.kept c.requires.sound
-    c.in_ok-arrived.arrived (worker_of c.let_one_arrive.new.self) c.let_one_arrive.new.board c.in_ok-arrived.ensures.arrived)
+    let old = worker_of c.args.self.now in
+    let here = around q c.args.routes.now old.core in
+    let put = holding old.core c.put_out_over.new.self.kept c.put_out_over.new.self.outgoing.items in
+    let out = out_so q c.args.routes.now old.core old c.args.queues.now (Ok c.in_ok-put.put) c.put_out_over.new.self.kept c.put_out_over.new.self.outgoing.items c.put_out_over.new.queues c.in_ok-put.ensures.put c.in_ok-put.ensures.kept in
+    let arrived = worker_of c.let_one_arrive.new.self in
+    let so = arrived_so may sys here c.args.pick old c.args.queues.now c.in_ok-put.put put c.put_out_over.new.queues c.in_ok-arrived.arrived arrived c.let_one_arrive.new.queues out c.in_ok-arrived.ensures.arrived c.requires.sound in
+    let same = same_system old.core arrived.core c.args.routes.now _ _ so.rest (ap (λ p. block_rules p) c.let_one_arrive.ensures.parts) in
+    subst (λ (s : System). IsSound may s arrived.core) (sym same) so.sound
 
 pub make_turn-requires-clause-hand : goal.make_turn-requires-clause-hand
 make_turn-requires-clause-hand g c =
     let may = g.S.Agents.may in
+    let q = g.Q.Queues.relations in
     let sys = system_around c.args.self.now c.args.routes.now in
-    empty_then may sys (worker_of c.args.self.now) c.args.board.now c.in_ok-put.put c.put_out.new.self.kept c.put_out.new.self.outgoing.items c.put_out.new.board c.in_ok-put.ensures.put c.in_ok-put.ensures.kept c.requires.sound
-    c.in_ok-arrived.arrived (worker_of c.let_one_arrive.new.self) c.let_one_arrive.new.board c.in_ok-arrived.ensures.arrived
+    let old = worker_of c.args.self.now in
+    let here = around q c.args.routes.now old.core in
+    let put = holding old.core c.put_out_over.new.self.kept c.put_out_over.new.self.outgoing.items in
+    let out = out_so q c.args.routes.now old.core old c.args.queues.now (Ok c.in_ok-put.put) c.put_out_over.new.self.kept c.put_out_over.new.self.outgoing.items c.put_out_over.new.queues c.in_ok-put.ensures.put c.in_ok-put.ensures.kept in
+    let arrived = worker_of c.let_one_arrive.new.self in
+    let so = arrived_so may sys here c.args.pick old c.args.queues.now c.in_ok-put.put put c.put_out_over.new.queues c.in_ok-arrived.arrived arrived c.let_one_arrive.new.queues out c.in_ok-arrived.ensures.arrived c.requires.sound in
+    so.empty
 
-pub returns-in_err-turned-clause-step : goal.returns-in_err-turned-clause-step
-returns-in_err-turned-clause-step g c =
+pub put_out_over-requires-2-clause-routed : goal.put_out_over-requires-2-clause-routed
+put_out_over-requires-2-clause-routed g c =
     let may = g.S.Agents.may in
+    let q = g.Q.Queues.relations in
     let sys = system_around c.args.self.now c.args.routes.now in
-    refused_so may sys c.from_residual-in_err-turned.result c.from_residual-in_err-turned.ensures.0 _ c.args.board.now _ c.let_one_arrive.new.board
-    (λ r. (ends_at_turn may sys (worker_of c.args.self.now) c.args.board.now c.in_ok-put.put c.put_out.new.self.kept c.put_out.new.self.outgoing.items c.put_out.new.board c.in_ok-put.ensures.put c.in_ok-put.ensures.kept c.requires.sound
-    c.in_ok-arrived.arrived (worker_of c.let_one_arrive.new.self) c.let_one_arrive.new.board c.in_ok-arrived.ensures.arrived
-    r (worker_of c.make_turn.new.self) c.in_err-turned.ensures.turn).0)
+    let old = worker_of c.args.self.now in
+    let here = around q c.args.routes.now old.core in
+    let put = holding old.core c.put_out_over.new.self.kept c.put_out_over.new.self.outgoing.items in
+    let out = out_so q c.args.routes.now old.core old c.args.queues.now (Ok c.in_ok-put.put) c.put_out_over.new.self.kept c.put_out_over.new.self.outgoing.items c.put_out_over.new.queues c.in_ok-put.ensures.put c.in_ok-put.ensures.kept in
+    let arrived = worker_of c.let_one_arrive.new.self in
+    let so = arrived_so may sys here c.args.pick old c.args.queues.now c.in_ok-put.put put c.put_out_over.new.queues c.in_ok-arrived.arrived arrived c.let_one_arrive.new.queues out c.in_ok-arrived.ensures.arrived c.requires.sound in
+    let same = same_system old.core arrived.core c.args.routes.now _ _ so.rest (ap (λ p. block_rules p) c.let_one_arrive.ensures.parts) in
+    let turned = worker_of c.make_turn.new.self in
+    let made = subst (λ (s : System). Turn may s c.args.pick arrived (Ok c.in_ok-turned.turned) turned) same (c.in_ok-turned.ensures.turn, c.in_ok-turned.ensures.pick) in
+    routed sys turned.outgoing (legal_after may sys c.in_ok-turned.turned arrived turned made.0 so.empty)
 
-pub put_out-requires-2-clause-routed : goal.put_out-requires-2-clause-routed
-put_out-requires-2-clause-routed g c =
+pub put_out_over-requires-2-clause-ways : goal.put_out_over-requires-2-clause-ways
+put_out_over-requires-2-clause-ways g c =
     let may = g.S.Agents.may in
+    let q = g.Q.Queues.relations in
     let sys = system_around c.args.self.now c.args.routes.now in
-    let keeps = keeps_then may sys (worker_of c.args.self.now) c.args.board.now c.in_ok-put.put c.put_out.new.self.kept c.put_out.new.self.outgoing.items c.put_out.new.board c.in_ok-put.ensures.put c.in_ok-put.ensures.kept c.requires.sound
-    c.in_ok-arrived.arrived (worker_of c.let_one_arrive.new.self) c.let_one_arrive.new.board c.in_ok-arrived.ensures.arrived in
-    let same = same_system (worker_of c.args.self.now).core (worker_of c.let_one_arrive.new.self).core c.args.routes.now _ _ keeps (ap (λ p. block_rules p) c.let_one_arrive.ensures.parts) in
-    let makes = subst (λ (s : System). TriesTurn may s (worker_of c.let_one_arrive.new.self) (Ok c.in_ok-turned.turned) (worker_of c.make_turn.new.self)) same c.in_ok-turned.ensures.turn in
-    routed sys c.make_turn.new.self.hand.outgoing.items (legal_then may sys (worker_of c.args.self.now) c.args.board.now c.in_ok-put.put c.put_out.new.self.kept c.put_out.new.self.outgoing.items c.put_out.new.board c.in_ok-put.ensures.put c.in_ok-put.ensures.kept c.requires.sound
-    c.in_ok-arrived.arrived (worker_of c.let_one_arrive.new.self) c.let_one_arrive.new.board c.in_ok-arrived.ensures.arrived
-    c.in_ok-turned.turned (worker_of c.make_turn.new.self) makes)
+    let old = worker_of c.args.self.now in
+    let here = around q c.args.routes.now old.core in
+    let put = holding old.core c.put_out_over.new.self.kept c.put_out_over.new.self.outgoing.items in
+    let out = out_so q c.args.routes.now old.core old c.args.queues.now (Ok c.in_ok-put.put) c.put_out_over.new.self.kept c.put_out_over.new.self.outgoing.items c.put_out_over.new.queues c.in_ok-put.ensures.put c.in_ok-put.ensures.kept in
+    let arrived = worker_of c.let_one_arrive.new.self in
+    let so = arrived_so may sys here c.args.pick old c.args.queues.now c.in_ok-put.put put c.put_out_over.new.queues c.in_ok-arrived.arrived arrived c.let_one_arrive.new.queues out c.in_ok-arrived.ensures.arrived c.requires.sound in
+    let same = same_system old.core arrived.core c.args.routes.now _ _ so.rest (ap (λ p. block_rules p) c.let_one_arrive.ensures.parts) in
+    let turned = worker_of c.make_turn.new.self in
+    let made = subst (λ (s : System). Turn may s c.args.pick arrived (Ok c.in_ok-turned.turned) turned) same (c.in_ok-turned.ensures.turn, c.in_ok-turned.ensures.pick) in
+    turn_ways q may sys c.in_ok-turned.turned arrived turned c.let_one_arrive.new.queues made.0 so.empty (ways_then q may sys old c.args.queues.now arrived c.let_one_arrive.new.queues c.requires.ways so.going)
 
-pub put_out-requires-2-clause-board : goal.put_out-requires-2-clause-board
-put_out-requires-2-clause-board g c =
+pub returns-in_err-put-clause-phases : goal.returns-in_err-put-clause-phases
+returns-in_err-put-clause-phases g c =
     let may = g.S.Agents.may in
+    let q = g.Q.Queues.relations in
     let sys = system_around c.args.self.now c.args.routes.now in
-    let keeps = keeps_then may sys (worker_of c.args.self.now) c.args.board.now c.in_ok-put.put c.put_out.new.self.kept c.put_out.new.self.outgoing.items c.put_out.new.board c.in_ok-put.ensures.put c.in_ok-put.ensures.kept c.requires.sound
-    c.in_ok-arrived.arrived (worker_of c.let_one_arrive.new.self) c.let_one_arrive.new.board c.in_ok-arrived.ensures.arrived in
-    let same = same_system (worker_of c.args.self.now).core (worker_of c.let_one_arrive.new.self).core c.args.routes.now _ _ keeps (ap (λ p. block_rules p) c.let_one_arrive.ensures.parts) in
-    let makes = subst (λ (s : System). TriesTurn may s (worker_of c.let_one_arrive.new.self) (Ok c.in_ok-turned.turned) (worker_of c.make_turn.new.self)) same c.in_ok-turned.ensures.turn in
-    board_so may sys (worker_of c.args.self.now) c.args.board.now c.in_ok-put.put c.put_out.new.self.kept c.put_out.new.self.outgoing.items c.put_out.new.board c.in_ok-put.ensures.put c.in_ok-put.ensures.kept c.requires.sound
-    c.in_ok-arrived.arrived (worker_of c.let_one_arrive.new.self) c.let_one_arrive.new.board c.in_ok-arrived.ensures.arrived
-    c.in_ok-turned.turned (worker_of c.make_turn.new.self) makes c.requires.board
+    let old = worker_of c.args.self.now in
+    let here = around q c.args.routes.now old.core in
+    let put = holding old.core c.put_out_over.new.self.kept c.put_out_over.new.self.outgoing.items in
+    let out = out_so q c.args.routes.now old.core old c.args.queues.now (Err c.in_err-put.field-0.0) c.put_out_over.new.self.kept c.put_out_over.new.self.outgoing.items c.put_out_over.new.queues c.in_err-put.ensures.put c.in_err-put.ensures.kept in
+    refused_so c.from_residual.result c.from_residual.ensures.0 (λ result. GoesThrough may sys here c.args.pick old c.args.queues.now result put c.put_out_over.new.queues)
+    (λ r. at_put r c.in_err-put.field-0.0 put c.put_out_over.new.queues out)
 
-pub returns-in_err-put_out-clause-step : goal.returns-in_err-put_out-clause-step
-returns-in_err-put_out-clause-step g c =
+pub returns-in_err-arrived-clause-phases : goal.returns-in_err-arrived-clause-phases
+returns-in_err-arrived-clause-phases g c =
     let may = g.S.Agents.may in
+    let q = g.Q.Queues.relations in
     let sys = system_around c.args.self.now c.args.routes.now in
-    let keeps = keeps_then may sys (worker_of c.args.self.now) c.args.board.now c.in_ok-put.put c.put_out.new.self.kept c.put_out.new.self.outgoing.items c.put_out.new.board c.in_ok-put.ensures.put c.in_ok-put.ensures.kept c.requires.sound
-    c.in_ok-arrived.arrived (worker_of c.let_one_arrive.new.self) c.let_one_arrive.new.board c.in_ok-arrived.ensures.arrived in
-    let same = same_system (worker_of c.args.self.now).core (worker_of c.let_one_arrive.new.self).core c.args.routes.now _ _ keeps (ap (λ p. block_rules p) c.let_one_arrive.ensures.parts) in
-    let makes = subst (λ (s : System). TriesTurn may s (worker_of c.let_one_arrive.new.self) (Ok c.in_ok-turned.turned) (worker_of c.make_turn.new.self)) same c.in_ok-turned.ensures.turn in
-    refused_so may sys c.from_residual-in_err-put_out.result c.from_residual-in_err-put_out.ensures.0 _ c.args.board.now _ c.put_out-2.new.board
-    (λ r. (ends_at_last may sys (worker_of c.args.self.now) c.args.board.now c.in_ok-put.put c.put_out.new.self.kept c.put_out.new.self.outgoing.items c.put_out.new.board c.in_ok-put.ensures.put c.in_ok-put.ensures.kept c.requires.sound
-    c.in_ok-arrived.arrived (worker_of c.let_one_arrive.new.self) c.let_one_arrive.new.board c.in_ok-arrived.ensures.arrived
-    c.in_ok-turned.turned (worker_of c.make_turn.new.self) makes
-    r c.put_out-2.new.self.kept c.put_out-2.new.self.outgoing.items c.put_out-2.new.board c.in_err-put_out.ensures.put c.in_err-put_out.ensures.kept).0)
+    let old = worker_of c.args.self.now in
+    let here = around q c.args.routes.now old.core in
+    let put = holding old.core c.put_out_over.new.self.kept c.put_out_over.new.self.outgoing.items in
+    let out = out_so q c.args.routes.now old.core old c.args.queues.now (Ok c.in_ok-put.put) c.put_out_over.new.self.kept c.put_out_over.new.self.outgoing.items c.put_out_over.new.queues c.in_ok-put.ensures.put c.in_ok-put.ensures.kept in
+    let arrived = worker_of c.let_one_arrive.new.self in
+    refused_so c.from_residual-in_err-arrived.result c.from_residual-in_err-arrived.ensures.0 (λ result. GoesThrough may sys here c.args.pick old c.args.queues.now result arrived c.let_one_arrive.new.queues)
+    (λ r. at_arrival r c.in_err-arrived.field-0.0 c.in_ok-put.put put c.put_out_over.new.queues arrived c.let_one_arrive.new.queues out (c.in_err-arrived.ensures.arrived, c.in_err-arrived.ensures.pick))
 
-pub returns-clause-step : goal.returns-clause-step
-returns-clause-step g c =
+pub returns-in_err-turned-clause-phases : goal.returns-in_err-turned-clause-phases
+returns-in_err-turned-clause-phases g c =
     let may = g.S.Agents.may in
+    let q = g.Q.Queues.relations in
     let sys = system_around c.args.self.now c.args.routes.now in
-    let keeps = keeps_then may sys (worker_of c.args.self.now) c.args.board.now c.in_ok-put.put c.put_out.new.self.kept c.put_out.new.self.outgoing.items c.put_out.new.board c.in_ok-put.ensures.put c.in_ok-put.ensures.kept c.requires.sound
-    c.in_ok-arrived.arrived (worker_of c.let_one_arrive.new.self) c.let_one_arrive.new.board c.in_ok-arrived.ensures.arrived in
-    let same = same_system (worker_of c.args.self.now).core (worker_of c.let_one_arrive.new.self).core c.args.routes.now _ _ keeps (ap (λ p. block_rules p) c.let_one_arrive.ensures.parts) in
-    let makes = subst (λ (s : System). TriesTurn may s (worker_of c.let_one_arrive.new.self) (Ok c.in_ok-turned.turned) (worker_of c.make_turn.new.self)) same c.in_ok-turned.ensures.turn in
-    (ends_whole may sys (worker_of c.args.self.now) c.args.board.now c.in_ok-put.put c.put_out.new.self.kept c.put_out.new.self.outgoing.items c.put_out.new.board c.in_ok-put.ensures.put c.in_ok-put.ensures.kept c.requires.sound
-    c.in_ok-arrived.arrived (worker_of c.let_one_arrive.new.self) c.let_one_arrive.new.board c.in_ok-arrived.ensures.arrived
-    c.in_ok-turned.turned (worker_of c.make_turn.new.self) makes
-    c.in_ok-put_out.field-0 c.put_out-2.new.self.kept c.put_out-2.new.self.outgoing.items c.put_out-2.new.board c.in_ok-put_out.ensures.put c.in_ok-put_out.ensures.kept).0
+    let old = worker_of c.args.self.now in
+    let here = around q c.args.routes.now old.core in
+    let put = holding old.core c.put_out_over.new.self.kept c.put_out_over.new.self.outgoing.items in
+    let out = out_so q c.args.routes.now old.core old c.args.queues.now (Ok c.in_ok-put.put) c.put_out_over.new.self.kept c.put_out_over.new.self.outgoing.items c.put_out_over.new.queues c.in_ok-put.ensures.put c.in_ok-put.ensures.kept in
+    let arrived = worker_of c.let_one_arrive.new.self in
+    let so = arrived_so may sys here c.args.pick old c.args.queues.now c.in_ok-put.put put c.put_out_over.new.queues c.in_ok-arrived.arrived arrived c.let_one_arrive.new.queues out c.in_ok-arrived.ensures.arrived c.requires.sound in
+    let same = same_system old.core arrived.core c.args.routes.now _ _ so.rest (ap (λ p. block_rules p) c.let_one_arrive.ensures.parts) in
+    let turned = worker_of c.make_turn.new.self in
+    let tried = subst (λ (s : System). Turn may s c.args.pick arrived (Err c.in_err-turned.field-0.0) turned) same (c.in_err-turned.ensures.turn, c.in_err-turned.ensures.pick) in
+    refused_so c.from_residual-in_err-turned.result c.from_residual-in_err-turned.ensures.0 (λ result. GoesThrough may sys here c.args.pick old c.args.queues.now result turned c.let_one_arrive.new.queues)
+    (λ r. at_turn r c.in_err-turned.field-0.0 c.in_ok-put.put c.in_ok-arrived.arrived put c.put_out_over.new.queues arrived c.let_one_arrive.new.queues turned out (c.in_ok-arrived.ensures.arrived, c.in_ok-arrived.ensures.pick) tried)
 
-pub returns-clause-hand : goal.returns-clause-hand
-returns-clause-hand g c =
+pub returns-in_err-put_out_over-clause-phases : goal.returns-in_err-put_out_over-clause-phases
+returns-in_err-put_out_over-clause-phases g c =
     let may = g.S.Agents.may in
+    let q = g.Q.Queues.relations in
     let sys = system_around c.args.self.now c.args.routes.now in
-    let keeps = keeps_then may sys (worker_of c.args.self.now) c.args.board.now c.in_ok-put.put c.put_out.new.self.kept c.put_out.new.self.outgoing.items c.put_out.new.board c.in_ok-put.ensures.put c.in_ok-put.ensures.kept c.requires.sound
-    c.in_ok-arrived.arrived (worker_of c.let_one_arrive.new.self) c.let_one_arrive.new.board c.in_ok-arrived.ensures.arrived in
-    let same = same_system (worker_of c.args.self.now).core (worker_of c.let_one_arrive.new.self).core c.args.routes.now _ _ keeps (ap (λ p. block_rules p) c.let_one_arrive.ensures.parts) in
-    let makes = subst (λ (s : System). TriesTurn may s (worker_of c.let_one_arrive.new.self) (Ok c.in_ok-turned.turned) (worker_of c.make_turn.new.self)) same c.in_ok-turned.ensures.turn in
-    empty_after may sys (worker_of c.args.self.now) c.args.board.now c.in_ok-put.put c.put_out.new.self.kept c.put_out.new.self.outgoing.items c.put_out.new.board c.in_ok-put.ensures.put c.in_ok-put.ensures.kept c.requires.sound
-    c.in_ok-arrived.arrived (worker_of c.let_one_arrive.new.self) c.let_one_arrive.new.board c.in_ok-arrived.ensures.arrived
-    c.in_ok-turned.turned (worker_of c.make_turn.new.self) makes
-    c.in_ok-put_out.field-0 c.put_out-2.new.self.kept c.put_out-2.new.self.outgoing.items c.put_out-2.new.board c.in_ok-put_out.ensures.put c.in_ok-put_out.ensures.kept
+    let old = worker_of c.args.self.now in
+    let here = around q c.args.routes.now old.core in
+    let put = holding old.core c.put_out_over.new.self.kept c.put_out_over.new.self.outgoing.items in
+    let out = out_so q c.args.routes.now old.core old c.args.queues.now (Ok c.in_ok-put.put) c.put_out_over.new.self.kept c.put_out_over.new.self.outgoing.items c.put_out_over.new.queues c.in_ok-put.ensures.put c.in_ok-put.ensures.kept in
+    let arrived = worker_of c.let_one_arrive.new.self in
+    let so = arrived_so may sys here c.args.pick old c.args.queues.now c.in_ok-put.put put c.put_out_over.new.queues c.in_ok-arrived.arrived arrived c.let_one_arrive.new.queues out c.in_ok-arrived.ensures.arrived c.requires.sound in
+    let same = same_system old.core arrived.core c.args.routes.now _ _ so.rest (ap (λ p. block_rules p) c.let_one_arrive.ensures.parts) in
+    let turned = worker_of c.make_turn.new.self in
+    let made = subst (λ (s : System). Turn may s c.args.pick arrived (Ok c.in_ok-turned.turned) turned) same (c.in_ok-turned.ensures.turn, c.in_ok-turned.ensures.pick) in
+    let new = holding turned.core c.put_out_over-2.new.self.kept c.put_out_over-2.new.self.outgoing.items in
+    let left = out_so q c.args.routes.now old.core turned c.let_one_arrive.new.queues (Err c.in_err-put_out_over.field-0.0) c.put_out_over-2.new.self.kept c.put_out_over-2.new.self.outgoing.items c.put_out_over-2.new.queues c.in_err-put_out_over.ensures.put c.in_err-put_out_over.ensures.kept in
+    refused_so c.from_residual-in_err-put_out_over.result c.from_residual-in_err-put_out_over.ensures.0 (λ result. GoesThrough may sys here c.args.pick old c.args.queues.now result new c.put_out_over-2.new.queues)
+    (λ r. at_last r c.in_err-put_out_over.field-0.0 c.in_ok-put.put c.in_ok-arrived.arrived c.in_ok-turned.turned put c.put_out_over.new.queues arrived c.let_one_arrive.new.queues turned new c.put_out_over-2.new.queues out (c.in_ok-arrived.ensures.arrived, c.in_ok-arrived.ensures.pick) made left)
 
-pub returns-in_err-put-clause-hand : goal.returns-in_err-put-clause-hand
-returns-in_err-put-clause-hand g c =
+pub returns-clause-phases : goal.returns-clause-phases
+returns-clause-phases g c =
     let may = g.S.Agents.may in
+    let q = g.Q.Queues.relations in
     let sys = system_around c.args.self.now c.args.routes.now in
-    refused_hand c.from_residual.result c.from_residual.ensures.0 _
-
-pub returns-in_err-arrived-clause-hand : goal.returns-in_err-arrived-clause-hand
-returns-in_err-arrived-clause-hand g c =
-    let may = g.S.Agents.may in
-    let sys = system_around c.args.self.now c.args.routes.now in
-    refused_hand c.from_residual-in_err-arrived.result c.from_residual-in_err-arrived.ensures.0 _
-
-pub returns-in_err-turned-clause-hand : goal.returns-in_err-turned-clause-hand
-returns-in_err-turned-clause-hand g c =
-    let may = g.S.Agents.may in
-    let sys = system_around c.args.self.now c.args.routes.now in
-    refused_hand c.from_residual-in_err-turned.result c.from_residual-in_err-turned.ensures.0 _
-
-pub returns-in_err-put_out-clause-hand : goal.returns-in_err-put_out-clause-hand
-returns-in_err-put_out-clause-hand g c =
-    let may = g.S.Agents.may in
-    let sys = system_around c.args.self.now c.args.routes.now in
-    refused_hand c.from_residual-in_err-put_out.result c.from_residual-in_err-put_out.ensures.0 _
-
-pub returns-in_err-arrived-clause-first : goal.returns-in_err-arrived-clause-first
-returns-in_err-arrived-clause-first g c =
-    let may = g.S.Agents.may in
-    let sys = system_around c.args.self.now c.args.routes.now in
-    (ends_at_arrival may sys (worker_of c.args.self.now) c.args.board.now c.in_ok-put.put c.put_out.new.self.kept c.put_out.new.self.outgoing.items c.put_out.new.board c.in_ok-put.ensures.put c.in_ok-put.ensures.kept c.requires.sound c.in_err-arrived.field-0.0
-    (worker_of c.let_one_arrive.new.self) c.let_one_arrive.new.board c.in_err-arrived.ensures.arrived).1
-
-pub returns-in_err-arrived-clause-spent : goal.returns-in_err-arrived-clause-spent
-returns-in_err-arrived-clause-spent g c =
-    let may = g.S.Agents.may in
-    let sys = system_around c.args.self.now c.args.routes.now in
-    (ends_at_arrival may sys (worker_of c.args.self.now) c.args.board.now c.in_ok-put.put c.put_out.new.self.kept c.put_out.new.self.outgoing.items c.put_out.new.board c.in_ok-put.ensures.put c.in_ok-put.ensures.kept c.requires.sound c.in_err-arrived.field-0.0
-    (worker_of c.let_one_arrive.new.self) c.let_one_arrive.new.board c.in_err-arrived.ensures.arrived).2
-
-pub returns-in_err-turned-clause-first : goal.returns-in_err-turned-clause-first
-returns-in_err-turned-clause-first g c =
-    let may = g.S.Agents.may in
-    let sys = system_around c.args.self.now c.args.routes.now in
-    (ends_at_turn may sys (worker_of c.args.self.now) c.args.board.now c.in_ok-put.put c.put_out.new.self.kept c.put_out.new.self.outgoing.items c.put_out.new.board c.in_ok-put.ensures.put c.in_ok-put.ensures.kept c.requires.sound
-    c.in_ok-arrived.arrived (worker_of c.let_one_arrive.new.self) c.let_one_arrive.new.board c.in_ok-arrived.ensures.arrived
-    c.in_err-turned.field-0.0 (worker_of c.make_turn.new.self) c.in_err-turned.ensures.turn).1
-
-pub returns-in_err-turned-clause-spent : goal.returns-in_err-turned-clause-spent
-returns-in_err-turned-clause-spent g c =
-    let may = g.S.Agents.may in
-    let sys = system_around c.args.self.now c.args.routes.now in
-    (ends_at_turn may sys (worker_of c.args.self.now) c.args.board.now c.in_ok-put.put c.put_out.new.self.kept c.put_out.new.self.outgoing.items c.put_out.new.board c.in_ok-put.ensures.put c.in_ok-put.ensures.kept c.requires.sound
-    c.in_ok-arrived.arrived (worker_of c.let_one_arrive.new.self) c.let_one_arrive.new.board c.in_ok-arrived.ensures.arrived
-    c.in_err-turned.field-0.0 (worker_of c.make_turn.new.self) c.in_err-turned.ensures.turn).2
-
-pub returns-in_err-put_out-clause-first : goal.returns-in_err-put_out-clause-first
-returns-in_err-put_out-clause-first g c =
-    let may = g.S.Agents.may in
-    let sys = system_around c.args.self.now c.args.routes.now in
-    let keeps = keeps_then may sys (worker_of c.args.self.now) c.args.board.now c.in_ok-put.put c.put_out.new.self.kept c.put_out.new.self.outgoing.items c.put_out.new.board c.in_ok-put.ensures.put c.in_ok-put.ensures.kept c.requires.sound
-    c.in_ok-arrived.arrived (worker_of c.let_one_arrive.new.self) c.let_one_arrive.new.board c.in_ok-arrived.ensures.arrived in
-    let same = same_system (worker_of c.args.self.now).core (worker_of c.let_one_arrive.new.self).core c.args.routes.now _ _ keeps (ap (λ p. block_rules p) c.let_one_arrive.ensures.parts) in
-    let makes = subst (λ (s : System). TriesTurn may s (worker_of c.let_one_arrive.new.self) (Ok c.in_ok-turned.turned) (worker_of c.make_turn.new.self)) same c.in_ok-turned.ensures.turn in
-    (ends_at_last may sys (worker_of c.args.self.now) c.args.board.now c.in_ok-put.put c.put_out.new.self.kept c.put_out.new.self.outgoing.items c.put_out.new.board c.in_ok-put.ensures.put c.in_ok-put.ensures.kept c.requires.sound
-    c.in_ok-arrived.arrived (worker_of c.let_one_arrive.new.self) c.let_one_arrive.new.board c.in_ok-arrived.ensures.arrived
-    c.in_ok-turned.turned (worker_of c.make_turn.new.self) makes
-    c.in_err-put_out.field-0.0 c.put_out-2.new.self.kept c.put_out-2.new.self.outgoing.items c.put_out-2.new.board c.in_err-put_out.ensures.put c.in_err-put_out.ensures.kept).1
-
-pub returns-in_err-put_out-clause-spent : goal.returns-in_err-put_out-clause-spent
-returns-in_err-put_out-clause-spent g c =
-    let may = g.S.Agents.may in
-    let sys = system_around c.args.self.now c.args.routes.now in
-    let keeps = keeps_then may sys (worker_of c.args.self.now) c.args.board.now c.in_ok-put.put c.put_out.new.self.kept c.put_out.new.self.outgoing.items c.put_out.new.board c.in_ok-put.ensures.put c.in_ok-put.ensures.kept c.requires.sound
-    c.in_ok-arrived.arrived (worker_of c.let_one_arrive.new.self) c.let_one_arrive.new.board c.in_ok-arrived.ensures.arrived in
-    let same = same_system (worker_of c.args.self.now).core (worker_of c.let_one_arrive.new.self).core c.args.routes.now _ _ keeps (ap (λ p. block_rules p) c.let_one_arrive.ensures.parts) in
-    let makes = subst (λ (s : System). TriesTurn may s (worker_of c.let_one_arrive.new.self) (Ok c.in_ok-turned.turned) (worker_of c.make_turn.new.self)) same c.in_ok-turned.ensures.turn in
-    (ends_at_last may sys (worker_of c.args.self.now) c.args.board.now c.in_ok-put.put c.put_out.new.self.kept c.put_out.new.self.outgoing.items c.put_out.new.board c.in_ok-put.ensures.put c.in_ok-put.ensures.kept c.requires.sound
-    c.in_ok-arrived.arrived (worker_of c.let_one_arrive.new.self) c.let_one_arrive.new.board c.in_ok-arrived.ensures.arrived
-    c.in_ok-turned.turned (worker_of c.make_turn.new.self) makes
-    c.in_err-put_out.field-0.0 c.put_out-2.new.self.kept c.put_out-2.new.self.outgoing.items c.put_out-2.new.board c.in_err-put_out.ensures.put c.in_err-put_out.ensures.kept).2
-
-pub returns-clause-first : goal.returns-clause-first
-returns-clause-first g c =
-    let may = g.S.Agents.may in
-    let sys = system_around c.args.self.now c.args.routes.now in
-    let keeps = keeps_then may sys (worker_of c.args.self.now) c.args.board.now c.in_ok-put.put c.put_out.new.self.kept c.put_out.new.self.outgoing.items c.put_out.new.board c.in_ok-put.ensures.put c.in_ok-put.ensures.kept c.requires.sound
-    c.in_ok-arrived.arrived (worker_of c.let_one_arrive.new.self) c.let_one_arrive.new.board c.in_ok-arrived.ensures.arrived in
-    let same = same_system (worker_of c.args.self.now).core (worker_of c.let_one_arrive.new.self).core c.args.routes.now _ _ keeps (ap (λ p. block_rules p) c.let_one_arrive.ensures.parts) in
-    let makes = subst (λ (s : System). TriesTurn may s (worker_of c.let_one_arrive.new.self) (Ok c.in_ok-turned.turned) (worker_of c.make_turn.new.self)) same c.in_ok-turned.ensures.turn in
-    (ends_whole may sys (worker_of c.args.self.now) c.args.board.now c.in_ok-put.put c.put_out.new.self.kept c.put_out.new.self.outgoing.items c.put_out.new.board c.in_ok-put.ensures.put c.in_ok-put.ensures.kept c.requires.sound
-    c.in_ok-arrived.arrived (worker_of c.let_one_arrive.new.self) c.let_one_arrive.new.board c.in_ok-arrived.ensures.arrived
-    c.in_ok-turned.turned (worker_of c.make_turn.new.self) makes
-    c.in_ok-put_out.field-0 c.put_out-2.new.self.kept c.put_out-2.new.self.outgoing.items c.put_out-2.new.board c.in_ok-put_out.ensures.put c.in_ok-put_out.ensures.kept).1
-
-pub returns-clause-spent : goal.returns-clause-spent
-returns-clause-spent g c =
-    let may = g.S.Agents.may in
-    let sys = system_around c.args.self.now c.args.routes.now in
-    let keeps = keeps_then may sys (worker_of c.args.self.now) c.args.board.now c.in_ok-put.put c.put_out.new.self.kept c.put_out.new.self.outgoing.items c.put_out.new.board c.in_ok-put.ensures.put c.in_ok-put.ensures.kept c.requires.sound
-    c.in_ok-arrived.arrived (worker_of c.let_one_arrive.new.self) c.let_one_arrive.new.board c.in_ok-arrived.ensures.arrived in
-    let same = same_system (worker_of c.args.self.now).core (worker_of c.let_one_arrive.new.self).core c.args.routes.now _ _ keeps (ap (λ p. block_rules p) c.let_one_arrive.ensures.parts) in
-    let makes = subst (λ (s : System). TriesTurn may s (worker_of c.let_one_arrive.new.self) (Ok c.in_ok-turned.turned) (worker_of c.make_turn.new.self)) same c.in_ok-turned.ensures.turn in
-    (ends_whole may sys (worker_of c.args.self.now) c.args.board.now c.in_ok-put.put c.put_out.new.self.kept c.put_out.new.self.outgoing.items c.put_out.new.board c.in_ok-put.ensures.put c.in_ok-put.ensures.kept c.requires.sound
-    c.in_ok-arrived.arrived (worker_of c.let_one_arrive.new.self) c.let_one_arrive.new.board c.in_ok-arrived.ensures.arrived
-    c.in_ok-turned.turned (worker_of c.make_turn.new.self) makes
-    c.in_ok-put_out.field-0 c.put_out-2.new.self.kept c.put_out-2.new.self.outgoing.items c.put_out-2.new.board c.in_ok-put_out.ensures.put c.in_ok-put_out.ensures.kept).2
-
-pub returns-in_err-put-clause-round : goal.returns-in_err-put-clause-round
-returns-in_err-put-clause-round g c =
-    let may = g.S.Agents.may in
-    let sys = system_around c.args.self.now c.args.routes.now in
-    round_at_put may sys (worker_of c.args.self.now) c.args.board.now c.from_residual.result c.from_residual.ensures.0 c.in_err-put.field-0.0 c.put_out.new.self.kept c.put_out.new.self.outgoing.items c.put_out.new.board c.in_err-put.ensures.put
-
-pub returns-in_err-arrived-clause-round : goal.returns-in_err-arrived-clause-round
-returns-in_err-arrived-clause-round g c =
-    let may = g.S.Agents.may in
-    let sys = system_around c.args.self.now c.args.routes.now in
-    round_at_arrival may sys (worker_of c.args.self.now) c.args.board.now c.in_ok-put.put c.put_out.new.self.kept c.put_out.new.self.outgoing.items c.put_out.new.board c.in_ok-put.ensures.put c.in_ok-put.ensures.kept
-    c.from_residual-in_err-arrived.result c.from_residual-in_err-arrived.ensures.0 c.in_err-arrived.field-0.0 (worker_of c.let_one_arrive.new.self) c.let_one_arrive.new.board c.in_err-arrived.ensures.arrived
-
-pub returns-in_err-turned-clause-round : goal.returns-in_err-turned-clause-round
-returns-in_err-turned-clause-round g c =
-    let may = g.S.Agents.may in
-    let sys = system_around c.args.self.now c.args.routes.now in
-    round_at_turn may sys (worker_of c.args.self.now) c.args.board.now c.in_ok-put.put c.put_out.new.self.kept c.put_out.new.self.outgoing.items c.put_out.new.board c.in_ok-put.ensures.put c.in_ok-put.ensures.kept
-    c.in_ok-arrived.arrived (worker_of c.let_one_arrive.new.self) c.let_one_arrive.new.board c.in_ok-arrived.ensures.arrived
-    c.from_residual-in_err-turned.result c.from_residual-in_err-turned.ensures.0 (worker_of c.make_turn.new.self) c.in_err-turned.ensures.turn
-
-pub returns-in_err-put_out-clause-round : goal.returns-in_err-put_out-clause-round
-returns-in_err-put_out-clause-round g c =
-    let may = g.S.Agents.may in
-    let sys = system_around c.args.self.now c.args.routes.now in
-    round_at_last may sys (worker_of c.args.self.now) c.args.board.now c.in_ok-put.put c.put_out.new.self.kept c.put_out.new.self.outgoing.items c.put_out.new.board c.in_ok-put.ensures.put c.in_ok-put.ensures.kept
-    c.in_ok-arrived.arrived (worker_of c.let_one_arrive.new.self) c.let_one_arrive.new.board c.in_ok-arrived.ensures.arrived
-    _ c.in_ok-turned.turned (worker_of c.make_turn.new.self) c.in_ok-turned.ensures.turn
-    c.from_residual-in_err-put_out.result c.from_residual-in_err-put_out.ensures.0 c.in_err-put_out.field-0.0 c.put_out-2.new.self.kept c.put_out-2.new.self.outgoing.items c.put_out-2.new.board c.in_err-put_out.ensures.put
-
-pub returns-clause-round : goal.returns-clause-round
-returns-clause-round g c =
-    let may = g.S.Agents.may in
-    let sys = system_around c.args.self.now c.args.routes.now in
-    round_whole may sys (worker_of c.args.self.now) c.args.board.now c.in_ok-put.put c.put_out.new.self.kept c.put_out.new.self.outgoing.items c.put_out.new.board c.in_ok-put.ensures.put c.in_ok-put.ensures.kept
-    c.in_ok-arrived.arrived (worker_of c.let_one_arrive.new.self) c.let_one_arrive.new.board c.in_ok-arrived.ensures.arrived
-    _ c.in_ok-turned.turned (worker_of c.make_turn.new.self) c.in_ok-turned.ensures.turn
-    _ c.in_ok-put_out.field-0 c.put_out-2.new.self.kept c.put_out-2.new.self.outgoing.items c.put_out-2.new.board c.in_ok-put_out.ensures.put
-
-pub returns-in_err-put-clause-pick : goal.returns-in_err-put-clause-pick
-returns-in_err-put-clause-pick g c = record { between = (worker_of c.args.self.now).core; arrival = inl refl; turn = inl refl }
-
-pub returns-in_err-put_out-clause-pick : goal.returns-in_err-put_out-clause-pick
-returns-in_err-put_out-clause-pick g c =
-    let may = g.S.Agents.may in
-    let sys = system_around c.args.self.now c.args.routes.now in
-    let keeps = keeps_then may sys (worker_of c.args.self.now) c.args.board.now c.in_ok-put.put c.put_out.new.self.kept c.put_out.new.self.outgoing.items c.put_out.new.board c.in_ok-put.ensures.put c.in_ok-put.ensures.kept c.requires.sound
-    c.in_ok-arrived.arrived (worker_of c.let_one_arrive.new.self) c.let_one_arrive.new.board c.in_ok-arrived.ensures.arrived in
-    let same = same_system (worker_of c.args.self.now).core (worker_of c.let_one_arrive.new.self).core c.args.routes.now _ _ keeps (ap (λ p. block_rules p) c.let_one_arrive.ensures.parts) in
-    record {
-      between = (worker_of c.let_one_arrive.new.self).core;
-      arrival = c.in_ok-arrived.ensures.pick;
-      turn = subst (λ (s : System). TriesTurnAt may s c.args.pick (worker_of c.let_one_arrive.new.self).core (worker_of c.make_turn.new.self).core) same c.in_ok-turned.ensures.pick;
-    }
-
-pub returns-clause-pick : goal.returns-clause-pick
-returns-clause-pick g c =
-    let may = g.S.Agents.may in
-    let sys = system_around c.args.self.now c.args.routes.now in
-    let keeps = keeps_then may sys (worker_of c.args.self.now) c.args.board.now c.in_ok-put.put c.put_out.new.self.kept c.put_out.new.self.outgoing.items c.put_out.new.board c.in_ok-put.ensures.put c.in_ok-put.ensures.kept c.requires.sound
-    c.in_ok-arrived.arrived (worker_of c.let_one_arrive.new.self) c.let_one_arrive.new.board c.in_ok-arrived.ensures.arrived in
-    let same = same_system (worker_of c.args.self.now).core (worker_of c.let_one_arrive.new.self).core c.args.routes.now _ _ keeps (ap (λ p. block_rules p) c.let_one_arrive.ensures.parts) in
-    record {
-      between = (worker_of c.let_one_arrive.new.self).core;
-      arrival = c.in_ok-arrived.ensures.pick;
-      turn = subst (λ (s : System). TriesTurnAt may s c.args.pick (worker_of c.let_one_arrive.new.self).core (worker_of c.make_turn.new.self).core) same c.in_ok-turned.ensures.pick;
-    }
+    let old = worker_of c.args.self.now in
+    let here = around q c.args.routes.now old.core in
+    let put = holding old.core c.put_out_over.new.self.kept c.put_out_over.new.self.outgoing.items in
+    let out = out_so q c.args.routes.now old.core old c.args.queues.now (Ok c.in_ok-put.put) c.put_out_over.new.self.kept c.put_out_over.new.self.outgoing.items c.put_out_over.new.queues c.in_ok-put.ensures.put c.in_ok-put.ensures.kept in
+    let arrived = worker_of c.let_one_arrive.new.self in
+    let so = arrived_so may sys here c.args.pick old c.args.queues.now c.in_ok-put.put put c.put_out_over.new.queues c.in_ok-arrived.arrived arrived c.let_one_arrive.new.queues out c.in_ok-arrived.ensures.arrived c.requires.sound in
+    let same = same_system old.core arrived.core c.args.routes.now _ _ so.rest (ap (λ p. block_rules p) c.let_one_arrive.ensures.parts) in
+    let turned = worker_of c.make_turn.new.self in
+    let made = subst (λ (s : System). Turn may s c.args.pick arrived (Ok c.in_ok-turned.turned) turned) same (c.in_ok-turned.ensures.turn, c.in_ok-turned.ensures.pick) in
+    let new = holding turned.core c.put_out_over-2.new.self.kept c.put_out_over-2.new.self.outgoing.items in
+    let left = out_so q c.args.routes.now old.core turned c.let_one_arrive.new.queues (Ok c.in_ok-put_out_over.field-0) c.put_out_over-2.new.self.kept c.put_out_over-2.new.self.outgoing.items c.put_out_over-2.new.queues c.in_ok-put_out_over.ensures.put c.in_ok-put_out_over.ensures.kept in
+    whole c.in_ok-put.put c.in_ok-arrived.arrived c.in_ok-turned.turned c.in_ok-put_out_over.field-0 put c.put_out_over.new.queues arrived c.let_one_arrive.new.queues turned new c.put_out_over-2.new.queues out (c.in_ok-arrived.ensures.arrived, c.in_ok-arrived.ensures.pick) made left

@@ -1,10 +1,8 @@
-use Rattle.std.proofs.Common.{◌∙◌}
-use Rattle.sdl_hand.proofs.FrontsApart.{apart_on}
+use Rattle.sdl_hand.proofs.Sides.{out_by_ends}
 use Rattle.sdl_hand.proofs.hand.Hand.put_out_apart.Goals as goal
 
-pub loop-self-preserved : goal.loop-self-preserved
-loop-self-preserved g c =
-    let (i, front, one) = c.in_ok-put_front_apart.ensures.put in (
-      apart_on c.args.routes.now c.args.self.now.outgoing.items c.args.ends.now c.loop-self.self.outgoing.items c.loop-self.ends i c.put_front_apart.new.self.outgoing.items c.put_front_apart.new.ends c.loop-self.invariant.0 front one,
-      c.put_front_apart.ensures.kept ∙ c.loop-self.invariant.1,
-    )
+pub returns-clause-put : goal.returns-clause-put
+returns-clause-put g c = (out_by_ends c.args.routes.now c.args.self.now.outgoing.items c.args.ends.now c.put_out_over.result c.put_out_over.new.self.outgoing.items c.put_out_over.new.queues c.put_out_over.ensures.put).0
+
+pub returns-clause-ends : goal.returns-clause-ends
+returns-clause-ends g c = (out_by_ends c.args.routes.now c.args.self.now.outgoing.items c.args.ends.now c.put_out_over.result c.put_out_over.new.self.outgoing.items c.put_out_over.new.queues c.put_out_over.ensures.put).1
