@@ -1,5 +1,5 @@
 //! The faults of texts, each with its place: those of the lamp's agents.
-use crate::lamp::{Lamp, new_lamp, refusal_text, setting};
+use crate::lamp::{Lamp, lamp, refusal_text, setting};
 use sdl_body_text::{read_input, read_start};
 use sdl_signal::StateId;
 use std::alloc::{AllocError, Global};
@@ -128,7 +128,7 @@ fn start_said(alloc: Global, lamp: &Lamp, text: &str) -> Result<String, AllocErr
 #[test]
 fn inputs_have_their_faults(rt: HostRuntime) -> Result<(), Fail> {
     let alloc = rt.alloc();
-    let lamp = new_lamp(alloc)?;
+    let lamp = lamp(alloc)?;
     for (text, wanted) in INPUTS {
         let said = input_said(alloc, &lamp, text)?;
         assert_eq!(rt; said.as_str(), wanted);
@@ -139,7 +139,7 @@ fn inputs_have_their_faults(rt: HostRuntime) -> Result<(), Fail> {
 #[test]
 fn starts_have_their_faults(rt: HostRuntime) -> Result<(), Fail> {
     let alloc = rt.alloc();
-    let lamp = new_lamp(alloc)?;
+    let lamp = lamp(alloc)?;
     for (text, wanted) in STARTS {
         let said = start_said(alloc, &lamp, text)?;
         assert_eq!(rt; said.as_str(), wanted);

@@ -42,7 +42,6 @@ const CONSTANTS: [&str; 2] = ["unit = 100", "is_dark = true"];
 const VARIABLES: [&str; 3] = ["level Integer = 40", "user Pid", "on Boolean = is_dark"];
 
 /// What a lamp declares.
-#[derive(Drop)]
 pub struct Lamp {
     pub structure: Structure,
     pub constants: Vec<Constant>,
@@ -51,7 +50,7 @@ pub struct Lamp {
 }
 
 /// The lamp, read from its texts.
-pub fn new_lamp(alloc: Global) -> Result<Lamp, Fail> {
+pub fn lamp(alloc: Global) -> Result<Lamp, Fail> {
     let structure = read_structure(alloc, LAMP)?;
     let mut constants: Vec<Constant> = Vec::new(alloc);
     for text in CONSTANTS {

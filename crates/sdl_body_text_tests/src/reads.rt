@@ -1,5 +1,5 @@
 //! What is read of texts: how operators group, and what stands behind what.
-use crate::lamp::{Lamp, new_lamp, refusal_text, setting};
+use crate::lamp::{Lamp, lamp, refusal_text, setting};
 use crate::shown::show_body;
 use sdl_body_text::read_input;
 use sdl_signal::StateId;
@@ -69,7 +69,7 @@ fn said(alloc: Global, lamp: &Lamp, text: &str) -> Result<String, AllocError> {
 #[test]
 fn inputs_have_their_bodies(rt: HostRuntime) -> Result<(), Fail> {
     let alloc = rt.alloc();
-    let lamp = new_lamp(alloc)?;
+    let lamp = lamp(alloc)?;
     for (text, wanted) in INPUTS {
         let said = said(alloc, &lamp, text)?;
         assert_eq!(rt; said.as_str(), wanted);

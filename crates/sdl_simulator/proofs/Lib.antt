@@ -1,0 +1,3 @@
+mod Behind
+mod Done
+mod Runs

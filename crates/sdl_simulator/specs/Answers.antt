@@ -1,0 +1,51 @@
+-- What the simulator does of its words, and its exit statuses. (This project's own.)
+use Rattle.std.specs.Prelude.{◌≡◌, ℕ, ◌⊎◌, Bool, List, Option, Some, None}
+use Rattle.std.specs.Io.KnownBytes.{Keeps}
+use Rattle.sdl_parts.specs.Structure.{Structure}
+use Rattle.sdl_routes.specs.declared.route.TableRow.{TableRow}
+use Rattle.sdl_routes.specs.Routes.{AreRoutesOf}
+use Rattle.sdl_body.specs.declared.listing.ListedSet.{ListedSet}
+use Rattle.sdl_command.specs.declared.arguments.Options.{Options}
+use Rattle.sdl_file_commands.specs.Files.{Declares}
+use Rattle.sdl_file_commands.specs.Commands.{HasPrinted}
+use Rattle.sdl_file_commands.specs.Texts.{check_text}
+use Rattle.sdl_file_agents.specs.Answers.{rows_of, IsAnswerIn}
+use Rattle.sdl_graph_program.specs.Outcomes.{HasRunAudited, IsToldOf}
+use Rattle.sdl_simulator.specs.declared.words.Asked.{Asked}
+use Rattle.sdl_simulator.specs.declared.words.Asked.TheVariants as asked
+use Rattle.sdl_simulator.specs.Words.{asked_of}
+use Rattle.sdl_simulator.specs.Files.{Describes}
+
+-- a command on both files was refused, or it was done on the structure that the first declares, and on what the second says of its sets
+abbrev pub IsDoneOf : (Structure → List ListedSet → ℕ → Type 0) → ℕ → Type 0
+IsDoneOf done status =
+    (status ≡ 1)
+    ⊎ ((file agents : List ℕ) × (s : Structure) × (listing : List ListedSet) × Declares file s × Describes agents s listing × done s listing status)
+
+-- The structure was run to an end by agents of which each answer is what the row of its number says for the frame. The status tells
+-- how the run ended, or that in one of these answers a value was bent.
+abbrev pub HasRunListing : Options → Bool → Option (List ℕ) → Option (List ℕ) → Option (List ℕ) → Option (List ℕ) → Structure → List ListedSet → ℕ → Type 0
+HasRunListing options audit unread rest old new s listing status =
+    (routes : List TableRow) × AreRoutesOf s routes
+    × ((told : ℕ) × HasRunAudited (IsAnswerIn (rows_of listing)) s routes options audit unread rest old new told × ((status ≡ told) ⊎ (status ≡ 4)))
+
+-- nothing was read and nothing written
+abbrev pub IsUntouched : Option (List ℕ) → Option (List ℕ) → Option (List ℕ) → Option (List ℕ) → Type 0
+IsUntouched unread rest old new = Keeps unread rest × Keeps old new
+
+-- What the program does of what it is asked for. Which files its paths name is not said here: some files' bytes are what it is done
+-- on. What is refused reads and writes nothing.
+abbrev pub Answers : Option Asked → Option (List ℕ) → Option (List ℕ) → Option (List ℕ) → Option (List ℕ) → ℕ → Type 0
+Answers None unread rest old new status = (status ≡ 2) × IsUntouched unread rest old new
+Answers (Some (asked.File command)) unread rest old new status =
+    ((file : List ℕ) × IsToldOf old new file status) × Keeps unread rest × (status ≡ 1 → Keeps old new)
+Answers (Some asked.Check) unread rest old new status =
+    IsDoneOf (λ s listing told. HasPrinted old new (check_text s) told) status × Keeps unread rest × (status ≡ 1 → Keeps old new)
+Answers (Some (asked.Run options audit)) unread rest old new status =
+    IsDoneOf (HasRunListing options audit unread rest old new) status × (status ≡ 1 → IsUntouched unread rest old new)
+
+-- the program: what it was asked for by its words; or memory was refused before it had them, or one of them was not UTF-8
+abbrev pub IsAnswered : Option (List ℕ) → Option (List ℕ) → Option (List ℕ) → Option (List ℕ) → ℕ → Type 0
+IsAnswered unread rest old new status =
+    ((words : List (List ℕ)) × Answers (asked_of words) unread rest old new status)
+    ⊎ (((status ≡ 1) ⊎ (status ≡ 2)) × IsUntouched unread rest old new)
