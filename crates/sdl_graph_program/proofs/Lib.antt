@@ -1,4 +1,3 @@
-mod Again
 mod Numbers
 mod Behind
 mod Ended

@@ -6,7 +6,6 @@ ghost use Rattle.sdl_transition.specs.Bound.{IsBound, structure_of, routes_of};
 ghost use Rattle.sdl_outcome.specs.Outcome.{IsComplete};
 ghost use Rattle.sdl_driver.specs.Closings.{HasReadIn, HasWrittenIn, StopsByMemory, IsSameBound, outcome_in, plan_of_bound};
 ghost use Rattle.sdl_driver.specs.Ended.{HasEnded};
-ghost use Rattle.sdl_driver.specs.declared.closing.StartFault.TheVariants.{Memory};
 ghost use Rattle.sdl_serial_run.specs.Serial.{IsBackIn};
 ghost use Rattle.sdl_file_commands.specs.Commands.{HasPrinted};
 ghost use Rattle.sdl_file_runs.specs.Outcomes.{IsToldBy};
@@ -52,38 +51,6 @@ pub fn run_audited<S: Agents + Send + Drop, T: Threads + Wait + Sync, R: Read, W
             without_memory(errors);
             REFUSED
         }
-    }
-}
-
-/// The same, and where memory is refused before the first step, it says so, and runs the same system with the same reader once more.
-pub fn run_audited_again<
-    S: Agents + Send + Drop,
-    T: Threads + Wait + Sync,
-    R: Read,
-    W: Write,
-    E: Write,
->(rt: &T, settings: Settings, bound: Bound<S>, input: &mut R, output: &mut W, errors: &mut E) -> u8
-    requires bound { IsBound S.may bound }
-    requires budget { HasBudget (structure_of bound) }
-    ensures made { (result ≡ 1) ⊎ HasRunAudited S.may (structure_of bound) (routes_of bound) settings.entry.options true
-        (R.remaining input.old) (R.remaining input.new) (W.contents output.old) (W.contents output.new) result }
-    ensures refused { result ≡ 1 → (input.new ≡ input.old) × (output.new ≡ output.old) }
-{
-    match try_run_audited(rt, settings, bound, &mut *input, &mut *output, &mut *errors) {
-        Ok(status) => status,
-        Err(fault) => {
-            write_error(errors, "start refused");
-            run_audited(rt, settings, handed_back(fault), input, output, errors)
-        }
-    }
-}
-
-/// The system that a refused start hands back.
-fn handed_back<S: Agents + Drop>(fault: StartFault<S>) -> Bound<S>
-    ensures { fault ≡ Memory result }
-{
-    match fault {
-        StartFault::Memory(bound) => bound,
     }
 }
 

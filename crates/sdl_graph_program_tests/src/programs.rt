@@ -3,9 +3,13 @@ use super::echo::{ABSENT, DESIGN, FILLED, MENDED, MUTE, SOUND};
 use super::running::{How, prepare_text, run_design};
 use sdl_examples::ECHO;
 use sdl_graph_program::BROKEN;
-use std::test::Fail;
+use std::alloc::Global;
+use std::sync::Wait;
+use std::thread::Threads;
 
 const PINGS: &[u8] = b"line ping 7\nline ping -1\n";
+
+const PONGS: &[u8] = b"line pong 7\nline pong -1\n";
 
 const BOOKS: &[u8] = b"line pong 7
 line pong -1
@@ -40,11 +44,17 @@ const WHOLE: Trial = Trial {
     errors: b"",
 };
 
-const TRIALS: [Trial; 6] = [
+const TRIALS: [Trial; 7] = [
     WHOLE,
     // A row that is put together in place answers as one that is built.
     Trial {
         start: FILLED,
+        ..WHOLE
+    },
+    Trial {
+        start: FILLED,
+        books: false,
+        output: PONGS,
         ..WHOLE
     },
     // Where that breaks its offer, the built one answers.
@@ -81,23 +91,29 @@ const TRIALS: [Trial; 6] = [
     },
 ];
 
-#[test]
-fn an_echo_runs_as_it_offers(rt: HostRuntime) -> Result<(), Fail> {
-    for trial in TRIALS {
-        let how = How {
-            serial: true,
-            ledger: trial.books,
-            trace: trial.books,
-        };
-        match prepare_text(rt.alloc(), ECHO, how) {
-            Ok(prepared) => {
-                let ran = run_design(&rt, prepared, &DESIGN, trial.start, 2, trial.lines);
-                assert!(rt; ran.status == trial.status);
-                assert!(rt; ran.output.as_slice() == trial.output);
-                assert!(rt; ran.errors.as_slice() == trial.errors);
-            }
-            Err(_) => assert!(rt; false),
+/// Whether a run comes to what the trial says, on one thread or in threads.
+fn is_met<T: Threads + Wait + Sync>(rt: &T, alloc: Global, trial: Trial, serial: bool) -> bool {
+    let how = How {
+        serial,
+        ledger: trial.books,
+        trace: trial.books,
+    };
+    match prepare_text(alloc, ECHO, how) {
+        Ok(prepared) => {
+            let ran = run_design(rt, prepared, &DESIGN, trial.start, 2, trial.lines);
+            ran.status == trial.status
+                && ran.output.as_slice() == trial.output
+                && ran.errors.as_slice() == trial.errors
         }
+        Err(_) => false,
     }
-    Ok(())
+}
+
+/// In threads a trace may have another order.
+#[test]
+fn an_echo_runs_as_it_offers(rt: HostRuntime) {
+    for trial in TRIALS {
+        assert!(rt; is_met(&rt, rt.alloc(), trial, true));
+        assert!(rt; trial.books || is_met(&rt, rt.alloc(), trial, false));
+    }
 }

@@ -1,11 +1,12 @@
 //! Runs of Echo, on one thread and in threads, whose reader or writer fails after so many bytes or is interrupted so often. What
 //! each leaves is audited.
-ghost use Rattle.std.specs.Prelude.{◌≤◌, length, IfOk};
+ghost use Rattle.std.specs.Prelude.{◌≤◌, length, IfOk, IfErr};
 ghost use Rattle.sdl_routes.specs.Routes.{AreRoutesOf};
 ghost use Rattle.sdl_transition.specs.Bound.{IsBound, structure_of, routes_of};
 ghost use Rattle.sdl_outcome.specs.Lists.{items_in};
 ghost use Rattle.sdl_outcome.specs.Outcome.{IsComplete};
 ghost use Rattle.sdl_driver.specs.Closings.{outcome_in, plan_of_bound};
+ghost use Rattle.sdl_serial_run.specs.Serial.{IsBackIn};
 
 use crate::changes::{Change, changed};
 use sdl_agents::echo_behaviours;
@@ -96,6 +97,8 @@ pub struct Left {
     written: Vec<u8>,
     ledger: Ledger,
     ends: (InputEnd, OutputEnd, RunEnd),
+    /// Whether the first start was refused memory, and the run was started again.
+    again: bool,
     /// What an audit says of it.
     pub audited: Result<(), AuditFault>,
 }
@@ -115,6 +118,7 @@ fn run_form<S: Agents + Send, T: Threads + Wait + Sync>(
     requires { IsBound S.may bound }
     ensures routes { IfOk result (λ c. AreRoutesOf (structure_of c.bound) (routes_of c.bound)) }
     ensures complete { IfOk result (λ c. IsComplete (plan_of_bound c.bound 0) (outcome_in items_in c)) }
+    ensures back { IfErr result (IsBackIn S.may bound) }
 {
     match form {
         Form::OneThread => run_serial(alloc, bound, BUDGET, &[], input, output),
@@ -122,7 +126,29 @@ fn run_form<S: Agents + Send, T: Threads + Wait + Sync>(
     }
 }
 
-/// Runs the system, and audits what it left with this change.
+/// What a run left, which is audited with this change, and what it wrote.
+fn left_by<S: Drop, T: Wait>(
+    rt: &T,
+    closing: Closing<S>,
+    change: Change,
+    written: Vec<u8>,
+    again: bool,
+) -> Left
+    requires routes { AreRoutesOf (structure_of closing.bound) (routes_of closing.bound) }
+    requires complete { IsComplete (plan_of_bound closing.bound 0) (outcome_in items_in closing) }
+{
+    let (closing, audited) = audit(rt, changed(closing, change));
+    Left {
+        written,
+        ledger: closing.ledger,
+        ends: (closing.input, closing.output, closing.end),
+        again,
+        audited,
+    }
+}
+
+/// Runs the system, and audits what it left with this change. Where memory is refused before the first step, the system that comes back is
+/// run on the same streams.
 fn run_bound<S: Agents + Send + Drop, T: Threads + Wait + Sync>(
     rt: &T,
     alloc: Global,
@@ -144,16 +170,13 @@ fn run_bound<S: Agents + Send + Drop, T: Threads + Wait + Sync>(
         interruptions: streams.interrupted_writes,
     };
     match run_form(rt, alloc, bound, form, &mut input, &mut output) {
-        Ok(closing) => {
-            let (closing, audited) = audit(rt, changed(closing, change));
-            Ok(Left {
-                written: output.taken,
-                ledger: closing.ledger,
-                ends: (closing.input, closing.output, closing.end),
-                audited,
-            })
+        Ok(closing) => Ok(left_by(rt, closing, change, output.taken, false)),
+        Err(StartFault::Memory(bound)) => {
+            match run_form(rt, alloc, bound, form, &mut input, &mut output) {
+                Ok(closing) => Ok(left_by(rt, closing, change, output.taken, true)),
+                Err(_) => Err(Stop::Wrong("two starts were refused")),
+            }
         }
-        Err(StartFault::Memory(_)) => Err(Stop::Memory),
     }
 }
 
@@ -270,6 +293,32 @@ fn a_thousand_interrupted_reads_and_writes_change_nothing(rt: HostRuntime) -> Re
             assert!(rt; left.ledger == ledger_of(*lines));
             assert!(rt; left.ends == (*input, *output, RunEnd::Quiet));
             assert!(rt; left.audited == Ok(()));
+        }
+    }
+    Ok(())
+}
+
+/// Whether a run read and answered both lines, and its audit found nothing wrong.
+fn is_whole(left: &Left) -> bool {
+    left.written.as_slice() == ANSWERS
+        && left.ledger == ledger_of(2)
+        && left.ends == (InputEnd::Whole, OutputEnd::Whole, RunEnd::Quiet)
+        && left.audited == Ok(())
+}
+
+// Run it with each allocation refused in turn: a run that is started again is whole, and what any leaves is right, unless its audit
+// is refused.
+#[test]
+fn a_refused_start_is_made_again(rt: HostRuntime) -> Result<(), Fail> {
+    for form in FORMS {
+        match run(&rt, rt.alloc(), *form, &WELL, Change::Nothing) {
+            Ok(left) => {
+                assert!(rt; is_whole(&left) || !left.again);
+                assert!(rt; ANSWERS.starts_with(left.written.as_slice()));
+                assert!(rt; left.audited == Ok(()) || left.audited == Err(AuditFault::Memory));
+            }
+            Err(Stop::Memory) => {}
+            Err(Stop::Wrong(_)) => assert!(rt; false),
         }
     }
     Ok(())
