@@ -5,10 +5,12 @@ use Rattle.sdl_parts.specs.Structure.{Structure}
 use Rattle.sdl_routes.specs.declared.route.TableRow.{TableRow}
 use Rattle.sdl_behaviour.specs.declared.step.Frame.{Frame}
 use Rattle.sdl_behaviour.specs.declared.step.Step.{Step}
+use Rattle.sdl_transition.specs.Rules.{Rules}
+use Rattle.sdl_outcome.specs.Plan.{Plan}
 use Rattle.sdl_command.specs.declared.arguments.Options.{Options}
 use Rattle.sdl_file_commands.specs.Commands.{HasPrinted, HasListed}
 use Rattle.sdl_file_commands.specs.Files.{Declares}
-use Rattle.sdl_file_runs.specs.Outcomes.{HasRunBy}
+use Rattle.sdl_file_runs.specs.Outcomes.{HasMade, plan_with}
 use Rattle.sdl_file_commands.specs.Texts.{check_text}
 
 -- the line of an audit that finds nothing wrong
@@ -21,11 +23,16 @@ abbrev pub HasAudited : Bool → Option (List ℕ) → Option (List ℕ) → ℕ
 HasAudited false old new told status = (new ≡ old) × (status ≡ told)
 HasAudited true old new told status = ((status ≡ told) × Appends old new audit_text) ⊎ (status ≡ 3)
 
--- A structure was run to an end by agents that answer as they may, its books were written, and what was left was audited where that
--- was asked for.
+-- A run was made by this plan, by agents that answer as they may. Its books were written, and what was left was audited where that was
+-- asked for.
+abbrev pub HasMadeAudited : (ℕ → Frame → Step → Type 0) → Plan → Options → Bool → Option (List ℕ) → Option (List ℕ) → Option (List ℕ) → Option (List ℕ) → ℕ → Type 0
+HasMadeAudited may plan options audit unread rest old new status =
+    (told : ℕ) × (books : Option (List ℕ)) × HasMade may plan options unread rest old books told × HasAudited audit books new told status
+
+-- The same of a structure, with its own budget. Which rules the behaviours of these agents give its blocks is not said here.
 abbrev pub HasRunAudited : (ℕ → Frame → Step → Type 0) → Structure → List TableRow → Options → Bool → Option (List ℕ) → Option (List ℕ) → Option (List ℕ) → Option (List ℕ) → ℕ → Type 0
 HasRunAudited may s routes options audit unread rest old new status =
-    (told : ℕ) × (books : Option (List ℕ)) × HasRunBy may s routes options unread rest old books told × HasAudited audit books new told status
+    (rules : List (List Rules)) × HasMadeAudited may (plan_with s routes rules) options audit unread rest old new status
 
 -- The structure was run to an end, and the status tells how; or it tells that an answer of the run broke its offer. What a graph's
 -- transitions answer is not limited by who runs them, but by their offers.

@@ -10,7 +10,7 @@ ghost use Rattle.sdl_serial_run.specs.Serial.{IsBackIn};
 ghost use Rattle.sdl_file_commands.specs.Commands.{HasPrinted};
 ghost use Rattle.sdl_file_runs.specs.Outcomes.{IsToldBy};
 ghost use Rattle.sdl_file_commands.specs.Running.{HasBudget};
-ghost use Rattle.sdl_graph_program.specs.Outcomes.{HasAudited, HasRunAudited, audit_text};
+ghost use Rattle.sdl_graph_program.specs.Outcomes.{HasAudited, HasMadeAudited, audit_text};
 
 use sdl_audit::{AuditFault, Recounts, audit};
 use sdl_command::arguments::Options;
@@ -40,7 +40,7 @@ pub fn run_audited<S: Agents + Send + Drop, T: Threads + Wait + Sync, R: Read, W
 ) -> u8
     requires bound { IsBound S.may bound }
     requires budget { HasBudget (structure_of bound) }
-    ensures made { (result ≡ 1) ⊎ HasRunAudited S.may (structure_of bound) (routes_of bound) settings.entry.options true
+    ensures made { (result ≡ 1) ⊎ HasMadeAudited S.may (plan_of_bound bound (structure_of bound).budget) settings.entry.options true
         (R.remaining input.old) (R.remaining input.new) (W.contents output.old) (W.contents output.new) result }
     ensures refused { result ≡ 1 → (input.new ≡ input.old) × (output.new ≡ output.old) }
     ensures silent { result ≡ 0 → Keeps (E.contents errors.old) (E.contents errors.new) }
@@ -73,7 +73,7 @@ pub fn try_run_audited<
 ) -> Result<u8, StartFault<S>>
     requires bound { IsBound S.may bound }
     requires budget { HasBudget (structure_of bound) }
-    ensures made { IfOk result (HasRunAudited S.may (structure_of bound) (routes_of bound) settings.entry.options true
+    ensures made { IfOk result (HasMadeAudited S.may (plan_of_bound bound (structure_of bound).budget) settings.entry.options true
         (R.remaining input.old) (R.remaining input.new) (W.contents output.old) (W.contents output.new)) }
     // The status of a refusal is not that of a run.
     ensures started { IfOk result (λ status. status ≢ 1) }
@@ -102,7 +102,7 @@ fn try_run_with<
 ) -> Result<u8, StartFault<S>>
     requires bound { IsBound S.may bound }
     requires budget { HasBudget (structure_of bound) }
-    ensures made { IfOk result (HasRunAudited S.may (structure_of bound) (routes_of bound) settings.entry.options true
+    ensures made { IfOk result (HasMadeAudited S.may (plan_of_bound bound (structure_of bound).budget) settings.entry.options true
         (R.remaining input.old) (R.remaining input.new) (W.contents output.old) (W.contents output.new)) }
     ensures started { IfOk result (λ status. status ≢ 1) }
     ensures silent { IfOk result (λ status. status ≡ 0 → Keeps (E.contents errors.old) (E.contents errors.new)) }

@@ -3,7 +3,8 @@ ghost use Rattle.std.specs.Prelude.{◌≡◌, ◌⊎◌, MatchOption};
 ghost use Rattle.std.specs.Io.KnownBytes.{Keeps};
 ghost use Rattle.sdl_transition.specs.Bound.{IsBound, structure_of, routes_of};
 ghost use Rattle.sdl_file_commands.specs.Running.{CanRun, HasBudget};
-ghost use Rattle.sdl_graph_program.specs.Outcomes.{HasRunAudited, HasRunGraphOrNot};
+ghost use Rattle.sdl_driver.specs.Closings.{plan_of_bound};
+ghost use Rattle.sdl_graph_program.specs.Outcomes.{HasMadeAudited, HasRunGraphOrNot};
 
 use crate::audited::run_audited;
 use crate::commands::Prepared;
@@ -102,8 +103,9 @@ fn run_marked<G: Graph + Send, T: Threads + Wait + Sync, R: Read, W: Write, E: W
     report_broken(status, design, marks.broken(), errors)
 }
 
-/// Runs a system that is bound, with an audit of what it leaves where that is asked for, and answers the exit status.
-fn run_told<S: Agents + Send + Drop, T: Threads + Wait + Sync, R: Read, W: Write, E: Write>(
+/// Runs a system that is bound, with its structure's budget and with an audit of what it leaves where that is asked for, and answers
+/// the exit status.
+pub fn run_told<S: Agents + Send + Drop, T: Threads + Wait + Sync, R: Read, W: Write, E: Write>(
     rt: &T,
     settings: Settings,
     audit: bool,
@@ -114,7 +116,7 @@ fn run_told<S: Agents + Send + Drop, T: Threads + Wait + Sync, R: Read, W: Write
 ) -> u8
     requires bound { IsBound S.may bound }
     requires budget { HasBudget (structure_of bound) }
-    ensures made { (result ≡ 1) ⊎ HasRunAudited S.may (structure_of bound) (routes_of bound) settings.entry.options audit
+    ensures made { (result ≡ 1) ⊎ HasMadeAudited S.may (plan_of_bound bound (structure_of bound).budget) settings.entry.options audit
         (R.remaining input.old) (R.remaining input.new) (W.contents output.old) (W.contents output.new) result }
     ensures refused { result ≡ 1 → (input.new ≡ input.old) × (output.new ≡ output.old) }
     ensures silent { result ≡ 0 → Keeps (E.contents errors.old) (E.contents errors.new) }

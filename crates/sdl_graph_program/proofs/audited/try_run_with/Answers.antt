@@ -21,14 +21,11 @@ returns-in-Ok-clause-made g c =
       t.0,
       t.1,
       (
-        rules_of,
-        (
-          _,
-          was_run g.S.Agents.may (structure_of c.args.bound) (routes_of c.args.bound) rules_of c.budget-budget.result _ _ _ _
-              (outcome_in g.K.Keeps.events c.in-Ok.closing) c.in-Ok.closing.end c.in-Ok.closing.ledger c.in-Ok.closing.input c.in-Ok.closing.output t.0
-              (search rules) c.in-Ok.ensures.ended c.in-Ok.ensures.reading c.in-Ok.ensures.writing c.in-Ok.ensures.stopped t.2,
-          t.3,
-        ),
+        _,
+        was_run g.S.Agents.may (structure_of c.args.bound) (routes_of c.args.bound) rules_of c.budget-budget.result _ _ _ _
+            (outcome_in g.K.Keeps.events c.in-Ok.closing) c.in-Ok.closing.end c.in-Ok.closing.ledger c.in-Ok.closing.input c.in-Ok.closing.output t.0
+            (search rules) c.in-Ok.ensures.ended c.in-Ok.ensures.reading c.in-Ok.ensures.writing c.in-Ok.ensures.stopped t.2,
+        t.3,
       ),
       t.4,
     )
