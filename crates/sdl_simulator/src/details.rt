@@ -16,6 +16,8 @@ pub enum Expected {
     Value(AgentsKey),
     /// What the value of the key must have.
     Range(AgentsKey),
+    /// How much the list at the key may have.
+    Most(AgentsKey),
 }
 
 impl Expected {
@@ -25,6 +27,7 @@ impl Expected {
             Expected::Key(key) => key.text(),
             Expected::Value(key) => type_text(key),
             Expected::Range(key) => range_text(key),
+            Expected::Most(key) => most_text(key),
         }
     }
 }
@@ -49,6 +52,8 @@ impl Kind {
 #[derive(Clone, Copy)]
 pub enum Detail<'a> {
     Nothing,
+    /// This is so.
+    Reason(&'a str),
     /// This is expected.
     Expected(Expected),
     /// Nothing of this kind has the name of the word, and another name may be near.
@@ -68,6 +73,7 @@ impl Display for Detail<'_> {
     fn fmt<W: fmt::Write>(&self, f: &mut Formatter<W>) -> fmt::Result {
         match *self {
             Detail::Nothing => Ok(()),
+            Detail::Reason(text) => write!(f, ": {text}"),
             Detail::Expected(what) => {
                 let what = what.text();
                 write!(f, ": {what} is expected")
@@ -115,7 +121,20 @@ pub fn detail_of<'a>(fault: TextFault, word: &'a str, near: Option<Name>) -> Det
         TextFault::WrongCount(count) => Detail::Count(count),
         TextFault::WrongSort { found, wanted } => Detail::Sorts { found, wanted },
         TextFault::TakenName | TextFault::TwoRows => Detail::There(word),
-        _ => Detail::Nothing,
+        TextFault::BadByte => Detail::Reason("no token has this character"),
+        TextFault::BadInteger => Detail::Reason("no Integer is written so"),
+        TextFault::TooDeep => Detail::Reason("16 braces and brackets are open already"),
+        TextFault::TooLong => Detail::Reason("512 parts stand before it"),
+        TextFault::NoEnd => Detail::Reason("next or stop is expected"),
+        TextFault::NeverReached => Detail::Reason("each way has ended before it"),
+        TextFault::ManyActions => Detail::Reason("8 outputs and creates are on one way already"),
+        TextFault::ManyOffered => Detail::Reason(
+            "16 different outputs and 8 created sets are the most",
+        ),
+        TextFault::EarlyOffspring => Detail::Reason("a create stands before it"),
+        TextFault::NotOutward => Detail::Reason("no gate lets the signal out here"),
+        TextFault::CreateElsewhere => Detail::Reason("the set is in another block"),
+        TextFault::ManyRows => Detail::Reason("the set has 256 rows already"),
     }
 }
 
@@ -167,5 +186,15 @@ fn range_text(key: AgentsKey) -> &'static str {
     match key {
         AgentsKey::Version => "version 1",
         _ => "one at least",
+    }
+}
+
+/// How long the list at a key with a limit may be.
+fn most_text(key: AgentsKey) -> &'static str {
+    match key {
+        AgentsKey::Variables => "a list of 8 at most",
+        AgentsKey::Names => "a list of 16 states at most",
+        AgentsKey::Constants | AgentsKey::State => "a list of 256 at most",
+        _ => "a list of 64 at most",
     }
 }
