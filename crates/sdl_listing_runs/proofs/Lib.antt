@@ -1,1 +1,4 @@
+pub mod Examples
+mod Following
 mod Longer
+mod Stored

@@ -1,17 +1,30 @@
 -- What a run of a listing comes to, and its exit statuses. (This project's own.)
-use Rattle.std.specs.Prelude.{◌≡◌, ℕ, ◌⊎◌, List, Option}
+use Rattle.std.specs.Prelude.{◌≡◌, ℕ, ◌⊎◌, Bool, List, Option}
+use Rattle.sdl_parts.specs.Structure.{Structure}
+use Rattle.sdl_routes.specs.declared.route.TableRow.{TableRow}
 use Rattle.sdl_behaviour.specs.declared.step.Frame.{Frame}
 use Rattle.sdl_behaviour.specs.declared.step.Step.{Step}
+use Rattle.sdl_transition.specs.Rules.{Rules}
+use Rattle.sdl_body.specs.declared.listing.ListedSet.{ListedSet}
+use Rattle.sdl_command.specs.declared.arguments.Options.{Options}
+use Rattle.sdl_file_runs.specs.Outcomes.{plan_with}
 use Rattle.sdl_graph_program.specs.declared.commands.Prepared.{Prepared}
-use Rattle.sdl_graph_program.specs.Outcomes.{HasRunAudited}
+use Rattle.sdl_graph_program.specs.Outcomes.{HasMadeAudited}
+use Rattle.sdl_listing_runs.specs.Rules.{FollowListing}
 
--- The run was refused before it began. Or the structure was run to an end by agents that answer as they may, its books were written,
--- and what was left was audited where that was asked for.
-abbrev pub HasRunPrepared : (ℕ → Frame → Step → Type 0) → Option (List ℕ) → Option (List ℕ) → Option (List ℕ) → Option (List ℕ) → Prepared → ℕ → Type 0
-HasRunPrepared may unread rest old new p status = (status ≡ 1) ⊎ HasRunAudited may p.checked p.routes p.options p.audit unread rest old new status
+-- The structure was run to an end along its routes, with its own budget. Its blocks have the rules that the listing says of their sets,
+-- and their agents answer as they may. The books were written, and what was left was audited where that was asked for.
+abbrev pub HasRunListed : (ℕ → Frame → Step → Type 0) → List ListedSet → Structure → List TableRow → Options → Bool → Option (List ℕ) → Option (List ℕ) → Option (List ℕ) → Option (List ℕ) → ℕ → Type 0
+HasRunListed may listing s routes options audit unread rest old new status =
+    (rules : List (List Rules)) × FollowListing s listing rules × HasMadeAudited may (plan_with s routes rules) options audit unread rest old new status
+
+-- the run of what was prepared was refused before it began, or made so
+abbrev pub HasRunPrepared : (ℕ → Frame → Step → Type 0) → List ListedSet → Option (List ℕ) → Option (List ℕ) → Option (List ℕ) → Option (List ℕ) → Prepared → ℕ → Type 0
+HasRunPrepared may listing unread rest old new p status =
+    (status ≡ 1) ⊎ HasRunListed may listing p.checked p.routes p.options p.audit unread rest old new status
 
 -- The same, and the status tells how the run ended; or it tells that in an answer of the run a value was bent.
-abbrev pub HasRunMarked : (ℕ → Frame → Step → Type 0) → Option (List ℕ) → Option (List ℕ) → Option (List ℕ) → Option (List ℕ) → Prepared → ℕ → Type 0
-HasRunMarked may unread rest old new p status =
+abbrev pub HasRunMarked : (ℕ → Frame → Step → Type 0) → List ListedSet → Option (List ℕ) → Option (List ℕ) → Option (List ℕ) → Option (List ℕ) → Prepared → ℕ → Type 0
+HasRunMarked may listing unread rest old new p status =
     (status ≡ 1)
-    ⊎ ((told : ℕ) × HasRunAudited may p.checked p.routes p.options p.audit unread rest old new told × ((status ≡ told) ⊎ (status ≡ 4)))
+    ⊎ ((told : ℕ) × HasRunListed may listing p.checked p.routes p.options p.audit unread rest old new told × ((status ≡ told) ⊎ (status ≡ 4)))

@@ -1,4 +1,8 @@
 //! The names of the transitions of a listing, as they are told.
+ghost use Rattle.std.specs.Prelude.{◌≡◌, ◌++◌, map, option_map, IfOk};
+ghost use Rattle.sdl_file_commands.specs.Texts.{signal_text, set_text};
+ghost use Rattle.sdl_listing_runs.specs.Labels.{names_of, trigger_names, state_text, listed_trigger, set_names, listed_names};
+
 use sdl_body::{ListedSet, Row};
 use sdl_parts::Structure;
 use sdl_signal::{Name, SetId, SignalId, StateId};
@@ -37,7 +41,9 @@ pub fn labels_of(
     alloc: Global,
     structure: &Structure,
     listing: &[ListedSet],
-) -> Result<Vec<Label>, AllocError> {
+) -> Result<Vec<Label>, AllocError>
+    ensures { IfOk result (λ labels. map names_of labels.items ≡ listed_names structure.now listing.now) }
+{
     let mut labels = Vec::new(alloc);
     for listed in listing {
         add_labels(structure, listed, &mut labels)?;
@@ -50,43 +56,52 @@ fn add_labels(
     structure: &Structure,
     listed: &ListedSet,
     labels: &mut Vec<Label>,
-) -> Result<(), AllocError> {
+) -> Result<(), AllocError>
+    ensures { IfOk result (λ _. map names_of labels.new.items ≡ map names_of labels.old.items ++ set_names structure.now listed.now) }
+{
     let set = name_of_set(structure, listed.set);
     labels.push(Label { set, trigger: None })?;
     for row in listed.rows.as_slice() {
-        labels.push(Label {
-            set,
-            trigger: trigger_of(structure, listed.states.as_slice(), row),
-        })?;
+        let trigger = trigger_of(structure, listed, row);
+        labels.push(Label { set, trigger })?;
     }
     Ok(())
 }
 
-fn trigger_of(structure: &Structure, states: &[Name], row: &Row) -> Option<Trigger> {
+/// The names of the state and the signal that a row of the set is for.
+fn trigger_of(structure: &Structure, listed: &ListedSet, row: &Row) -> Option<Trigger>
+    ensures { option_map trigger_names result ≡ listed_trigger structure.now listed.now row.now.state row.now.signal }
+{
     match (row.state, &row.signal) {
         (Some(state), Some(sorts)) => Some(Trigger {
-            state: name_of_state(states, state),
+            state: name_of_state(listed, state),
             signal: name_of_signal(structure, sorts.id),
         }),
         _ => None,
     }
 }
 
-fn name_of_set(structure: &Structure, set: SetId) -> Name {
+fn name_of_set(structure: &Structure, set: SetId) -> Name
+    ensures { result.bytes ≡ set_text structure.now set }
+{
     match structure.sets().get(set.0 as usize) {
         Some(set) => set.name,
         None => Name::new(),
     }
 }
 
-fn name_of_state(states: &[Name], state: StateId) -> Name {
-    match states.get(state.0 as usize) {
+fn name_of_state(listed: &ListedSet, state: StateId) -> Name
+    ensures { result.bytes ≡ state_text listed.now state }
+{
+    match listed.states.as_slice().get(state.0 as usize) {
         Some(name) => *name,
         None => Name::new(),
     }
 }
 
-fn name_of_signal(structure: &Structure, signal: SignalId) -> Name {
+fn name_of_signal(structure: &Structure, signal: SignalId) -> Name
+    ensures { result.bytes ≡ signal_text structure.now signal }
+{
     match structure.signals().get(signal.0 as usize) {
         Some(signal) => signal.name,
         None => Name::new(),

@@ -1,16 +1,15 @@
 //! The transitions of a listing are stored, bound to the structure, and run.
-ghost use Rattle.std.specs.Prelude.{◌≡◌, ◌<◌, ◌^◌, ◌⊎◌, map, length, IfOk, IfSome, IsErr, IsSome, MatchOption};
+ghost use Rattle.std.specs.Prelude.{◌≡◌, ◌<◌, ◌^◌, ◌⊎◌, List, map, length, IfOk, IfSome, IsErr, IsSome, MatchOption};
 ghost use Rattle.std.specs.List.{AllByRecursion};
 ghost use Rattle.std.specs.Io.KnownBytes.{Keeps};
 ghost use Rattle.sdl_behaviour.specs.Offers.{IsFrameOf};
 ghost use Rattle.sdl_behaviour.specs.Transitions.{IsAllowed};
-ghost use Rattle.sdl_transition.specs.Bound.{IsBound, structure_of, routes_of};
 ghost use Rattle.sdl_body.specs.Offering as rule;
 ghost use Rattle.sdl_body.specs.Sound.{IsSound};
 ghost use Rattle.sdl_file_agents.specs.Answers.{rows_of, IsAnswerIn};
-ghost use Rattle.sdl_file_agents.specs.Parts.{head_parts, count_of};
-ghost use Rattle.sdl_file_commands.specs.Running.{CanRun, HasBudget};
-ghost use Rattle.sdl_graph_program.specs.Outcomes.{HasRunAudited};
+ghost use Rattle.sdl_file_agents.specs.Parts.{head_parts, transition_parts, listed_head, listed_transitions, count_of};
+ghost use Rattle.sdl_body.specs.declared.listing.ListedSet.{ListedSet as ASet};
+ghost use Rattle.sdl_file_commands.specs.Running.{CanRun};
 ghost use Rattle.sdl_listing_runs.specs.Outcomes.{HasRunPrepared, HasRunMarked};
 
 use crate::faults::write_listing_fault;
@@ -23,12 +22,10 @@ use sdl_file_agents::{
     Answering, Bent, FileAgents, Head, ListedSet, Listing, ListingFault, Marks, bind_listing, keep,
     lay_out,
 };
-use sdl_file_runs::in_threads::run_bound_in_threads;
 use sdl_file_runs::running::Settings;
 use sdl_graph_program::Prepared;
-use sdl_graph_program::audited::run_audited;
+use sdl_graph_program::runs::run_told;
 use sdl_parts::Structure;
-use sdl_transition::Bound;
 use std::alloc::Global;
 use std::collections::VecDeque;
 use std::io::{Read, Write};
@@ -63,9 +60,9 @@ struct Job {
 }
 
 /// Runs the agents that the listing says in the structure that is prepared, in threads unless one was asked for, and answers the
-/// exit status: the first refusal, or how the run ended. Each answer of theirs is what the row of the transition's number says for
-/// the frame. Where a value was bent, a line of standard error names the first transition that bent one, with the number of such
-/// answers. May wait for other threads.
+/// exit status: the first refusal, or how the run ended. The blocks have the rules that the listing says of their sets, and each
+/// answer is what the row of the transition's number says for the frame. Where a value was bent, a line of standard error names the
+/// first transition that bent one, with the number of such answers. May wait for other threads.
 pub fn run_listing<T: Threads + Wait + Sync, R: Read, W: Write, E: Write>(
     rt: &T,
     prepared: Prepared,
@@ -76,7 +73,7 @@ pub fn run_listing<T: Threads + Wait + Sync, R: Read, W: Write, E: Write>(
 ) -> u8
     requires runs { CanRun prepared.checked prepared.routes }
     requires sound { AllByRecursion IsSound (rows_of listing.items) }
-    ensures made { HasRunMarked (IsAnswerIn (rows_of listing.items)) (R.remaining input.old) (R.remaining input.new)
+    ensures made { HasRunMarked (IsAnswerIn (rows_of listing.items)) listing.items (R.remaining input.old) (R.remaining input.new)
         (W.contents output.old) (W.contents output.new) prepared result }
     // Where nothing was run, nothing was read or written.
     ensures refused { result ≡ 1 → (input.new ≡ input.old) × (output.new ≡ output.old) }
@@ -102,7 +99,7 @@ fn try_listing<T: Threads + Wait + Sync, R: Read, W: Write, E: Write>(
 ) -> Result<u8, ListingFault>
     requires runs { CanRun prepared.checked prepared.routes }
     requires sound { AllByRecursion IsSound (rows_of listing.items) }
-    ensures made { IfOk result (HasRunMarked (IsAnswerIn (rows_of listing.items)) (R.remaining input.old) (R.remaining input.new)
+    ensures made { IfOk result (HasRunMarked (IsAnswerIn (rows_of listing.items)) listing.items (R.remaining input.old) (R.remaining input.new)
         (W.contents output.old) (W.contents output.new) prepared) }
     ensures refused { IfOk result (λ status. status ≡ 1 → (input.new ≡ input.old) × (output.new ≡ output.old)) }
     ensures fault { IsErr result → (input.new ≡ input.old) × (output.new ≡ output.old) }
@@ -122,6 +119,7 @@ fn taken_apart(
     ensures rows { IfOk result (λ both. both.0.rows.items ≡ rows_of listing.items) }
     ensures few { IfOk result (λ both. length both.0.rows.items < 2 ^ 32) }
     ensures count { IfOk result (λ both. length both.0.rows.items ≡ count_of (map head_parts both.1.heads.items)) }
+    ensures heads { IfOk result (λ both. map head_parts both.1.heads.items ≡ map listed_head listing.items) }
 {
     let labels = labels_of(alloc, structure, listing.as_slice())?;
     let marks = Marks::new(alloc)?;
@@ -159,8 +157,9 @@ fn run_rows<K: Listing + Send, T: Threads + Wait + Sync, R: Read, W: Write, E: W
     requires waits { IsSome waiting.old }
     requires runs { IfSome waiting.old (λ job. CanRun job.prepared.checked job.prepared.routes) }
     requires count { IfSome waiting.old (λ job. length to_store.rows.items ≡ count_of (map head_parts job.others.heads.items)) }
-    ensures made { IfOk result (λ status. IfSome waiting.old (λ job.
-        HasRunMarked (IsAnswerIn K.rows) (R.remaining input.old) (R.remaining input.new) (W.contents output.old) (W.contents output.new) job.prepared status)) }
+    ensures made { (sets : List ASet) → K.rows ≡ rows_of sets → IfSome waiting.old (λ job. map head_parts job.others.heads.items ≡ map listed_head sets)
+        → IfOk result (λ status. IfSome waiting.old (λ job.
+        HasRunMarked (IsAnswerIn K.rows) sets (R.remaining input.old) (R.remaining input.new) (W.contents output.old) (W.contents output.new) job.prepared status)) }
     ensures refused { IfOk result (λ status. status ≡ 1 → (input.new ≡ input.old) × (output.new ≡ output.old)) }
     ensures fault { IsErr result → (input.new ≡ input.old) × (output.new ≡ output.old) }
     ensures silent { IfOk result (λ status. status ≡ 0 → Keeps (E.contents errors.old) (E.contents errors.new)) }
@@ -200,8 +199,10 @@ fn run_waiting<S: Agents + Send + Drop, T: Threads + Wait + Sync, R: Read, W: Wr
     requires runs { IfSome waiting.old (λ job. CanRun job.prepared.checked job.prepared.routes) }
     requires count { IfSome waiting.old (λ job. length stored.items ≡ count_of (map head_parts job.others.heads.items)) }
     requires allowed { AllByRecursion (IsAllowed S.may) stored.items }
-    ensures made { IfSome waiting.old (λ job.
-        HasRunMarked S.may (R.remaining input.old) (R.remaining input.new) (W.contents output.old) (W.contents output.new) job.prepared result) }
+    ensures made { (sets : List ASet) → map transition_parts stored.items ≡ listed_transitions 0 (rows_of sets)
+        → IfSome waiting.old (λ job. map head_parts job.others.heads.items ≡ map listed_head sets)
+        → IfSome waiting.old (λ job.
+        HasRunMarked S.may sets (R.remaining input.old) (R.remaining input.new) (W.contents output.old) (W.contents output.new) job.prepared result) }
     ensures refused { result ≡ 1 → (input.new ≡ input.old) × (output.new ≡ output.old) }
     ensures silent { result ≡ 0 → Keeps (E.contents errors.old) (E.contents errors.new) }
 {
@@ -223,7 +224,9 @@ fn run_job<S: Agents + Send + Drop, T: Threads + Wait + Sync, R: Read, W: Write,
     requires runs { CanRun job.prepared.checked job.prepared.routes }
     requires count { length stored.items ≡ count_of (map head_parts job.others.heads.items) }
     requires allowed { AllByRecursion (IsAllowed S.may) stored.items }
-    ensures made { HasRunMarked S.may (R.remaining input.old) (R.remaining input.new) (W.contents output.old) (W.contents output.new) job.prepared result }
+    ensures made { (sets : List ASet) → map transition_parts stored.items ≡ listed_transitions 0 (rows_of sets)
+        → map head_parts job.others.heads.items ≡ map listed_head sets
+        → HasRunMarked S.may sets (R.remaining input.old) (R.remaining input.new) (W.contents output.old) (W.contents output.new) job.prepared result }
     ensures refused { result ≡ 1 → (input.new ≡ input.old) × (output.new ≡ output.old) }
     ensures silent { result ≡ 0 → Keeps (E.contents errors.old) (E.contents errors.new) }
 {
@@ -254,7 +257,9 @@ fn run_prepared<S: Agents + Send + Drop, T: Threads + Wait + Sync, R: Read, W: W
     requires runs { CanRun prepared.checked prepared.routes }
     requires count { length stored.items ≡ count_of (map head_parts heads.items) }
     requires allowed { AllByRecursion (IsAllowed S.may) stored.items }
-    ensures made { HasRunPrepared S.may (R.remaining input.old) (R.remaining input.new) (W.contents output.old) (W.contents output.new) prepared result }
+    ensures made { (sets : List ASet) → map transition_parts stored.items ≡ listed_transitions 0 (rows_of sets)
+        → map head_parts heads.items ≡ map listed_head sets
+        → HasRunPrepared S.may sets (R.remaining input.old) (R.remaining input.new) (W.contents output.old) (W.contents output.new) prepared result }
     ensures refused { result ≡ 1 → (input.new ≡ input.old) × (output.new ≡ output.old) }
     ensures silent { result ≡ 0 → Keeps (E.contents errors.old) (E.contents errors.new) }
 {
@@ -276,30 +281,6 @@ fn run_prepared<S: Agents + Send + Drop, T: Threads + Wait + Sync, R: Read, W: W
             write_listing_fault(errors, fault);
             REFUSED
         }
-    }
-}
-
-/// Runs a system that is bound, with an audit of what it leaves where that is asked for, and answers the exit status.
-fn run_told<S: Agents + Send + Drop, T: Threads + Wait + Sync, R: Read, W: Write, E: Write>(
-    rt: &T,
-    settings: Settings,
-    audit: bool,
-    bound: Bound<S>,
-    input: &mut R,
-    output: &mut W,
-    errors: &mut E,
-) -> u8
-    requires bound { IsBound S.may bound }
-    requires budget { HasBudget (structure_of bound) }
-    ensures made { (result ≡ 1) ⊎ HasRunAudited S.may (structure_of bound) (routes_of bound) settings.entry.options audit
-        (R.remaining input.old) (R.remaining input.new) (W.contents output.old) (W.contents output.new) result }
-    ensures refused { result ≡ 1 → (input.new ≡ input.old) × (output.new ≡ output.old) }
-    ensures silent { result ≡ 0 → Keeps (E.contents errors.old) (E.contents errors.new) }
-{
-    if audit {
-        run_audited(rt, settings, bound, input, output, errors)
-    } else {
-        run_bound_in_threads(rt, settings, bound, input, output, errors)
     }
 }
 

@@ -6,21 +6,20 @@ use Rattle.sdl_file_agents.specs.Answers.{rows_of, IsAnswerIn}
 use Rattle.sdl_file_commands.specs.Files.{Declares}
 use Rattle.sdl_file_commands.specs.Running.{CanRun}
 use Rattle.sdl_graph_program.specs.declared.commands.Prepared.{Prepared}
-use Rattle.sdl_graph_program.specs.Outcomes.{HasRunAudited}
-use Rattle.sdl_listing_runs.specs.Outcomes.{HasRunMarked}
+use Rattle.sdl_listing_runs.specs.Outcomes.{HasRunListed, HasRunMarked}
 use Rattle.sdl_simulator.specs.Files.{Describes}
 use Rattle.sdl_simulator.specs.Answers.{HasRunListing, IsDoneOf}
 
 -- a run of what was prepared from the files is one of what was asked for
 pub done_of : (options : Options) (audit : Bool) (unread rest old begun new : Option (List ℕ)) (p : Prepared) (listing : List ListedSet) (status : ℕ)
     → CanRun p.checked p.routes → (file : List ℕ) × Declares file p.checked → (agents : List ℕ) × Describes agents p.checked listing
-    → p.options ≡ options → p.audit ≡ audit → begun ≡ old → HasRunMarked (IsAnswerIn (rows_of listing)) unread rest begun new p status
+    → p.options ≡ options → p.audit ≡ audit → begun ≡ old → HasRunMarked (IsAnswerIn (rows_of listing)) listing unread rest begun new p status
     → IsDoneOf (HasRunListing options audit unread rest old new) status
 unfolding CanRun
 done_of options audit unread rest old begun new p listing status can declared described asked audited unwritten (inl refused) = inl refused
 done_of options audit unread rest old begun new p listing status can declared described asked audited unwritten (inr ran) =
-    let run : HasRunAudited (IsAnswerIn (rows_of listing)) p.checked p.routes options audit unread rest old new ran.0 =
-    subst (λ (b : Option (List ℕ)). HasRunAudited (IsAnswerIn (rows_of listing)) p.checked p.routes options audit unread rest b new ran.0) unwritten
-    (subst (λ (o : Options). HasRunAudited (IsAnswerIn (rows_of listing)) p.checked p.routes o audit unread rest begun new ran.0) asked
-    (subst (λ (a : Bool). HasRunAudited (IsAnswerIn (rows_of listing)) p.checked p.routes p.options a unread rest begun new ran.0) audited ran.1)) in
+    let run : HasRunListed (IsAnswerIn (rows_of listing)) listing p.checked p.routes options audit unread rest old new ran.0 =
+    subst (λ (b : Option (List ℕ)). HasRunListed (IsAnswerIn (rows_of listing)) listing p.checked p.routes options audit unread rest b new ran.0) unwritten
+    (subst (λ (o : Options). HasRunListed (IsAnswerIn (rows_of listing)) listing p.checked p.routes o audit unread rest begun new ran.0) asked
+    (subst (λ (a : Bool). HasRunListed (IsAnswerIn (rows_of listing)) listing p.checked p.routes p.options a unread rest begun new ran.0) audited ran.1)) in
     inr (declared.0, described.0, p.checked, listing, declared.1, described.1, (p.routes, can.1, (ran.0, run, ran.2)))

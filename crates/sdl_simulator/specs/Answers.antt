@@ -10,7 +10,8 @@ use Rattle.sdl_file_commands.specs.Files.{Declares}
 use Rattle.sdl_file_commands.specs.Commands.{HasPrinted}
 use Rattle.sdl_file_commands.specs.Texts.{check_text}
 use Rattle.sdl_file_agents.specs.Answers.{rows_of, IsAnswerIn}
-use Rattle.sdl_graph_program.specs.Outcomes.{HasRunAudited, IsToldOf}
+use Rattle.sdl_graph_program.specs.Outcomes.{IsToldOf}
+use Rattle.sdl_listing_runs.specs.Outcomes.{HasRunListed}
 use Rattle.sdl_simulator.specs.declared.words.Asked.{Asked}
 use Rattle.sdl_simulator.specs.declared.words.Asked.TheVariants as asked
 use Rattle.sdl_simulator.specs.Words.{asked_of}
@@ -22,12 +23,13 @@ IsDoneOf done status =
     (status ≡ 1)
     ⊎ ((file agents : List ℕ) × (s : Structure) × (listing : List ListedSet) × Declares file s × Describes agents s listing × done s listing status)
 
--- The structure was run to an end by agents of which each answer is what the row of its number says for the frame. The status tells
--- how the run ended, or that in one of these answers a value was bent.
+-- The structure was run to an end. Its blocks have the rules that the listing says of their sets: which transition is made in which state
+-- for which signal, and what is saved. Each answer is what the row of its number says for the frame. The status tells how the run
+-- ended, or that in one of these answers a value was bent.
 abbrev pub HasRunListing : Options → Bool → Option (List ℕ) → Option (List ℕ) → Option (List ℕ) → Option (List ℕ) → Structure → List ListedSet → ℕ → Type 0
 HasRunListing options audit unread rest old new s listing status =
     (routes : List TableRow) × AreRoutesOf s routes
-    × ((told : ℕ) × HasRunAudited (IsAnswerIn (rows_of listing)) s routes options audit unread rest old new told × ((status ≡ told) ⊎ (status ≡ 4)))
+    × ((told : ℕ) × HasRunListed (IsAnswerIn (rows_of listing)) listing s routes options audit unread rest old new told × ((status ≡ told) ⊎ (status ≡ 4)))
 
 -- nothing was read and nothing written
 abbrev pub IsUntouched : Option (List ℕ) → Option (List ℕ) → Option (List ℕ) → Option (List ℕ) → Type 0
