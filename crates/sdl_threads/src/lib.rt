@@ -1,11 +1,15 @@
 //! Workers that make their steps each in a thread of its own, and come back with what their steps keep.
 #![tactic(auto)]
 
+mod asking;
 mod kinds;
 mod lead;
 mod pace;
+mod pauses;
 mod scope;
+mod table;
 mod told;
+mod words;
 mod work;
 mod workers;
 

@@ -1,4 +1,4 @@
-//! Workers in threads without ends: they hand a token round, put where nobody takes, or wait for room.
+//! Workers in threads without ends: they hand a token round, put where nobody takes, wait for room, or take while others work.
 ghost use Rattle.std.specs.Prelude.{◌≡◌};
 
 use sdl_ends::mark_of;
@@ -26,6 +26,11 @@ pub enum Job {
     Put(u64),
     /// What it put waits for room, until so many flushes more.
     Wait(u64),
+    /// It reads so many lines, each of which it puts somewhere, and then takes so many items, as long as it may not ask outside the
+    /// system. After that it lets others rest, by this.
+    Read(u64, u64, Arc<AtomicU64, Global>),
+    /// It does something at each step, until it is let rest, by this.
+    Work(Arc<AtomicU64, Global>),
 }
 
 /// A worker, and how often it has put.
@@ -54,8 +59,8 @@ impl Jobber {
     /// How many flushes more it waits for.
     fn waits(&self) -> Option<u64> {
         match self.job {
-            Job::Pass(_, _) | Job::Put(_) => None,
             Job::Wait(left) => Some(left),
+            Job::Pass(_, _) | Job::Put(_) | Job::Read(_, _, _) | Job::Work(_) => None,
         }
     }
 }
@@ -76,21 +81,50 @@ fn pass(ring: &Ring, place: usize) -> Option<usize> {
     Some(next)
 }
 
-/// Does one step of the job. It says at which mark something was put.
-fn work(job: &mut Job) -> Option<u32> {
+/// What a step did.
+enum Done {
+    Nothing,
+    Took,
+    /// It put something at the station with this mark.
+    Put(u32),
+}
+
+/// Takes one from the count. None where it is 0.
+fn take_one(left: &mut u64) -> Option<()> {
+    *left = left.checked_sub(1)?;
+    Some(())
+}
+
+/// Reads a line or takes an item, or lets others rest.
+fn read(lines: &mut u64, items: &mut u64, rest: &AtomicU64, may_ask: bool) -> Done {
+    if take_one(lines).is_some() {
+        return Done::Put(NOWHERE);
+    }
+    if !may_ask && take_one(items).is_some() {
+        return Done::Took;
+    }
+    rest.store(1, SeqCst);
+    Done::Nothing
+}
+
+/// Does one step of the job.
+fn work(job: &mut Job, may_ask: bool) -> Done {
     match job {
-        Job::Pass(ring, place) => {
-            let next = pass(ring, *place)?;
-            Some(mark_of(station_at(next)))
-        }
-        Job::Put(left) => {
-            if *left == 0 {
-                return None;
-            }
-            *left -= 1;
-            Some(NOWHERE)
-        }
-        Job::Wait(_) => None,
+        Job::Pass(ring, place) => match pass(ring, *place) {
+            Some(next) => Done::Put(mark_of(station_at(next))),
+            None => Done::Nothing,
+        },
+        Job::Put(left) => match take_one(left) {
+            Some(()) => Done::Put(NOWHERE),
+            None => Done::Nothing,
+        },
+        Job::Wait(_) => Done::Nothing,
+        Job::Read(lines, items, rest) => read(lines, items, rest, may_ask),
+        Job::Work(rest) => if rest.load(SeqCst) == 0 {
+            Done::Took
+        } else {
+            Done::Nothing
+        },
     }
 }
 
@@ -124,20 +158,24 @@ impl Work for Jobber {
         _structure: &Structure,
         _routes: &Routes,
         _pick: u32,
-        _may_ask: bool,
+        may_ask: bool,
     ) -> Stepped {
-        match work(&mut self.job) {
-            Some(mark) => {
+        match work(&mut self.job, may_ask) {
+            Done::Put(mark) => {
                 self.touched.add(mark);
                 self.put = self.put.saturating_add(1);
                 Stepped::Did
             }
-            None => Stepped::Idle,
+            Done::Took => Stepped::Did,
+            Done::Nothing => Stepped::Idle,
         }
     }
 
     fn asks_outside(&self) -> bool {
-        false
+        match &self.job {
+            Job::Read(lines, _, rest) => *lines == 0 && rest.load(SeqCst) == 0,
+            _ => false,
+        }
     }
 
     fn mark(&self) -> u32 {
@@ -168,7 +206,20 @@ pub fn put_by(worker: &Returned<Jobber>) -> Option<u64> {
     }
 }
 
-/// The same of one of the list.
+/// How many items the worker has yet to take, where it ran until it was told to stop.
+pub fn left_by(worker: &Returned<Jobber>) -> Option<u64> {
+    match worker {
+        Returned::Ran(
+            Jobber {
+                job: Job::Read(_, items, _),
+                ..
+            },
+        ) => Some(*items),
+        _ => None,
+    }
+}
+
+/// How often one of the list put, where it ran until it was told to stop.
 pub fn put_in_list(worker: &Returned<Kind<Jobber, Jobber>>) -> Option<u64> {
     match worker {
         Returned::Ran(Kind::Block(worker)) => Some(worker.put),

@@ -3,7 +3,7 @@ ghost use Rattle.std.specs.Prelude.{⊤};
 ghost use Rattle.std.specs.List.{All};
 ghost use Rattle.sdl_threads.specs.Kinds.{KeepsOneOf};
 
-use super::jobs::{Job, Jobber, Ring, put_by, put_in_list, station_at, waits_in_list};
+use super::jobs::{Job, Jobber, Ring, left_by, put_by, put_in_list, station_at, waits_in_list};
 use sdl_examples::ECHO;
 use sdl_routes::Station;
 use sdl_test_systems::{Stop, routes_of};
@@ -128,7 +128,7 @@ fn all_workers_make_their_first_step_at_once(rt: HostRuntime) -> Result<(), Fail
 }
 
 /// At the last of these steps the worker looks how far it is ahead, and finds that it is far: more than 512 items, where it looks
-/// after each 64.
+/// after each 64 steps.
 const STEPS: u64 = 576;
 
 /// The sleep in which it lets others catch up ends by itself, as nobody takes. It comes to rest after that, so that the run ends.
@@ -163,5 +163,25 @@ fn none_stops_before_there_was_room_for_a_backlog(rt: HostRuntime) -> Result<(),
         assert!(rt; waits_in_list(worker) == Some(0));
     }
     assert!(rt; put_by(&environment) == Some(0));
+    Ok(())
+}
+
+/// So many lines, and more items than a worker takes before it asks outside the system while others work, where it read no line.
+const LINES: u64 = 100;
+
+const ITEMS: u64 = 8_000;
+
+/// For each line that was read it takes more of what comes before it asks for others.
+#[test]
+fn one_that_read_many_lines_takes_all_that_comes_of_them(rt: HostRuntime) -> Result<(), Fail> {
+    let alloc = rt.alloc();
+    let rest = Arc::new(alloc, AtomicU64::new(0))?;
+    let working = Jobber::new(station_at(0), Job::Work(rest.clone()?));
+    let workers = vec![in alloc; Kind::Block(working)]?;
+    let environment = Jobber::new(Station::Outlet, Job::Read(LINES, ITEMS, rest));
+    let (workers, environment) = run(&rt, alloc, workers, environment, &OpenGate)?;
+    assert!(rt; workers.len() == 1);
+    assert!(rt; put_by(&environment) == Some(LINES));
+    assert!(rt; left_by(&environment) == Some(0));
     Ok(())
 }
