@@ -7,46 +7,35 @@ use crate::place::AgentsPlace;
 use sdl_body_text::{Refusal, TextFault};
 use sdl_signal::SetId;
 use std::alloc::{AllocError, AllocFailed};
+use std::fmt;
 use thiserror::Error;
 
 /// Why a file is refused, and where: the first rule that is broken in the order of the walk.
 #[derive(Clone, Copy, Debug, Error)]
 pub enum AgentsFault {
     /// F1: the text is not TOML.
-    #[error("F1 NotToml agents")]
     NotToml,
     /// F2: a required key is absent.
-    #[error("F2 MissingKey {0}")]
     MissingKey(AgentsPlace),
     /// F3: a value, or an element of an array, of another TOML type.
-    #[error("F3 WrongType {0}")]
     WrongType(AgentsPlace),
     /// F4: a key that the table may not have.
-    #[error("F4 UnknownKey {0}")]
     UnknownKey(AgentsPlace),
     /// F5: a text that is no name, or a reserved word.
-    #[error("F5 BadName {0}")]
     BadName(AgentsPlace),
     /// F6: a set that has a behaviour, or a signal that a state saves twice.
-    #[error("F6 Duplicate {0}")]
     Duplicate(AgentsPlace),
     /// F7: another system, or a set or a signal that is not known.
-    #[error("F7 UnknownName {0}")]
     UnknownName(AgentsPlace),
     /// F8: a list over its limit.
-    #[error("F8 TooMany {0}")]
     TooMany(AgentsPlace),
     /// F9: a version other than 1, or a list that is empty and may not be.
-    #[error("F9 OutOfRange {0}")]
     OutOfRange(AgentsPlace),
     /// F10: memory was refused.
-    #[error("F10 Memory")]
     Memory,
     /// A text of a list, by its position there, that breaks a rule of texts.
-    #[error("{1} {0}")]
     Text(AgentsPlace, TextFault, AgentsText),
     /// B1: no behaviour is of the set.
-    #[error("B1 NoBehaviour set {}", .0.0)]
     NoBehaviour(SetId),
 }
 
@@ -70,6 +59,35 @@ pub fn text_fault(place: AgentsPlace, item: usize, refusal: Refusal) -> AgentsFa
             fault,
             AgentsText { item, start, end },
         ),
+    }
+}
+
+/// Writes the rule, and the place where it is broken.
+fn write_at<W: fmt::Write>(
+    f: &mut fmt::Formatter<W>,
+    rule: &str,
+    place: &AgentsPlace,
+) -> fmt::Result {
+    write!(f, "{rule} {place}")
+}
+
+/// The code of the rule and its name, and the place as [`AgentsPlace`] is written.
+impl fmt::Display for AgentsFault {
+    fn fmt<W: fmt::Write>(&self, f: &mut fmt::Formatter<W>) -> fmt::Result {
+        match self {
+            AgentsFault::NotToml => f.write_str("F1 NotToml agents"),
+            AgentsFault::MissingKey(place) => write_at(f, "F2 MissingKey", place),
+            AgentsFault::WrongType(place) => write_at(f, "F3 WrongType", place),
+            AgentsFault::UnknownKey(place) => write_at(f, "F4 UnknownKey", place),
+            AgentsFault::BadName(place) => write_at(f, "F5 BadName", place),
+            AgentsFault::Duplicate(place) => write_at(f, "F6 Duplicate", place),
+            AgentsFault::UnknownName(place) => write_at(f, "F7 UnknownName", place),
+            AgentsFault::TooMany(place) => write_at(f, "F8 TooMany", place),
+            AgentsFault::OutOfRange(place) => write_at(f, "F9 OutOfRange", place),
+            AgentsFault::Memory => f.write_str("F10 Memory"),
+            AgentsFault::Text(place, fault, _) => write!(f, "{fault} {place}"),
+            AgentsFault::NoBehaviour(set) => write!(f, "B1 NoBehaviour set {}", set.0),
+        }
     }
 }
 

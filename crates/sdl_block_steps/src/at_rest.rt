@@ -1,5 +1,5 @@
 //! The blocks of a system, and the calls that begin to use one: `core BLOCK BUDGET` and `work BLOCK BUDGET`.
-ghost use Rattle.std.specs.Prelude.{◌≡◌, ◌≤◌, ◌<◌, length, All, IfOk, IfSome, OnOk};
+ghost use Rattle.std.specs.Prelude.{◌≡◌, ◌≤◌, ◌<◌, length, All, IfOk, IfSome};
 ghost use Rattle.sdl_forward.specs.Boards.{IsBoardOf};
 ghost use Rattle.sdl_instances.specs.Core.{IsSound};
 ghost use Rattle.sdl_instances.specs.CoreOf.{CanFire, core_of, parts_of, system_in};
@@ -14,7 +14,8 @@ use sdl_block::{BlockWorker, Hand};
 use sdl_instances::BlockCore;
 use sdl_parts::Checked;
 use sdl_signal::{BlockId, InputEnd};
-use sdl_steps::calls::{Call, Halt, words_of, write_meant, write_text};
+use sdl_steps::answers::Answers;
+use sdl_steps::calls::{Call, words_of, write_meant};
 use sdl_steps::common::{Desk, Place, name_of};
 use sdl_steps::naming::{block_name, block_of};
 use sdl_transition::{Agents, BlockParts};
@@ -88,7 +89,7 @@ fn use_parts<S: Agents, T: Wait, R: Read, W: Write>(
     parts: BlockParts<S>,
     begin: Begin,
     session: &mut Session<R, W>,
-) -> (BlockParts<S>, Result<Option<InputEnd>, Halt>)
+) -> (BlockParts<S>, Result<Option<InputEnd>, AllocError>)
     requires stored { IsStored S.may site.now.checked.now parts }
     requires board { IsBoardOf site.now.place.routes.now desk.old.board }
     ensures parts { result.0 ≡ parts }
@@ -99,7 +100,7 @@ fn use_parts<S: Agents, T: Wait, R: Read, W: Write>(
             Use::Core => use_as_core(site, desk, core, begin, session),
             Use::Work => use_as_worker(site, desk, core, begin, session),
         },
-        Err((parts, error)) => (parts, Err(Halt::from(error))),
+        Err((parts, error)) => (parts, Err(error)),
     }
 }
 
@@ -110,7 +111,7 @@ fn use_as_core<S: Agents, T: Wait, R: Read, W: Write>(
     core: BlockCore<S>,
     begin: Begin,
     session: &mut Session<R, W>,
-) -> (BlockParts<S>, Result<Option<InputEnd>, Halt>)
+) -> (BlockParts<S>, Result<Option<InputEnd>, AllocError>)
     requires board { IsBoardOf site.now.place.routes.now desk.old.board }
     requires sound { IsSound S.may (system_in core site.now.place.routes.now) (core_of core) }
     requires parts { CanFire S.may (parts_of core) }
@@ -125,7 +126,8 @@ fn use_as_core<S: Agents, T: Wait, R: Read, W: Write>(
         events: log.len(),
         left,
     };
-    (parts, finish(session.output, &site.place, end, rest))
+    finish(&mut session.answers, &site.place, &end, rest);
+    (parts, end)
 }
 
 /// Writes that the core begins to be used, and answers its calls.
@@ -135,14 +137,14 @@ fn begin_core<S: Agents, T: Wait, R: Read, W: Write>(
     core: &mut BlockCore<S>,
     begin: Begin,
     session: &mut Session<R, W>,
-) -> Result<Option<InputEnd>, Halt>
+) -> Result<Option<InputEnd>, AllocError>
     requires board { IsBoardOf site.now.place.routes.now desk.old.board }
     requires sound { IsSound S.may (system_in core.old site.now.place.routes.now) (core_of core.old) }
     requires parts { CanFire S.may (parts_of core.old) }
     ensures board { IfOk result (λ _. IsBoardOf site.now.place.routes.now desk.new.board) }
     ensures parts { parts_of core.new ≡ parts_of core.old }
 {
-    write_begin(session.output, &site.place, begin)?;
+    write_begin(&mut session.answers, &site.place, begin);
     use_core(site, desk, core, session)
 }
 
@@ -153,7 +155,7 @@ fn use_as_worker<S: Agents, T: Wait, R: Read, W: Write>(
     core: BlockCore<S>,
     begin: Begin,
     session: &mut Session<R, W>,
-) -> (BlockParts<S>, Result<Option<InputEnd>, Halt>)
+) -> (BlockParts<S>, Result<Option<InputEnd>, AllocError>)
     requires board { IsBoardOf site.now.place.routes.now desk.old.board }
     requires sound { IsSound S.may (system_in core site.now.place.routes.now) (core_of core) }
     requires parts { CanFire S.may (parts_of core) }
@@ -164,13 +166,14 @@ fn use_as_worker<S: Agents, T: Wait, R: Read, W: Write>(
     let end = begin_worker(site, desk, &mut worker, begin, session);
     let (core, hand) = worker.into_parts();
     let (parts, log, left) = core.into_parts();
-    let end = finish_hand(session.output, &site.place, end, &hand);
+    finish_hand(&mut session.answers, &site.place, &end, &hand);
     let rest = Rest {
         block: begin.block,
         events: log.len(),
         left,
     };
-    (parts, finish(session.output, &site.place, end, rest))
+    finish(&mut session.answers, &site.place, &end, rest);
+    (parts, end)
 }
 
 /// Writes that the block begins to be used, and answers its calls.
@@ -180,21 +183,22 @@ fn begin_worker<S: Agents, T: Wait, R: Read, W: Write>(
     worker: &mut BlockWorker<S>,
     begin: Begin,
     session: &mut Session<R, W>,
-) -> Result<Option<InputEnd>, Halt>
+) -> Result<Option<InputEnd>, AllocError>
     requires worker { CanGoOn S.may worker.old site.now.place.routes.now }
     requires board { IsBoardOf site.now.place.routes.now desk.old.board }
     ensures board { IfOk result (λ _. IsBoardOf site.now.place.routes.now desk.new.board) }
     ensures parts { behaviours_of worker.new ≡ behaviours_of worker.old }
 {
-    write_begin(session.output, &site.place, begin)?;
+    write_begin(&mut session.answers, &site.place, begin);
     use_worker(site, desk, worker, session)
 }
 
 /// Writes that a block begins to be used.
-fn write_begin<W: Write>(output: &mut W, place: &Place, begin: Begin) -> Result<(), Halt> {
-    let block = block_name(place.structure, begin.block);
-    writeln!(output, "begin {block} budget {}", begin.budget)?;
-    Ok(())
+fn write_begin<W: Write>(answers: &mut Answers<W>, place: &Place, begin: Begin) {
+    answers.text("begin ");
+    answers.text(block_name(place.structure, begin.block));
+    answers.text(" budget ");
+    answers.number_line(begin.budget as u64);
 }
 
 /// What a block has when its use ends: how many events, and how many signals that wait in its ports.
@@ -205,44 +209,26 @@ struct Rest {
     left: u64,
 }
 
-/// After `end`, writes what the block has. Answers how its use ended.
-fn finish<W: Write>(
-    output: &mut W,
-    place: &Place,
-    end: Result<Option<InputEnd>, Halt>,
-    rest: Rest,
-) -> Result<Option<InputEnd>, Halt>
-    ensures { OnOk result (result ≡ end) }
-{
+/// How the use of a block ended: with the input, or by `end`.
+type End = Result<Option<InputEnd>, AllocError>;
+
+/// After `end`, writes what the block has.
+fn finish<W: Write>(answers: &mut Answers<W>, place: &Place, end: &End, rest: Rest) {
     if let Ok(None) = end {
-        write_end(output, place, rest)?;
+        answers.text("end ");
+        answers.text(block_name(place.structure, rest.block));
+        answers.text(" events ");
+        answers.number(rest.events as u64);
+        answers.text(" left ");
+        answers.number_line(rest.left);
     }
-    end
 }
 
-/// After `end`, writes what the block has in hand. Answers how its use ended.
-fn finish_hand<W: Write>(
-    output: &mut W,
-    place: &Place,
-    end: Result<Option<InputEnd>, Halt>,
-    hand: &Hand,
-) -> Result<Option<InputEnd>, Halt>
-    ensures { OnOk result (result ≡ end) }
-{
+/// After `end`, writes what the block has in hand.
+fn finish_hand<W: Write>(answers: &mut Answers<W>, place: &Place, end: &End, hand: &Hand) {
     if let Ok(None) = end {
-        write_hand(output, place, hand)?;
+        write_hand(answers, place, hand);
     }
-    end
-}
-
-fn write_end<W: Write>(output: &mut W, place: &Place, rest: Rest) -> Result<(), Halt> {
-    let block = block_name(place.structure, rest.block);
-    writeln!(
-        output,
-        "end {block} events {} left {}",
-        rest.events, rest.left
-    )?;
-    Ok(())
 }
 
 /// Takes the parts at this place.
@@ -284,7 +270,7 @@ fn use_block<S: Agents + Drop, T: Wait, R: Read, W: Write>(
     blocks: &mut Vec<BlockParts<S>>,
     chosen: Chosen,
     session: &mut Session<R, W>,
-) -> Result<Option<InputEnd>, Halt>
+) -> Result<Option<InputEnd>, AllocError>
     requires within { chosen.at < length blocks.old.items }
     requires board { IsBoardOf site.now.place.routes.now desk.old.board }
     requires stored { All (IsStored S.may site.now.checked.now) blocks.old.items }
@@ -307,18 +293,18 @@ fn begin_call<S: Agents + Drop, T: Wait, R: Read, W: Write>(
     using: Use,
     call: Call,
     session: &mut Session<R, W>,
-) -> Result<Option<InputEnd>, Halt>
+) -> Result<Option<InputEnd>, AllocError>
     requires board { IsBoardOf site.now.place.routes.now desk.old.board }
     requires stored { All (IsStored S.may site.now.checked.now) blocks.old.items }
     ensures board { IfOk result (λ _. IsBoardOf site.now.place.routes.now desk.new.board) }
     ensures stored { All (IsStored S.may site.now.checked.now) blocks.new.items }
 {
     let Some(begin) = begin_of(&site.place, using, call.words) else {
-        write_meant(session.output, call.line, BEGIN)?;
+        write_meant(&mut session.answers, call.line, BEGIN);
         return Ok(None);
     };
     let Some(at) = place_of(blocks.as_slice(), begin.block) else {
-        write_text(session.output, "no agents for this block")?;
+        session.answers.line("no agents for this block");
         return Ok(None);
     };
     use_block(site, desk, blocks, Chosen { at, begin }, session)
@@ -331,7 +317,7 @@ fn call_at_rest<S: Agents + Drop, T: Wait, R: Read, W: Write>(
     blocks: &mut Vec<BlockParts<S>>,
     call: Call,
     session: &mut Session<R, W>,
-) -> Result<Option<InputEnd>, Halt>
+) -> Result<Option<InputEnd>, AllocError>
     requires board { IsBoardOf site.now.place.routes.now desk.old.board }
     requires stored { All (IsStored S.may site.now.checked.now) blocks.old.items }
     ensures board { IfOk result (λ _. IsBoardOf site.now.place.routes.now desk.new.board) }
@@ -340,7 +326,7 @@ fn call_at_rest<S: Agents + Drop, T: Wait, R: Read, W: Write>(
     match use_of(name_of(call)) {
         Some(using) => begin_call(site, desk, blocks, using, call, session),
         None => {
-            other_call(site, desk, call, CALLS, session.output)?;
+            other_call(site, desk, call, CALLS, &mut session.answers)?;
             Ok(None)
         }
     }
@@ -362,7 +348,7 @@ fn line_at_rest<S: Agents + Drop, T: Wait, R: Read, W: Write>(
     desk: &mut Desk,
     blocks: &mut Vec<BlockParts<S>>,
     session: &mut Session<R, W>,
-) -> Result<Option<InputEnd>, Halt>
+) -> Result<Option<InputEnd>, AllocError>
     requires board { IsBoardOf site.now.place.routes.now desk.old.board }
     requires stored { All (IsStored S.may site.now.checked.now) blocks.old.items }
     ensures board { IfOk result (λ _. IsBoardOf site.now.place.routes.now desk.new.board) }
@@ -383,7 +369,7 @@ pub fn use_blocks<S: Agents + Drop, T: Wait, R: Read, W: Write>(
     desk: &mut Desk,
     blocks: &mut Vec<BlockParts<S>>,
     session: &mut Session<R, W>,
-) -> Result<InputEnd, Halt>
+) -> Result<InputEnd, AllocError>
     requires board { IsBoardOf site.now.place.routes.now desk.old.board }
     requires stored { All (IsStored S.may site.now.checked.now) blocks.old.items }
 {

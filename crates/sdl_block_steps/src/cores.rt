@@ -12,15 +12,15 @@ use crate::lines::text_of;
 use crate::session::{Next, Session, Site, other_call};
 use sdl_instances::{Arrival, BlockCore, Event, Turned};
 use sdl_routes::Routes;
-use sdl_signal::{InputEnd, Item};
-use sdl_steps::calls::{Call, Halt, words_of, write_meant};
+use sdl_signal::{InputEnd, Item, Pid};
+use sdl_steps::answers::Answers;
+use sdl_steps::calls::{Call, words_of, write_meant};
 use sdl_steps::common::{Desk, Place, name_of};
 use sdl_steps::desk::given_after_name;
 use sdl_steps::naming::block_name;
 use sdl_steps::texts::{write_item, write_pid};
 use sdl_transition::{Agents, Frame};
 use std::alloc::AllocError;
-use std::io;
 use std::io::{Read, Write};
 use std::sync::Wait;
 
@@ -67,39 +67,44 @@ fn arrive_call<S: Agents, W: Write>(
     desk: &mut Desk,
     core: &mut BlockCore<S>,
     call: Call,
-    output: &mut W,
-) -> Result<(), Halt>
+    answers: &mut Answers<W>,
+) -> Result<(), AllocError>
     requires sound { IsSound S.may (system_in core.old place.now.routes.now) (core_of core.old) }
     ensures sound { IfOk result (λ _. IsSound S.may (system_in core.new place.now.routes.now) (core_of core.new)) }
     ensures parts { parts_of core.new ≡ parts_of core.old }
     ensures board { desk.new.board ≡ desk.old.board }
 {
     let Some(given) = given_after_name(place.structure, call.words, desk.queues.next) else {
-        return write_meant(output, call.line, ARRIVE);
+        write_meant(answers, call.line, ARRIVE);
+        return Ok(());
     };
     if given.item.stamp == u64::MAX {
-        return write_meant(output, call.line, "a stamp is at most 18446744073709551614");
+        write_meant(
+            answers,
+            call.line,
+            "a stamp is at most 18446744073709551614",
+        );
+        return Ok(());
     }
     desk.queues.next = desk.queues.next.saturating_add(1);
     let pick = given.pick;
     let arrival = arrive(core, place.routes, given.item, pick)?;
-    write_arrival(output, place, arrival)?;
+    write_arrival(answers, place, arrival);
     Ok(())
 }
 
-fn write_arrival<W: Write>(
-    output: &mut W,
-    place: &Place,
-    arrival: Option<Arrival>,
-) -> io::Result<()> {
+fn write_arrival<W: Write>(answers: &mut Answers<W>, place: &Place, arrival: Option<Arrival>) {
     match arrival {
         Some(Arrival::Entered(pid)) => {
-            write!(output, "entered ")?;
-            write_pid(output, place.structure, pid)?;
-            writeln!(output)
+            answers.text("entered ");
+            write_pid(answers, place.structure, pid);
+            answers.line("");
         }
-        Some(Arrival::Discarded(cause)) => writeln!(output, "discarded {}", cause_text(cause)),
-        None => writeln!(output, "may not arrive"),
+        Some(Arrival::Discarded(cause)) => {
+            answers.text("discarded");
+            answers.line(cause_text(cause));
+        }
+        None => answers.line("may not arrive"),
     }
 }
 
@@ -126,24 +131,19 @@ fn turn_call<S: Agents, W: Write>(
     place: &Place,
     core: &mut BlockCore<S>,
     call: Call,
-    output: &mut W,
-) -> Result<(), Halt>
+    answers: &mut Answers<W>,
+) -> Result<(), AllocError>
     requires sound { IsSound S.may (system_in core.old place.now.routes.now) (core_of core.old) }
     requires parts { CanFire S.may (parts_of core.old) }
     ensures sound { IfOk result (λ _. IsSound S.may (system_in core.new place.now.routes.now) (core_of core.new)) }
     ensures parts { parts_of core.new ≡ parts_of core.old }
 {
     let Some(pick) = pick_of(call.words) else {
-        return write_meant(output, call.line, TURN);
+        write_meant(answers, call.line, TURN);
+        return Ok(());
     };
     let turned = turn(core, place.routes, pick)?;
-    write_turned(
-        output,
-        place,
-        shown_in(place, core),
-        &turned,
-        core.log().as_slice(),
-    )?;
+    write_turned(answers, place, core, &turned);
     Ok(())
 }
 
@@ -163,72 +163,78 @@ fn shown_in<'a, S: Agents>(place: &Place<'a>, core: &BlockCore<S>) -> Shown<'a> 
     }
 }
 
-fn write_turned<W: Write>(
-    output: &mut W,
+fn write_turned<S: Agents, W: Write>(
+    answers: &mut Answers<W>,
     place: &Place,
-    shown: Shown,
+    core: &BlockCore<S>,
     turned: &Turned,
-    log: &[Event],
-) -> io::Result<()> {
+) {
     match turned {
-        Turned::Idle => writeln!(output, "idle"),
-        Turned::Spent => writeln!(output, "spent"),
+        Turned::Idle => answers.line("idle"),
+        Turned::Spent => answers.line("spent"),
         Turned::Fired(pid, hand) => {
-            write!(output, "fired ")?;
-            write_pid(output, place.structure, *pid)?;
-            writeln!(output)?;
-            if let Some(event) = log.last() {
-                write_event(output, shown, event)?;
-            }
-            write_items(output, place, hand.as_slice())
+            write_fired(answers, place, *pid);
+            write_last(answers, shown_in(place, core), core.log().as_slice());
+            write_items(answers, place, hand.as_slice());
         }
     }
 }
 
-/// Writes each item in a line after the word `hand`.
-pub fn write_items<W: Write>(output: &mut W, place: &Place, items: &[Item]) -> io::Result<()> {
-    for item in items {
-        write!(output, "hand ")?;
-        write_item(output, place.structure, item)?;
-        writeln!(output)?;
+fn write_fired<W: Write>(answers: &mut Answers<W>, place: &Place, pid: Pid) {
+    answers.text("fired ");
+    write_pid(answers, place.structure, pid);
+    answers.line("");
+}
+
+/// Writes the latest event.
+fn write_last<W: Write>(answers: &mut Answers<W>, shown: Shown, log: &[Event]) {
+    if let Some(event) = log.last() {
+        write_event(answers, shown, event);
     }
-    Ok(())
+}
+
+/// Writes each item in a line after the word `hand`.
+pub fn write_items<W: Write>(answers: &mut Answers<W>, place: &Place, items: &[Item]) {
+    for item in items {
+        answers.text("hand ");
+        write_item(answers, place.structure, item);
+        answers.line("");
+    }
 }
 
 /// `knew`: PARENT, OFFSPRING and SENDER of the instance whose turn the latest event is.
-fn write_knew<W: Write>(output: &mut W, place: &Place, log: &[Event]) -> io::Result<()> {
+fn write_knew<W: Write>(answers: &mut Answers<W>, place: &Place, log: &[Event]) {
     match log.last() {
-        Some(Event::Turn { frame, .. }) => write_frame(output, place, frame),
-        _ => writeln!(output, "the latest event is no turn"),
+        Some(Event::Turn { frame, .. }) => write_frame(answers, place, frame),
+        _ => answers.line("the latest event is no turn"),
     }
 }
 
-fn write_frame<W: Write>(output: &mut W, place: &Place, frame: &Frame) -> io::Result<()> {
-    write!(output, "parent ")?;
-    write_pid(output, place.structure, frame.parent)?;
-    write!(output, " offspring ")?;
-    write_pid(output, place.structure, frame.offspring)?;
-    write!(output, " sender ")?;
-    write_pid(output, place.structure, frame.sender)?;
-    writeln!(output)
+fn write_frame<W: Write>(answers: &mut Answers<W>, place: &Place, frame: &Frame) {
+    answers.text("parent ");
+    write_pid(answers, place.structure, frame.parent);
+    answers.text(" offspring ");
+    write_pid(answers, place.structure, frame.offspring);
+    answers.text(" sender ");
+    write_pid(answers, place.structure, frame.sender);
+    answers.line("");
 }
 
 /// Writes how many turns were made, how many signals wait in ports, and whether no instance is ready.
-pub fn write_counts<W: Write>(
-    output: &mut W,
-    made: u32,
-    left: u64,
-    is_settled: bool,
-) -> io::Result<()> {
-    let ready = if is_settled { "settled" } else { "ready" };
-    writeln!(output, "made {made} left {left} {ready}")
+pub fn write_counts<W: Write>(answers: &mut Answers<W>, made: u32, left: u64, is_settled: bool) {
+    answers.text("made ");
+    answers.number(made as u64);
+    answers.text(" left ");
+    answers.number(left);
+    answers.line(if is_settled { " settled" } else { " ready" });
 }
 
-fn write_log<W: Write>(output: &mut W, shown: Shown, log: &[Event]) -> io::Result<()> {
+fn write_log<W: Write>(answers: &mut Answers<W>, shown: Shown, log: &[Event]) {
     for event in log {
-        write_event(output, shown, event)?;
+        write_event(answers, shown, event);
     }
-    writeln!(output, "events {}", log.len())
+    answers.text("events ");
+    answers.number_line(log.len() as u64);
 }
 
 /// Answers a call that only looks at the core, and says whether it was one.
@@ -236,18 +242,23 @@ fn look_call<S: Agents, W: Write>(
     place: &Place,
     core: &BlockCore<S>,
     name: &str,
-    output: &mut W,
-) -> Result<bool, Halt> {
+    answers: &mut Answers<W>,
+) -> bool {
     if name == "knew" {
-        write_knew(output, place, core.log().as_slice())?;
+        write_knew(answers, place, core.log().as_slice());
     } else if name == "counts" {
-        write_counts(output, core.made(), core.left_in_ports(), core.is_settled())?;
+        write_counts(
+            answers,
+            core.made(),
+            core.left_in_ports(),
+            core.is_settled(),
+        );
     } else if name == "log" {
-        write_log(output, shown_in(place, core), core.log().as_slice())?;
+        write_log(answers, shown_in(place, core), core.log().as_slice());
     } else {
-        return Ok(false);
+        return false;
     }
-    Ok(true)
+    true
 }
 
 /// Answers a call that leaves the core as it is.
@@ -256,15 +267,15 @@ fn still_call<S: Agents, T: Wait, W: Write>(
     desk: &mut Desk,
     core: &BlockCore<S>,
     call: Call,
-    output: &mut W,
-) -> Result<(), Halt>
+    answers: &mut Answers<W>,
+) -> Result<(), AllocError>
     requires { IsBoardOf site.now.place.routes.now desk.old.board }
     ensures { IfOk result (λ _. IsBoardOf site.now.place.routes.now desk.new.board) }
 {
-    if look_call(&site.place, core, name_of(call), output)? {
+    if look_call(&site.place, core, name_of(call), answers) {
         return Ok(());
     }
-    other_call(site, desk, call, CALLS, output)
+    other_call(site, desk, call, CALLS, answers)
 }
 
 /// Answers a call.
@@ -273,8 +284,8 @@ fn core_call<S: Agents, T: Wait, W: Write>(
     desk: &mut Desk,
     core: &mut BlockCore<S>,
     call: Call,
-    output: &mut W,
-) -> Result<(), Halt>
+    answers: &mut Answers<W>,
+) -> Result<(), AllocError>
     requires board { IsBoardOf site.now.place.routes.now desk.old.board }
     requires sound { IsSound S.may (system_in core.old site.now.place.routes.now) (core_of core.old) }
     requires parts { CanFire S.may (parts_of core.old) }
@@ -284,11 +295,11 @@ fn core_call<S: Agents, T: Wait, W: Write>(
 {
     let name = name_of(call);
     if name == "arrive" {
-        arrive_call(&site.place, desk, core, call, output)
+        arrive_call(&site.place, desk, core, call, answers)
     } else if name == "turn" {
-        turn_call(&site.place, core, call, output)
+        turn_call(&site.place, core, call, answers)
     } else {
-        still_call(site, desk, core, call, output)
+        still_call(site, desk, core, call, answers)
     }
 }
 
@@ -298,8 +309,8 @@ fn core_call_or_end<S: Agents, T: Wait, W: Write>(
     desk: &mut Desk,
     core: &mut BlockCore<S>,
     call: Call,
-    output: &mut W,
-) -> Result<Next, Halt>
+    answers: &mut Answers<W>,
+) -> Result<Next, AllocError>
     requires board { IsBoardOf site.now.place.routes.now desk.old.board }
     requires sound { IsSound S.may (system_in core.old site.now.place.routes.now) (core_of core.old) }
     requires parts { CanFire S.may (parts_of core.old) }
@@ -310,7 +321,7 @@ fn core_call_or_end<S: Agents, T: Wait, W: Write>(
     if name_of(call) == "end" {
         return Ok(Next::Over(None));
     }
-    core_call(site, desk, core, call, output)?;
+    core_call(site, desk, core, call, answers)?;
     Ok(Next::Line)
 }
 
@@ -320,7 +331,7 @@ fn core_line<S: Agents, T: Wait, R: Read, W: Write>(
     desk: &mut Desk,
     core: &mut BlockCore<S>,
     session: &mut Session<R, W>,
-) -> Result<Next, Halt>
+) -> Result<Next, AllocError>
     requires board { IsBoardOf site.now.place.routes.now desk.old.board }
     requires sound { IsSound S.may (system_in core.old site.now.place.routes.now) (core_of core.old) }
     requires parts { CanFire S.may (parts_of core.old) }
@@ -334,7 +345,7 @@ fn core_line<S: Agents, T: Wait, R: Read, W: Write>(
     };
     let words = words_of(site.place.alloc, text_of(&line))?;
     let call = session.call(words.as_slice());
-    core_call_or_end(site, desk, core, call, session.output)
+    core_call_or_end(site, desk, core, call, &mut session.answers)
 }
 
 /// Answers the calls of the core up to `end`; or else answers how the input ended.
@@ -343,7 +354,7 @@ pub fn use_core<S: Agents, T: Wait, R: Read, W: Write>(
     desk: &mut Desk,
     core: &mut BlockCore<S>,
     session: &mut Session<R, W>,
-) -> Result<Option<InputEnd>, Halt>
+) -> Result<Option<InputEnd>, AllocError>
     requires board { IsBoardOf site.now.place.routes.now desk.old.board }
     requires sound { IsSound S.may (system_in core.old site.now.place.routes.now) (core_of core.old) }
     requires parts { CanFire S.may (parts_of core.old) }

@@ -2,9 +2,10 @@
 use sdl_instances::{Cause, Done, Event, Trigger};
 use sdl_parts::Structure;
 use sdl_signal::{Pid, SignalId};
+use sdl_steps::answers::Answers;
 use sdl_steps::naming::signal_name;
 use sdl_steps::texts::{write_origin, write_pid};
-use std::io::{Result, Write};
+use std::io::Write;
 
 /// Where events are written: the structure, and the name of the block.
 #[derive(Clone, Copy)]
@@ -14,15 +15,15 @@ pub struct Shown<'a> {
 }
 
 /// Writes an event, and what a turn did.
-pub fn write_event<W: Write>(output: &mut W, shown: Shown, event: &Event) -> Result<()> {
+pub fn write_event<W: Write>(answers: &mut Answers<W>, shown: Shown, event: &Event) {
     match event {
         Event::Entered(item, pid) => {
-            write_signal(output, shown, "enter", item.signal.id)?;
-            write_end(output, shown, *pid)
+            write_signal(answers, shown, " enter ", item.signal.id);
+            write_end(answers, shown, *pid);
         }
         Event::Discarded(item, cause) => {
-            write_signal(output, shown, "discard", item.signal.id)?;
-            writeln!(output, " {}", cause_text(*cause))
+            write_signal(answers, shown, " discard ", item.signal.id);
+            answers.line(cause_text(*cause));
         }
         Event::Turn {
             pid,
@@ -31,84 +32,79 @@ pub fn write_event<W: Write>(output: &mut W, shown: Shown, event: &Event) -> Res
             stopped,
             ..
         } => {
-            write_trigger(output, shown, trigger)?;
-            write_end(output, shown, *pid)?;
-            write_all_done(output, shown, done.as_slice())?;
-            write_stop(output, shown, *pid, *stopped)
+            write_trigger(answers, shown, trigger);
+            write_end(answers, shown, *pid);
+            write_all_done(answers, shown, done.as_slice());
+            write_stop(answers, shown, *pid, *stopped);
         }
     }
 }
 
-fn write_trigger<W: Write>(output: &mut W, shown: Shown, trigger: &Trigger) -> Result<()> {
+fn write_trigger<W: Write>(answers: &mut Answers<W>, shown: Shown, trigger: &Trigger) {
     match trigger {
-        Trigger::Start => write!(output, "{} start", shown.block),
-        Trigger::Fire(item) => write_signal(output, shown, "fire", item.signal.id),
-        Trigger::Implicit(item) => write_signal(output, shown, "implicit", item.signal.id),
+        Trigger::Start => {
+            answers.text(shown.block);
+            answers.text(" start");
+        }
+        Trigger::Fire(item) => write_signal(answers, shown, " fire ", item.signal.id),
+        Trigger::Implicit(item) => write_signal(answers, shown, " implicit ", item.signal.id),
     }
 }
 
-fn write_all_done<W: Write>(output: &mut W, shown: Shown, all: &[Done]) -> Result<()> {
+fn write_all_done<W: Write>(answers: &mut Answers<W>, shown: Shown, all: &[Done]) {
     for done in all {
-        write_done(output, shown, done)?;
+        write_done(answers, shown, done);
     }
-    Ok(())
 }
 
-fn write_done<W: Write>(output: &mut W, shown: Shown, done: &Done) -> Result<()> {
+fn write_done<W: Write>(answers: &mut Answers<W>, shown: Shown, done: &Done) {
     match done {
         Done::Sent(item) => {
-            write_signal(output, shown, "sent", item.signal.id)?;
-            writeln!(output, " {}", item.route.0)
+            write_signal(answers, shown, " sent ", item.signal.id);
+            answers.text(" ");
+            answers.number_line(item.route.0 as u64);
         }
         Done::NoRoute(origin, signal) => {
-            write_signal(output, shown, "noroute", *signal)?;
-            write!(output, " origin ")?;
-            write_origin(output, *origin)?;
-            writeln!(output)
+            write_signal(answers, shown, " noroute ", *signal);
+            answers.text(" origin ");
+            write_origin(answers, *origin);
+            answers.line("");
         }
         Done::Made(pid) => {
-            write!(output, "{} made", shown.block)?;
-            write_end(output, shown, *pid)
+            answers.text(shown.block);
+            answers.text(" made");
+            write_end(answers, shown, *pid);
         }
     }
 }
 
-fn write_stop<W: Write>(
-    output: &mut W,
-    shown: Shown,
-    pid: Pid,
-    stopped: Option<u64>,
-) -> Result<()> {
-    match stopped {
-        Some(dropped) => {
-            write!(output, "{} stopped ", shown.block)?;
-            write_pid(output, shown.structure, pid)?;
-            writeln!(output, " {dropped}")
-        }
-        None => Ok(()),
+fn write_stop<W: Write>(answers: &mut Answers<W>, shown: Shown, pid: Pid, stopped: Option<u64>) {
+    if let Some(dropped) = stopped {
+        answers.text(shown.block);
+        answers.text(" stopped ");
+        write_pid(answers, shown.structure, pid);
+        answers.text(" ");
+        answers.number_line(dropped);
     }
 }
 
 /// Writes the block, what happened, and the signal.
-fn write_signal<W: Write>(
-    output: &mut W,
-    shown: Shown,
-    what: &str,
-    signal: SignalId,
-) -> Result<()> {
-    let signal = signal_name(shown.structure, signal);
-    write!(output, "{} {what} {signal}", shown.block)
+fn write_signal<W: Write>(answers: &mut Answers<W>, shown: Shown, what: &str, signal: SignalId) {
+    answers.text(shown.block);
+    answers.text(what);
+    answers.text(signal_name(shown.structure, signal));
 }
 
-fn write_end<W: Write>(output: &mut W, shown: Shown, pid: Pid) -> Result<()> {
-    write!(output, " ")?;
-    write_pid(output, shown.structure, pid)?;
-    writeln!(output)
+fn write_end<W: Write>(answers: &mut Answers<W>, shown: Shown, pid: Pid) {
+    answers.text(" ");
+    write_pid(answers, shown.structure, pid);
+    answers.line("");
 }
 
+/// The cause, after a space.
 pub fn cause_text(cause: Cause) -> &'static str {
     match cause {
-        Cause::NoInstance => "noinstance",
-        Cause::Gone => "gone",
+        Cause::NoInstance => " noinstance",
+        Cause::Gone => " gone",
     }
 }

@@ -15,10 +15,9 @@ use sdl_instances::bounds::parts_are_bound;
 use sdl_parts::Checked;
 use sdl_routes::Routes;
 use sdl_signal::{InputEnd, SignalId};
-use sdl_steps::calls::Halt;
 use sdl_steps::common::{Desk, Place};
 use sdl_transition::{Agents, Behaviour, BindFault, BlockParts, Bound, bind};
-use std::alloc::Global;
+use std::alloc::{AllocError, Global};
 use std::io::{Read, Write};
 use std::sync::Wait;
 
@@ -27,7 +26,10 @@ use std::sync::Wait;
 pub enum Ended {
     /// With the input.
     Input(InputEnd),
-    Halted(Halt),
+    /// An answer could not be written.
+    Output,
+    /// Memory was refused.
+    Memory,
     /// Before the first: the agents do not fit the structure.
     Unbound(BindFault),
 }
@@ -139,7 +141,7 @@ fn answer_calls<S: Agents + Drop, T: Wait, R: Read, W: Write>(
     };
     match Desk::new(alloc, routes) {
         Ok(desk) => answer_at(&site, desk, &mut blocks, session),
-        Err(_) => Ended::Halted(Halt::Memory),
+        Err(_) => Ended::Memory,
     }
 }
 
@@ -154,9 +156,16 @@ fn answer_at<S: Agents + Drop, T: Wait, R: Read, W: Write>(
     requires stored { All (IsStored S.may site.now.checked.now) blocks.old.items }
 {
     let mut desk = desk;
-    match use_blocks(site, &mut desk, blocks, session) {
+    let end = use_blocks(site, &mut desk, blocks, session);
+    ended_by(end, session.answers.have_failed())
+}
+
+/// How the calls ended, by how their reading did, and whether a write failed.
+fn ended_by(end: Result<InputEnd, AllocError>, has_failed: bool) -> Ended {
+    match end {
+        Ok(_) if has_failed => Ended::Output,
         Ok(end) => Ended::Input(end),
-        Err(halt) => Ended::Halted(halt),
+        Err(_) => Ended::Memory,
     }
 }
 

@@ -6,8 +6,10 @@ use crate::lines::Lines;
 use arrayvec::ArrayVec;
 use sdl_parts::Checked;
 use sdl_signal::InputEnd;
-use sdl_steps::calls::{Call, Halt, write_meant};
+use sdl_steps::answers::Answers;
+use sdl_steps::calls::{Call, write_meant};
 use sdl_steps::common::{Desk, Place, common_call};
+use std::alloc::AllocError;
 use std::io::{Read, Write};
 use std::sync::Wait;
 
@@ -24,20 +26,23 @@ pub struct Site<'a, T> {
 pub struct Session<'a, R, W> {
     pub lines: Lines,
     pub input: &'a mut R,
-    pub output: &'a mut W,
+    pub answers: Answers<'a, W>,
 }
 
-impl<'a, R: Read, W> Session<'a, R, W> {
+impl<'a, R: Read, W: Write> Session<'a, R, W> {
     pub fn new(input: &'a mut R, output: &'a mut W) -> Session<'a, R, W> {
         Session {
             lines: Lines::new(),
             input,
-            output,
+            answers: Answers::new(output),
         }
     }
 
-    /// The next line, or how the input ended.
+    /// The next line, or how the input ended. Where an answer could not be written, nothing more is read.
     pub fn next_line(&mut self) -> Result<ArrayVec<u8, 320>, InputEnd> {
+        if self.answers.have_failed() {
+            return Err(InputEnd::Whole);
+        }
         self.lines.next(self.input)
     }
 
@@ -65,13 +70,13 @@ pub fn other_call<T: Wait, W: Write>(
     desk: &mut Desk,
     call: Call,
     calls: &str,
-    output: &mut W,
-) -> Result<(), Halt>
+    answers: &mut Answers<W>,
+) -> Result<(), AllocError>
     requires { IsBoardOf site.now.place.routes.now desk.old.board }
     ensures { IfOk result (λ _. IsBoardOf site.now.place.routes.now desk.new.board) }
 {
-    if common_call(site.rt, &site.place, desk, call, output)? {
-        return Ok(());
+    if !common_call(site.rt, &site.place, desk, call, answers)? {
+        write_meant(answers, call.line, calls);
     }
-    write_meant(output, call.line, calls)
+    Ok(())
 }

@@ -14,11 +14,12 @@ use sdl_block::{BlockWorker, Hand, Stepped};
 use sdl_forward::Board;
 use sdl_routes::Routes;
 use sdl_signal::InputEnd;
-use sdl_steps::calls::{Call, Halt, words_of, write_meant, write_text};
+use sdl_steps::answers::Answers;
+use sdl_steps::calls::{Call, words_of, write_meant};
 use sdl_steps::common::{Desk, Place, name_of};
 use sdl_steps::texts::write_item;
 use sdl_transition::Agents;
-use std::io;
+use std::alloc::AllocError;
 use std::io::{Read, Write};
 use std::sync::Wait;
 
@@ -44,6 +45,25 @@ fn step<S: Agents>(
     worker.step_serial(routes, board, pick)
 }
 
+/// A step, made once more where memory was refused or an item may not arrive.
+fn step_again<S: Agents>(
+    worker: &mut BlockWorker<S>,
+    routes: &Routes,
+    board: &mut Board,
+    pick: u32,
+) -> Stepped
+    requires worker { CanGoOn S.may worker.old routes.now }
+    requires board { IsBoardOf routes.now board.old }
+    ensures worker { CanGoOn S.may worker.new routes.now }
+    ensures board { IsBoardOf routes.now board.new }
+    ensures parts { behaviours_of worker.new ≡ behaviours_of worker.old }
+{
+    match step(worker, routes, board, pick) {
+        Stepped::Memory => step(worker, routes, board, pick),
+        made => made,
+    }
+}
+
 /// `step`: `did`, `idle`, or `refused` where memory was refused twice or an item may not arrive. What a refused step has in
 /// hand is where the next one goes on.
 fn step_call<S: Agents, W: Write>(
@@ -51,22 +71,19 @@ fn step_call<S: Agents, W: Write>(
     board: &mut Board,
     worker: &mut BlockWorker<S>,
     call: Call,
-    output: &mut W,
-) -> Result<(), Halt>
+    answers: &mut Answers<W>,
+)
     requires worker { CanGoOn S.may worker.old place.now.routes.now }
     requires board { IsBoardOf place.now.routes.now board.old }
-    ensures worker { IfOk result (λ _. CanGoOn S.may worker.new place.now.routes.now) }
-    ensures board { IfOk result (λ _. IsBoardOf place.now.routes.now board.new) }
+    ensures worker { CanGoOn S.may worker.new place.now.routes.now }
+    ensures board { IsBoardOf place.now.routes.now board.new }
     ensures parts { behaviours_of worker.new ≡ behaviours_of worker.old }
 {
     let Some(pick) = pick_of(call.words) else {
-        return write_meant(output, call.line, STEP);
+        return write_meant(answers, call.line, STEP);
     };
-    let stepped = match step(worker, place.routes, board, pick) {
-        Stepped::Memory => step(worker, place.routes, board, pick),
-        made => made,
-    };
-    write_text(output, text_of_step(stepped))
+    let stepped = step_again(worker, place.routes, board, pick);
+    answers.line(text_of_step(stepped));
 }
 
 fn text_of_step(stepped: Stepped) -> &'static str {
@@ -83,28 +100,22 @@ fn still_call<S: Agents, T: Wait, W: Write>(
     desk: &mut Desk,
     worker: &BlockWorker<S>,
     call: Call,
-    output: &mut W,
-) -> Result<(), Halt>
+    answers: &mut Answers<W>,
+) -> Result<(), AllocError>
     requires { IsBoardOf site.now.place.routes.now desk.old.board }
     ensures { IfOk result (λ _. IsBoardOf site.now.place.routes.now desk.new.board) }
 {
     if name_of(call) == "counts" {
-        write_worker_counts(output, worker)?;
+        write_worker_counts(answers, worker);
         return Ok(());
     }
-    other_call(site, desk, call, CALLS, output)
+    other_call(site, desk, call, CALLS, answers)
 }
 
-fn write_worker_counts<S: Agents, W: Write>(
-    output: &mut W,
-    worker: &BlockWorker<S>,
-) -> io::Result<()> {
-    write_counts(
-        output,
-        worker.made(),
-        worker.left_in_ports(),
-        worker.is_settled(),
-    )
+fn write_worker_counts<S: Agents, W: Write>(answers: &mut Answers<W>, worker: &BlockWorker<S>) {
+    let made = worker.made();
+    let left = worker.left_in_ports();
+    write_counts(answers, made, left, worker.is_settled());
 }
 
 /// Answers a call, and `end`.
@@ -113,8 +124,8 @@ fn worker_call<S: Agents, T: Wait, W: Write>(
     desk: &mut Desk,
     worker: &mut BlockWorker<S>,
     call: Call,
-    output: &mut W,
-) -> Result<Next, Halt>
+    answers: &mut Answers<W>,
+) -> Result<Next, AllocError>
     requires worker { CanGoOn S.may worker.old site.now.place.routes.now }
     requires board { IsBoardOf site.now.place.routes.now desk.old.board }
     ensures worker { IfOk result (λ _. CanGoOn S.may worker.new site.now.place.routes.now) }
@@ -126,9 +137,9 @@ fn worker_call<S: Agents, T: Wait, W: Write>(
         return Ok(Next::Over(None));
     }
     if name == "step" {
-        step_call(&site.place, &mut desk.board, worker, call, output)?;
+        step_call(&site.place, &mut desk.board, worker, call, answers);
     } else {
-        still_call(site, desk, worker, call, output)?;
+        still_call(site, desk, worker, call, answers)?;
     }
     Ok(Next::Line)
 }
@@ -139,7 +150,7 @@ fn worker_line<S: Agents, T: Wait, R: Read, W: Write>(
     desk: &mut Desk,
     worker: &mut BlockWorker<S>,
     session: &mut Session<R, W>,
-) -> Result<Next, Halt>
+) -> Result<Next, AllocError>
     requires worker { CanGoOn S.may worker.old site.now.place.routes.now }
     requires board { IsBoardOf site.now.place.routes.now desk.old.board }
     ensures worker { IfOk result (λ _. CanGoOn S.may worker.new site.now.place.routes.now) }
@@ -152,7 +163,7 @@ fn worker_line<S: Agents, T: Wait, R: Read, W: Write>(
     };
     let words = words_of(site.place.alloc, text_of(&line))?;
     let call = session.call(words.as_slice());
-    worker_call(site, desk, worker, call, session.output)
+    worker_call(site, desk, worker, call, &mut session.answers)
 }
 
 /// Answers the calls of the block at work up to `end`; or else answers how the input ended.
@@ -161,7 +172,7 @@ pub fn use_worker<S: Agents, T: Wait, R: Read, W: Write>(
     desk: &mut Desk,
     worker: &mut BlockWorker<S>,
     session: &mut Session<R, W>,
-) -> Result<Option<InputEnd>, Halt>
+) -> Result<Option<InputEnd>, AllocError>
     requires worker { CanGoOn S.may worker.old site.now.place.routes.now }
     requires board { IsBoardOf site.now.place.routes.now desk.old.board }
     ensures board { IfOk result (λ _. IsBoardOf site.now.place.routes.now desk.new.board) }
@@ -176,11 +187,11 @@ pub fn use_worker<S: Agents, T: Wait, R: Read, W: Write>(
 }
 
 /// Writes what a block has in hand: the item that it keeps, and those that it has yet to put.
-pub fn write_hand<W: Write>(output: &mut W, place: &Place, hand: &Hand) -> io::Result<()> {
+pub fn write_hand<W: Write>(answers: &mut Answers<W>, place: &Place, hand: &Hand) {
     if let Some(item) = &hand.kept {
-        write!(output, "kept ")?;
-        write_item(output, place.structure, item)?;
-        writeln!(output)?;
+        answers.text("kept ");
+        write_item(answers, place.structure, item);
+        answers.line("");
     }
-    write_items(output, place, hand.outgoing.as_slice())
+    write_items(answers, place, hand.outgoing.as_slice());
 }

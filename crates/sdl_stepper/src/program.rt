@@ -14,7 +14,6 @@ use sdl_file_commands::words::{words_behind_the_name, words_of};
 use sdl_parts::{Checked, Structure};
 use sdl_routes::Routes;
 use sdl_signal::{OutputEnd, SignalId};
-use sdl_steps::calls::Halt;
 use sdl_steps::naming::signal_of;
 use sdl_structure::FileFault;
 use sdl_transition::BlockParts;
@@ -186,8 +185,8 @@ fn status_of<W: Write, E: Write>(ended: Ended, output: &mut W, errors: &mut E) -
             let read = report_input(end, errors);
             read.max(report_output(flushed(output, OutputEnd::Whole), errors))
         }
-        Ended::Halted(Halt::Output) => report_output(OutputEnd::WriteFault, errors),
-        Ended::Halted(Halt::Memory) => {
+        Ended::Output => report_output(OutputEnd::WriteFault, errors),
+        Ended::Memory => {
             let _ = flushed(output, OutputEnd::Whole);
             without_memory(errors);
             REFUSED

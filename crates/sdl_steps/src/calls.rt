@@ -1,28 +1,7 @@
-//! A call as it was read, and why the reading of calls may end.
+//! A call as it was read.
+use crate::answers::Answers;
 use std::alloc::{AllocError, Global};
-use std::io;
 use std::io::Write;
-
-/// What ends the reading of calls before the input does.
-#[derive(Clone, Copy, Debug, PartialEq, Eq)]
-pub enum Halt {
-    /// Memory was refused.
-    Memory,
-    /// An answer could not be written.
-    Output,
-}
-
-impl From<AllocError> for Halt {
-    fn from(_error: AllocError) -> Halt {
-        Halt::Memory
-    }
-}
-
-impl From<io::Error> for Halt {
-    fn from(_error: io::Error) -> Halt {
-        Halt::Output
-    }
-}
 
 /// A call: the words of a line, and the line's number from 1.
 #[derive(Clone, Copy)]
@@ -41,19 +20,9 @@ pub fn words_of(alloc: Global, line: &str) -> Result<Vec<&str>, AllocError> {
 }
 
 /// Answers a call that was not understood with what was meant.
-pub fn write_meant<W: Write>(output: &mut W, line: u32, meant: &str) -> Result<(), Halt> {
-    writeln!(output, "line {line}: {meant}")?;
-    Ok(())
-}
-
-/// Answers a call by this text.
-pub fn write_text<W: Write>(output: &mut W, text: &str) -> Result<(), Halt> {
-    writeln!(output, "{text}")?;
-    Ok(())
-}
-
-/// That the call was understood, once it is answered.
-pub fn understood(answered: Result<(), Halt>) -> Result<bool, Halt> {
-    answered?;
-    Ok(true)
+pub fn write_meant<W: Write>(answers: &mut Answers<W>, line: u32, meant: &str) {
+    answers.text("line ");
+    answers.number(line as u64);
+    answers.text(": ");
+    answers.line(meant);
 }

@@ -2,7 +2,8 @@
 ghost use Rattle.std.specs.Prelude.{IfOk};
 ghost use Rattle.sdl_forward.specs.Boards.{IsBoardOf};
 
-use crate::calls::{Call, Halt, understood, write_text};
+use crate::answers::Answers;
+use crate::calls::Call;
 use crate::desk::{forward_call, left_call, put_call, take_call};
 use crate::queues::Queues;
 use crate::routing::call_routes;
@@ -74,21 +75,18 @@ pub fn common_call<R: Wait, W: Write>(
     place: &Place,
     desk: &mut Desk,
     call: Call,
-    output: &mut W,
-) -> Result<bool, Halt>
+    answers: &mut Answers<W>,
+) -> Result<bool, AllocError>
     requires { IsBoardOf place.now.routes.now desk.old.board }
     ensures { IfOk result (λ _. IsBoardOf place.now.routes.now desk.new.board) }
 {
-    if write_note(call, output)? || call_routes(place.routes, place.structure, call, output)? {
+    if write_note(call, answers) || call_routes(place.routes, place.structure, call, answers) {
         return Ok(true);
     }
-    if desk
-        .queues
-        .call(rt, place.alloc, call.line, call.words, output)?
-    {
+    if desk.queues.call(rt, place.alloc, call, answers)? {
         return Ok(true);
     }
-    board_call(place, desk, call, output)
+    board_call(place, desk, call, answers)
 }
 
 /// Answers a call on the board, and says whether it was one.
@@ -96,8 +94,8 @@ fn board_call<W: Write>(
     place: &Place,
     desk: &mut Desk,
     call: Call,
-    output: &mut W,
-) -> Result<bool, Halt>
+    answers: &mut Answers<W>,
+) -> Result<bool, AllocError>
     requires { IsBoardOf place.now.routes.now desk.old.board }
     ensures { IfOk result (λ _. IsBoardOf place.now.routes.now desk.new.board) }
 {
@@ -106,14 +104,21 @@ fn board_call<W: Write>(
     let name = name_of(call);
     if name == "put" {
         let next = &mut desk.queues.next;
-        put_call(routes, structure, &mut desk.board, next, call, output)?;
+        put_call(routes, structure, &mut desk.board, next, call, answers)?;
     } else if name == "take" {
-        take_call(routes, structure, &mut desk.board, call, output)?;
+        take_call(routes, structure, &mut desk.board, call, answers);
     } else if name == "forward" {
         let forwarders = &mut desk.forwarders;
-        forward_call(routes, structure, &mut desk.board, forwarders, call, output)?;
+        forward_call(
+            routes,
+            structure,
+            &mut desk.board,
+            forwarders,
+            call,
+            answers,
+        )?;
     } else if name == "left" {
-        clear_board(place, desk, output)?;
+        clear_board(place, desk, answers)?;
     } else {
         return Ok(false);
     }
@@ -121,12 +126,16 @@ fn board_call<W: Write>(
 }
 
 /// `left`: what waits on the board. An empty board and forwarders that hold nothing are laid in its place.
-fn clear_board<W: Write>(place: &Place, desk: &mut Desk, output: &mut W) -> Result<(), Halt>
+fn clear_board<W: Write>(
+    place: &Place,
+    desk: &mut Desk,
+    answers: &mut Answers<W>,
+) -> Result<(), AllocError>
     requires { IsBoardOf place.now.routes.now desk.old.board }
     ensures { IfOk result (λ _. IsBoardOf place.now.routes.now desk.new.board) }
 {
     let board = &mut desk.board;
-    left_call(place.alloc, place.routes, place.structure, board, output)?;
+    left_call(place.alloc, place.routes, place.structure, board, answers)?;
     desk.forwarders = Vec::new(place.alloc);
     Ok(())
 }
@@ -140,30 +149,32 @@ pub fn name_of<'a>(call: Call<'a>) -> &'a str {
 }
 
 /// Answers `help` and notes, and says whether the call was one of them.
-fn write_note<W: Write>(call: Call, output: &mut W) -> Result<bool, Halt> {
+fn write_note<W: Write>(call: Call, answers: &mut Answers<W>) -> bool {
     let name = name_of(call);
     if name == "help" {
-        understood(write_help(output))
+        write_help(answers);
+        true
     } else if name == "#" {
-        understood(write_words(output, call.words))
+        write_words(answers, call.words);
+        true
     } else {
-        Ok(false)
+        false
     }
 }
 
-fn write_help<W: Write>(output: &mut W) -> Result<(), Halt> {
+fn write_help<W: Write>(answers: &mut Answers<W>) {
     for line in HELP {
-        write_text(output, line)?;
+        answers.line(line);
     }
-    Ok(())
 }
 
 /// Writes the words of a line again.
-fn write_words<W: Write>(output: &mut W, words: &[&str]) -> Result<(), Halt> {
+fn write_words<W: Write>(answers: &mut Answers<W>, words: &[&str]) {
     let mut before = "";
     for word in words {
-        write!(output, "{before}{word}")?;
+        answers.text(before);
+        answers.text(word);
         before = " ";
     }
-    write_text(output, "")
+    answers.line("");
 }

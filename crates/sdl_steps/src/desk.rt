@@ -2,7 +2,8 @@
 ghost use Rattle.std.specs.Prelude.{◌≡◌, ◌<◌, length, IfOk, Contains};
 ghost use Rattle.sdl_forward.specs.Boards.{IsBoardOf, stations_of};
 
-use crate::calls::{Call, Halt, write_meant, write_text};
+use crate::answers::Answers;
+use crate::calls::{Call, write_meant};
 use crate::items::{Given, given_of};
 use crate::naming::{hop_of, station_of};
 use crate::texts::{write_item, write_station};
@@ -13,7 +14,7 @@ use sdl_routes::{Hop, Routes, Station};
 use sdl_signal::{Item, RouteId};
 use std::alloc::{AllocError, Global};
 use std::io::Write;
-use std::{io, mem};
+use std::mem;
 
 const PUT: &str =
     "put ROUTE SIGNAL VALUE .. [to PID] [sender PID] [stamp N] [origin W.N] [along ROUTE] [after STATION]";
@@ -61,13 +62,14 @@ pub fn put_call<W: Write>(
     board: &mut Board,
     next: &mut u64,
     call: Call,
-    output: &mut W,
-) -> Result<(), Halt>
+    answers: &mut Answers<W>,
+) -> Result<(), AllocError>
     requires { IsBoardOf routes.now board.old }
     ensures { IfOk result (λ _. IsBoardOf routes.now board.new) }
 {
     let Some(given) = given_after_name(structure, call.words, *next) else {
-        return write_meant(output, call.line, PUT);
+        write_meant(answers, call.line, PUT);
+        return Ok(());
     };
     *next = next.saturating_add(1);
     let Given {
@@ -77,10 +79,9 @@ pub fn put_call<W: Write>(
         pick: _,
     } = given;
     let route = along.unwrap_or(item.route);
-    match put_along(routes, board, item, route, after)? {
-        Some(station) => write_at(output, structure, station),
-        None => write_text(output, "no station"),
-    }
+    let put = put_along(routes, board, item, route, after)?;
+    write_put(answers, structure, put);
+    Ok(())
 }
 
 /// The item of a call whose first word is its name.
@@ -91,11 +92,15 @@ pub fn given_after_name(structure: &Structure, words: &[&str], next: u64) -> Opt
     given_of(structure, words, next)
 }
 
-fn write_at<W: Write>(output: &mut W, structure: &Structure, station: Station) -> Result<(), Halt> {
-    write!(output, "at ")?;
-    write_station(output, structure, station)?;
-    writeln!(output)?;
-    Ok(())
+fn write_put<W: Write>(answers: &mut Answers<W>, structure: &Structure, put: Option<Station>) {
+    match put {
+        Some(station) => {
+            answers.text("at ");
+            write_station(answers, structure, station);
+            answers.line("");
+        }
+        None => answers.line("no station"),
+    }
 }
 
 /// `take`: the item that waited at the front of the station, or `none`.
@@ -104,17 +109,15 @@ pub fn take_call<W: Write>(
     structure: &Structure,
     board: &mut Board,
     call: Call,
-    output: &mut W,
-) -> Result<(), Halt>
+    answers: &mut Answers<W>,
+)
     requires { IsBoardOf routes.now board.old }
-    ensures { IfOk result (λ _. IsBoardOf routes.now board.new) }
+    ensures { IsBoardOf routes.now board.new }
 {
-    let Some(station) = station_after_name(structure, call.words) else {
-        return write_meant(output, call.line, TAKE);
-    };
-    let item = board.take(station);
-    write_taken(output, structure, &item)?;
-    Ok(())
+    match station_after_name(structure, call.words) {
+        Some(station) => write_taken(answers, structure, board.take(station)),
+        None => write_meant(answers, call.line, TAKE),
+    }
 }
 
 fn station_after_name(structure: &Structure, words: &[&str]) -> Option<Station> {
@@ -124,19 +127,15 @@ fn station_after_name(structure: &Structure, words: &[&str]) -> Option<Station> 
     }
 }
 
-fn write_taken<W: Write>(
-    output: &mut W,
-    structure: &Structure,
-    item: &Option<Item>,
-) -> io::Result<()> {
+fn write_taken<W: Write>(answers: &mut Answers<W>, structure: &Structure, item: Option<Item>) {
     match item {
         Some(item) => {
-            write!(output, "took ")?;
-            write_item(output, structure, item)?;
+            answers.text("took ");
+            write_item(answers, structure, &item);
+            answers.line("");
         }
-        None => write!(output, "none")?,
+        None => answers.line("none"),
     }
-    writeln!(output)
 }
 
 /// `forward`: what the step of the path's forwarder did.
@@ -146,18 +145,19 @@ pub fn forward_call<W: Write>(
     board: &mut Board,
     forwarders: &mut Vec<Forwarder>,
     call: Call,
-    output: &mut W,
-) -> Result<(), Halt>
+    answers: &mut Answers<W>,
+) -> Result<(), AllocError>
     requires { IsBoardOf routes.now board.old }
     ensures { IfOk result (λ _. IsBoardOf routes.now board.new) }
 {
     let Some(path) = path_after_name(structure, call.words) else {
-        return write_meant(output, call.line, FORWARD);
+        write_meant(answers, call.line, FORWARD);
+        return Ok(());
     };
     let place = place_of(forwarders, path)?;
     let forwarder = &mut forwarders[place];
     let forwarded = step_with_retry(routes, board, forwarder);
-    write_forwarded(output, structure, forwarded, forwarder)?;
+    write_forwarded(answers, structure, forwarded, forwarder);
     Ok(())
 }
 
@@ -192,22 +192,26 @@ fn place_of(forwarders: &mut Vec<Forwarder>, path: Hop) -> Result<usize, AllocEr
     Ok(forwarders.len() - 1)
 }
 
+fn text_of_forwarded(forwarded: Forwarded) -> &'static str {
+    match forwarded {
+        Forwarded::Moved => "moved",
+        Forwarded::Idle => "idle",
+        Forwarded::Held => "held",
+    }
+}
+
 fn write_forwarded<W: Write>(
-    output: &mut W,
+    answers: &mut Answers<W>,
     structure: &Structure,
     forwarded: Forwarded,
     forwarder: &Forwarder,
-) -> io::Result<()> {
-    match forwarded {
-        Forwarded::Moved => write!(output, "moved")?,
-        Forwarded::Idle => write!(output, "idle")?,
-        Forwarded::Held => write!(output, "held")?,
-    }
+) {
+    answers.text(text_of_forwarded(forwarded));
     if let Some(item) = forwarder.held() {
-        write!(output, " ")?;
-        write_item(output, structure, item)?;
+        answers.text(" ");
+        write_item(answers, structure, item);
     }
-    writeln!(output)
+    answers.line("");
 }
 
 /// `left`: how many items wait at each station of the board. An empty board is laid in its place.
@@ -216,26 +220,26 @@ pub fn left_call<W: Write>(
     routes: &Routes,
     structure: &Structure,
     board: &mut Board,
-    output: &mut W,
-) -> Result<(), Halt>
+    answers: &mut Answers<W>,
+) -> Result<(), AllocError>
     requires { IsBoardOf routes.now board.old }
     ensures { IfOk result (λ _. IsBoardOf routes.now board.new) }
 {
     let empty = Board::new(alloc, routes)?;
     let used = mem::replace(board, empty);
     let rests = used.into_rests();
-    write_rests(output, structure, rests.as_slice())?;
+    write_rests(answers, structure, rests.as_slice());
     Ok(())
 }
 
 fn write_rests<W: Write>(
-    output: &mut W,
+    answers: &mut Answers<W>,
     structure: &Structure,
     rests: &[(Station, Rest)],
-) -> io::Result<()> {
+) {
     for (station, rest) in rests {
-        write_station(output, structure, *station)?;
-        writeln!(output, " {}", rest.len())?;
+        write_station(answers, structure, *station);
+        answers.text(" ");
+        answers.number_line(rest.len() as u64);
     }
-    Ok(())
 }

@@ -2,6 +2,7 @@
 //! forwarders, and queues. `sdl_stepper` adds the calls of a block.
 #![tactic(auto)]
 
+pub mod answers;
 pub mod calls;
 pub mod common;
 pub mod desk;

@@ -1,45 +1,78 @@
 //! The parts of a structure by the words of a call. A part is named as in the structure file, or given by its number, which
 //! begins with a digit. So a number that no part has can be tried too.
-use sdl_parts::Structure;
+use sdl_parts::{Block, Channel, Set, SignalDecl, Structure};
 use sdl_routes::{Goal, Hop, Source, Station, Via};
-use sdl_signal::{BlockId, ChannelId, GateId, Pid, SetId, SignalId};
+use sdl_signal::{BlockId, ChannelId, GateId, Name, Pid, SetId, SignalId};
 
-/// The number that a word is, or else that of the named part, which has this place among its like.
-fn number_of(word: &str, place: Option<usize>) -> Option<u32> {
+/// A part of a structure that goes by its name.
+trait Part {
+    fn name(&self) -> &Name;
+}
+
+impl Part for SignalDecl {
+    fn name(&self) -> &Name {
+        &self.name
+    }
+}
+
+impl Part for Set {
+    fn name(&self) -> &Name {
+        &self.name
+    }
+}
+
+impl Part for Block {
+    fn name(&self) -> &Name {
+        &self.name
+    }
+}
+
+impl Part for Channel {
+    fn name(&self) -> &Name {
+        &self.name
+    }
+}
+
+/// The place of the part of this name.
+fn place_of<P: Part>(parts: &[P], word: &str) -> Option<usize> {
+    for (place, part) in parts.iter().enumerate() {
+        if part.name().as_str() == word {
+            return Some(place);
+        }
+    }
+    None
+}
+
+/// The number that a word is, or else that of the part of this name, which is its place among its like.
+fn part_of<P: Part>(parts: &[P], word: &str) -> Option<u32> {
     match word.parse::<u32>() {
         Ok(number) => Some(number),
-        Err(_) => u32::try_from(place?).ok(),
+        Err(_) => u32::try_from(place_of(parts, word)?).ok(),
+    }
+}
+
+/// The name of the part of this number, and no text where there is none.
+fn name_at<P: Part>(parts: &[P], number: u32) -> &str {
+    match parts.get(number as usize) {
+        Some(part) => part.name().as_str(),
+        None => "",
     }
 }
 
 pub fn signal_of(structure: &Structure, word: &str) -> Option<SignalId> {
-    let signals = structure.signals();
-    let place = signals
-        .iter()
-        .position(|signal| signal.name.as_str() == word);
-    Some(SignalId(number_of(word, place)?))
+    Some(SignalId(part_of(structure.signals(), word)?))
 }
 
 pub fn set_of(structure: &Structure, word: &str) -> Option<SetId> {
-    let place = structure
-        .sets()
-        .iter()
-        .position(|set| set.name.as_str() == word);
-    Some(SetId(number_of(word, place)?))
+    Some(SetId(part_of(structure.sets(), word)?))
 }
 
 pub fn block_of(structure: &Structure, word: &str) -> Option<BlockId> {
-    let blocks = structure.blocks();
-    let place = blocks.iter().position(|block| block.name.as_str() == word);
-    Some(BlockId(number_of(word, place)?))
+    Some(BlockId(part_of(structure.blocks(), word)?))
 }
 
 fn channel_of(structure: &Structure, word: &str) -> Option<ChannelId> {
-    let channels = structure.channels();
-    let place = channels
-        .iter()
-        .position(|channel| channel.name.as_str() == word);
-    Some(ChannelId(number_of(word, place)?))
+    Some(ChannelId(part_of(structure.channels(), word)?))
 }
 
 /// A gate by its number. Gates of several agents may have one name.
@@ -122,31 +155,19 @@ pub fn via_of(structure: &Structure, word: &str) -> Option<Via> {
 }
 
 pub fn signal_name(structure: &Structure, signal: SignalId) -> &str {
-    match structure.signals().get(signal.0 as usize) {
-        Some(signal) => signal.name.as_str(),
-        None => "",
-    }
+    name_at(structure.signals(), signal.0)
 }
 
 pub fn set_name(structure: &Structure, set: SetId) -> &str {
-    match structure.sets().get(set.0 as usize) {
-        Some(set) => set.name.as_str(),
-        None => "",
-    }
+    name_at(structure.sets(), set.0)
 }
 
 pub fn block_name(structure: &Structure, block: BlockId) -> &str {
-    match structure.blocks().get(block.0 as usize) {
-        Some(block) => block.name.as_str(),
-        None => "",
-    }
+    name_at(structure.blocks(), block.0)
 }
 
 pub fn channel_name(structure: &Structure, channel: ChannelId) -> &str {
-    match structure.channels().get(channel.0 as usize) {
-        Some(channel) => channel.name.as_str(),
-        None => "",
-    }
+    name_at(structure.channels(), channel.0)
 }
 
 /// The gate with its agent's name before it; the system is `env`.

@@ -1,6 +1,7 @@
 //! The calls on queues, all on one thread. `serial ..` is for a queue of one thread, `queue ..` for one with separate ends, and
 //! `ring ..` for a ring; `rest ..` is for what was left when ends came back. An item is told by its origin, `WORKER.NUMBER`.
-use crate::calls::{Halt, understood, write_meant, write_text};
+use crate::answers::Answers;
+use crate::calls::{Call, write_meant};
 use crate::ends::{QueueEnds, RingEnds};
 use crate::items::{item_from, origin_of};
 use crate::texts::write_origin;
@@ -49,26 +50,23 @@ impl Queues {
         &mut self,
         rt: &R,
         alloc: Global,
-        line: u32,
-        words: &[&str],
-        output: &mut W,
-    ) -> Result<bool, Halt> {
-        let [kind, name, words @ ..] = words else {
+        call: Call,
+        answers: &mut Answers<W>,
+    ) -> Result<bool, AllocError> {
+        let [kind, name, words @ ..] = call.words else {
             return Ok(false);
         };
-        let is_understood = if *kind == "serial" {
-            self.serial_call(alloc, name, words, output)
-        } else if *kind == "queue" {
-            self.queue_call(rt, alloc, name, words, output)
-        } else if *kind == "ring" {
-            self.ring_call(alloc, name, words, output)
-        } else if *kind == "rest" {
-            self.rest_call(rt, name, output)
-        } else {
+        let Some(kind) = kind_of(kind) else {
             return Ok(false);
         };
-        if !is_understood? {
-            write_meant(output, line, meant_of(kind))?;
+        let is_understood = match kind {
+            Kind::Serial => self.serial_call(alloc, name, words, answers)?,
+            Kind::Queue => self.queue_call(rt, alloc, name, words, answers)?,
+            Kind::Ring => self.ring_call(alloc, name, words, answers)?,
+            Kind::Rest => self.rest_call(rt, name, answers)?,
+        };
+        if !is_understood {
+            write_meant(answers, call.line, meant_by(kind));
         }
         Ok(true)
     }
@@ -91,37 +89,42 @@ impl Queues {
         alloc: Global,
         name: &str,
         words: &[&str],
-        output: &mut W,
-    ) -> Result<bool, Halt> {
+        answers: &mut Answers<W>,
+    ) -> Result<bool, AllocError> {
         if name == "put" {
-            return self.put_serial(words, output);
+            return self.put_serial(words, answers);
         }
-        let answered = if name == "take" {
-            write_taken(output, self.serial.take())
+        if name == "take" {
+            write_taken(answers, self.serial.take());
         } else if name == "len" {
-            write_count(output, "len", self.serial.len())
+            write_count(answers, "len", self.serial.len());
         } else if name == "left" {
-            write_left(output, &self.serial)
+            write_left(answers, &self.serial);
         } else if name == "leave" {
-            self.leave_serial(alloc, output)
+            self.leave_serial(alloc, answers);
         } else {
             return Ok(false);
-        };
-        understood(answered)
+        }
+        Ok(true)
     }
 
-    fn put_serial<W: Write>(&mut self, words: &[&str], output: &mut W) -> Result<bool, Halt> {
+    fn put_serial<W: Write>(
+        &mut self,
+        words: &[&str],
+        answers: &mut Answers<W>,
+    ) -> Result<bool, AllocError> {
         let Some(item) = self.item(words) else {
             return Ok(false);
         };
         put_with_retry(&mut self.serial, item)?;
-        understood(write_text(output, "put"))
+        answers.line("put");
+        Ok(true)
     }
 
-    fn leave_serial<W: Write>(&mut self, alloc: Global, output: &mut W) -> Result<(), Halt> {
+    fn leave_serial<W: Write>(&mut self, alloc: Global, answers: &mut Answers<W>) {
         let empty = SerialQueue::new(alloc);
         let queue = mem::replace(&mut self.serial, empty);
-        self.keep(Rest::Serial(queue), output)
+        self.keep(Rest::Serial(queue), answers);
     }
 
     fn queue_call<R: Wait, W: Write>(
@@ -130,32 +133,35 @@ impl Queues {
         alloc: Global,
         name: &str,
         words: &[&str],
-        output: &mut W,
-    ) -> Result<bool, Halt> {
+        answers: &mut Answers<W>,
+    ) -> Result<bool, AllocError> {
         if name == "open" {
-            self.open_queue(rt, alloc, words, output)
-        } else if name == "put" {
-            self.put_by(rt, words, output)
-        } else if name == "take" {
-            understood(self.take_from_queue(rt, output))
+            return self.open_queue(rt, alloc, words, answers);
+        }
+        if name == "put" {
+            return self.put_by(rt, words, answers);
+        }
+        if name == "take" {
+            self.take_from_queue(rt, answers);
         } else if name == "rejoin" {
-            understood(self.rejoin_queue(rt, output))
+            self.rejoin_queue(rt, answers);
         } else {
-            Ok(false)
+            return Ok(false);
         }
+        Ok(true)
     }
 
-    fn take_from_queue<R: Wait, W: Write>(&mut self, rt: &R, output: &mut W) -> Result<(), Halt> {
+    fn take_from_queue<R: Wait, W: Write>(&mut self, rt: &R, answers: &mut Answers<W>) {
         match &mut self.queue {
-            Some(ends) => write_taken(output, ends.take(rt)),
-            None => write_text(output, "no queue is open"),
+            Some(ends) => write_taken(answers, ends.take(rt)),
+            None => answers.line("no queue is open"),
         }
     }
 
-    fn rejoin_queue<R: Wait, W: Write>(&mut self, rt: &R, output: &mut W) -> Result<(), Halt> {
+    fn rejoin_queue<R: Wait, W: Write>(&mut self, rt: &R, answers: &mut Answers<W>) {
         match self.queue.take() {
-            Some(ends) => self.keep(Rest::Ruled(ends.rejoin(rt)), output),
-            None => write_text(output, "no queue is open"),
+            Some(ends) => self.keep(Rest::Ruled(ends.rejoin(rt)), answers),
+            None => answers.line("no queue is open"),
         }
     }
 
@@ -164,8 +170,8 @@ impl Queues {
         rt: &R,
         alloc: Global,
         words: &[&str],
-        output: &mut W,
-    ) -> Result<bool, Halt> {
+        answers: &mut Answers<W>,
+    ) -> Result<bool, AllocError> {
         let Some(feeders) = number_of(words) else {
             return Ok(false);
         };
@@ -173,7 +179,8 @@ impl Queues {
             return Ok(false);
         }
         self.queue = Some(QueueEnds::open(rt, alloc, feeders)?);
-        understood(write_count(output, "feeders", feeders as usize))
+        write_count(answers, "feeders", feeders as usize);
+        Ok(true)
     }
 
     /// A feeder puts an item.
@@ -181,8 +188,8 @@ impl Queues {
         &mut self,
         rt: &R,
         words: &[&str],
-        output: &mut W,
-    ) -> Result<bool, Halt> {
+        answers: &mut Answers<W>,
+    ) -> Result<bool, AllocError> {
         let [feeder, words @ ..] = words else {
             return Ok(false);
         };
@@ -192,11 +199,11 @@ impl Queues {
         let Some(item) = self.item(words) else {
             return Ok(false);
         };
-        let answered = match &mut self.queue {
-            Some(ends) => write_put(output, ends.put(rt, feeder, item)?),
-            None => write_text(output, "no queue is open"),
-        };
-        understood(answered)
+        match &mut self.queue {
+            Some(ends) => write_put(answers, ends.put(rt, feeder, item)?),
+            None => answers.line("no queue is open"),
+        }
+        Ok(true)
     }
 
     fn ring_call<W: Write>(
@@ -204,26 +211,31 @@ impl Queues {
         alloc: Global,
         name: &str,
         words: &[&str],
-        output: &mut W,
-    ) -> Result<bool, Halt> {
+        answers: &mut Answers<W>,
+    ) -> Result<bool, AllocError> {
         if name == "open" {
-            self.open_ring(alloc, words, output)
-        } else if name == "put" {
-            self.put_in_ring(words, output)
-        } else if name == "rejoin" {
-            understood(self.rejoin_ring(output))
-        } else {
-            match &mut self.ring {
-                Some(ends) => use_ring(ends, name, output),
-                None => understood(write_text(output, "no ring is open")),
+            return self.open_ring(alloc, words, answers);
+        }
+        if name == "put" {
+            return self.put_in_ring(words, answers);
+        }
+        if name == "rejoin" {
+            self.rejoin_ring(answers);
+            return Ok(true);
+        }
+        match &mut self.ring {
+            Some(ends) => Ok(use_ring(ends, name, answers)),
+            None => {
+                answers.line("no ring is open");
+                Ok(true)
             }
         }
     }
 
-    fn rejoin_ring<W: Write>(&mut self, output: &mut W) -> Result<(), Halt> {
+    fn rejoin_ring<W: Write>(&mut self, answers: &mut Answers<W>) {
         match self.ring.take() {
-            Some(ends) => self.keep(Rest::Ring(ends.rejoin()), output),
-            None => write_text(output, "no ring is open"),
+            Some(ends) => self.keep(Rest::Ring(ends.rejoin()), answers),
+            None => answers.line("no ring is open"),
         }
     }
 
@@ -231,8 +243,8 @@ impl Queues {
         &mut self,
         alloc: Global,
         words: &[&str],
-        output: &mut W,
-    ) -> Result<bool, Halt> {
+        answers: &mut Answers<W>,
+    ) -> Result<bool, AllocError> {
         let Some(slots) = number_of(words) else {
             return Ok(false);
         };
@@ -240,51 +252,62 @@ impl Queues {
             return Ok(false);
         }
         self.ring = Some(RingEnds::open(alloc, slots as usize)?);
-        understood(write_count(output, "slots", slots as usize))
+        write_count(answers, "slots", slots as usize);
+        Ok(true)
     }
 
-    fn put_in_ring<W: Write>(&mut self, words: &[&str], output: &mut W) -> Result<bool, Halt> {
+    fn put_in_ring<W: Write>(
+        &mut self,
+        words: &[&str],
+        answers: &mut Answers<W>,
+    ) -> Result<bool, AllocError> {
         let Some(item) = self.item(words) else {
             return Ok(false);
         };
-        let answered = match &mut self.ring {
+        match &mut self.ring {
             Some(ends) => {
                 ends.put(item)?;
-                write_text(output, "put")
+                answers.line("put");
             }
-            None => write_text(output, "no ring is open"),
-        };
-        understood(answered)
+            None => answers.line("no ring is open"),
+        }
+        Ok(true)
     }
 
     /// Keeps what was left, and answers how much it is.
-    fn keep<W: Write>(&mut self, rest: Rest, output: &mut W) -> Result<(), Halt> {
-        write_count(output, "left", rest.len())?;
+    fn keep<W: Write>(&mut self, rest: Rest, answers: &mut Answers<W>) {
+        write_count(answers, "left", rest.len());
         self.rest = Some(rest);
-        Ok(())
     }
 
     fn rest_call<R: Wait, W: Write>(
         &mut self,
         rt: &R,
         name: &str,
-        output: &mut W,
-    ) -> Result<bool, Halt> {
+        answers: &mut Answers<W>,
+    ) -> Result<bool, AllocError> {
         if name == "len" {
-            understood(write_rest(output, &self.rest))
+            write_rest(answers, &self.rest);
         } else if name == "serial" {
-            understood(self.rest_to_serial(rt, output))
+            self.rest_to_serial(rt, answers)?;
         } else {
-            Ok(false)
+            return Ok(false);
         }
+        Ok(true)
     }
 
-    fn rest_to_serial<R: Wait, W: Write>(&mut self, rt: &R, output: &mut W) -> Result<(), Halt> {
+    fn rest_to_serial<R: Wait, W: Write>(
+        &mut self,
+        rt: &R,
+        answers: &mut Answers<W>,
+    ) -> Result<(), AllocError> {
         let Some(rest) = self.rest.take() else {
-            return write_text(output, "nothing is left");
+            answers.line("nothing is left");
+            return Ok(());
         };
         self.serial = serial_of(rt, rest)?;
-        write_count(output, "len", self.serial.len())
+        write_count(answers, "len", self.serial.len());
+        Ok(())
     }
 }
 
@@ -299,15 +322,35 @@ fn put_with_retry(queue: &mut SerialQueue, item: Item) -> Result<(), AllocError>
     }
 }
 
-fn meant_of(kind: &str) -> &'static str {
-    if kind == "serial" {
-        SERIAL
-    } else if kind == "queue" {
-        QUEUE
-    } else if kind == "ring" {
-        RING
+/// What a call is on.
+#[derive(Clone, Copy)]
+enum Kind {
+    Serial,
+    Queue,
+    Ring,
+    Rest,
+}
+
+fn kind_of(word: &str) -> Option<Kind> {
+    if word == "serial" {
+        Some(Kind::Serial)
+    } else if word == "queue" {
+        Some(Kind::Queue)
+    } else if word == "ring" {
+        Some(Kind::Ring)
+    } else if word == "rest" {
+        Some(Kind::Rest)
     } else {
-        REST
+        None
+    }
+}
+
+fn meant_by(kind: Kind) -> &'static str {
+    match kind {
+        Kind::Serial => SERIAL,
+        Kind::Queue => QUEUE,
+        Kind::Ring => RING,
+        Kind::Rest => REST,
     }
 }
 
@@ -328,54 +371,54 @@ fn serial_of<R: Wait>(rt: &R, rest: Rest) -> Result<SerialQueue, AllocError> {
 }
 
 /// `ring take` and `ring flush`.
-fn use_ring<W: Write>(ends: &mut RingEnds, name: &str, output: &mut W) -> Result<bool, Halt> {
+fn use_ring<W: Write>(ends: &mut RingEnds, name: &str, answers: &mut Answers<W>) -> bool {
     if name == "take" {
-        understood(write_taken(output, ends.take()))
+        write_taken(answers, ends.take());
     } else if name == "flush" {
-        let text = if ends.flush() {
+        answers.line(if ends.flush() {
             "nothing waits for room"
         } else {
             "items wait for room"
-        };
-        understood(write_text(output, text))
+        });
     } else {
-        Ok(false)
+        return false;
     }
+    true
 }
 
-fn write_count<W: Write>(output: &mut W, what: &str, count: usize) -> Result<(), Halt> {
-    writeln!(output, "{what} {count}")?;
-    Ok(())
+fn write_count<W: Write>(answers: &mut Answers<W>, what: &str, count: usize) {
+    answers.text(what);
+    answers.text(" ");
+    answers.number_line(count as u64);
 }
 
-fn write_rest<W: Write>(output: &mut W, rest: &Option<Rest>) -> Result<(), Halt> {
+fn write_rest<W: Write>(answers: &mut Answers<W>, rest: &Option<Rest>) {
     match rest {
-        Some(rest) => write_count(output, "len", rest.len()),
-        None => write_text(output, "nothing is left"),
+        Some(rest) => write_count(answers, "len", rest.len()),
+        None => answers.line("nothing is left"),
     }
 }
 
-fn write_put<W: Write>(output: &mut W, is_put: bool) -> Result<(), Halt> {
-    write_text(output, if is_put { "put" } else { "no such feeder" })
+fn write_put<W: Write>(answers: &mut Answers<W>, is_put: bool) {
+    answers.line(if is_put { "put" } else { "no such feeder" });
 }
 
-fn write_taken<W: Write>(output: &mut W, item: Option<Item>) -> Result<(), Halt> {
+fn write_taken<W: Write>(answers: &mut Answers<W>, item: Option<Item>) {
     match item {
         Some(item) => {
-            write!(output, "took ")?;
-            write_origin(output, item.origin)?;
-            writeln!(output)?;
+            answers.text("took ");
+            write_origin(answers, item.origin);
+            answers.line("");
         }
-        None => writeln!(output, "none")?,
+        None => answers.line("none"),
     }
-    Ok(())
 }
 
-fn write_left<W: Write>(output: &mut W, queue: &SerialQueue) -> Result<(), Halt> {
-    write!(output, "left")?;
+fn write_left<W: Write>(answers: &mut Answers<W>, queue: &SerialQueue) {
+    answers.text("left");
     for item in queue.left() {
-        write!(output, " ")?;
-        write_origin(output, item.origin)?;
+        answers.text(" ");
+        write_origin(answers, item.origin);
     }
-    write_text(output, "")
+    answers.line("");
 }

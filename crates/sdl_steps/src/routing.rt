@@ -1,13 +1,13 @@
 //! The calls on routes: `routes`, `route N`, `next ROUTE [STATION]` and `choose SOURCE SIGNAL GOAL VIA PICK`.
-use crate::calls::{Call, Halt, understood, write_meant};
+use crate::answers::Answers;
+use crate::calls::{Call, write_meant};
 use crate::naming::{
-    channel_name, gate_name, goal_of, signal_name, signal_of, source_of, station_of, via_of,
+    gate_name, goal_of, set_name, signal_name, signal_of, source_of, station_of, via_of,
 };
-use crate::texts::write_station;
+use crate::texts::{write_path, write_station};
 use sdl_parts::Structure;
 use sdl_routes::{EndPoint, Hop, Route, Routes, Station, Wish};
 use sdl_signal::{GateId, RouteId};
-use std::io;
 use std::io::Write;
 
 const CHOOSE: &str = "choose SOURCE SIGNAL GOAL VIA PICK";
@@ -21,24 +21,24 @@ pub fn call_routes<W: Write>(
     routes: &Routes,
     structure: &Structure,
     call: Call,
-    output: &mut W,
-) -> Result<bool, Halt> {
+    answers: &mut Answers<W>,
+) -> bool {
     let [name, words @ ..] = call.words else {
-        return Ok(false);
+        return false;
     };
     let line = call.line;
-    let answered = if *name == "routes" {
-        write_routes(output, structure, routes)
+    if *name == "routes" {
+        write_routes(answers, structure, routes);
     } else if *name == "route" {
-        route_call(routes, structure, line, words, output)
+        route_call(routes, structure, line, words, answers);
     } else if *name == "next" {
-        next_call(routes, structure, line, words, output)
+        next_call(routes, structure, line, words, answers);
     } else if *name == "choose" {
-        choose_call(routes, structure, line, words, output)
+        choose_call(routes, structure, line, words, answers);
     } else {
-        return Ok(false);
-    };
-    understood(answered)
+        return false;
+    }
+    true
 }
 
 /// `choose`: the route that is chosen, or `none`.
@@ -47,16 +47,15 @@ fn choose_call<W: Write>(
     structure: &Structure,
     line: u32,
     words: &[&str],
-    output: &mut W,
-) -> Result<(), Halt> {
+    answers: &mut Answers<W>,
+) {
     let Some((wish, pick)) = wish_of(structure, words) else {
-        return write_meant(output, line, CHOOSE);
+        return write_meant(answers, line, CHOOSE);
     };
     match routes.choose(&wish, pick) {
-        Some(route) => writeln!(output, "{}", route.0)?,
-        None => writeln!(output, "none")?,
+        Some(route) => answers.number_line(route.0 as u64),
+        None => answers.line("none"),
     }
-    Ok(())
 }
 
 /// A wish and a pick by the words of a call.
@@ -79,17 +78,18 @@ fn next_call<W: Write>(
     structure: &Structure,
     line: u32,
     words: &[&str],
-    output: &mut W,
-) -> Result<(), Halt> {
+    answers: &mut Answers<W>,
+) {
     let Some((route, after)) = place_of(structure, words) else {
-        return write_meant(output, line, NEXT);
+        return write_meant(answers, line, NEXT);
     };
     match routes.next(route, after) {
-        Some(station) => write_station(output, structure, station)?,
-        None => write!(output, "none")?,
+        Some(station) => {
+            write_station(answers, structure, station);
+            answers.line("");
+        }
+        None => answers.line("none"),
     }
-    writeln!(output)?;
-    Ok(())
 }
 
 /// A route, and a station where one is given.
@@ -110,84 +110,80 @@ fn route_call<W: Write>(
     structure: &Structure,
     line: u32,
     words: &[&str],
-    output: &mut W,
-) -> Result<(), Halt> {
+    answers: &mut Answers<W>,
+) {
     let Some((number, None)) = place_of(structure, words) else {
-        return write_meant(output, line, ROUTE);
+        return write_meant(answers, line, ROUTE);
     };
     match routes.get(number) {
-        Some(route) => write_stations(output, structure, route)?,
-        None => write!(output, "none")?,
+        Some(route) => write_stations(answers, structure, route),
+        None => answers.line("none"),
     }
-    writeln!(output)?;
-    Ok(())
 }
 
-fn write_stations<W: Write>(
-    output: &mut W,
-    structure: &Structure,
-    route: &Route,
-) -> io::Result<()> {
-    match route.end {
-        EndPoint::Set(set) => write!(output, "to {}", crate::naming::set_name(structure, set))?,
-        EndPoint::Environment(gate) => {
-            write!(output, "to")?;
-            write_gate(output, structure, gate)?;
-        }
-    }
-    write!(output, " by")?;
+fn write_stations<W: Write>(answers: &mut Answers<W>, structure: &Structure, route: &Route) {
+    answers.text("to");
+    write_end(answers, structure, route.end);
+    answers.text(" by");
     for station in route.stations.as_slice() {
-        write!(output, " ")?;
-        write_station(output, structure, *station)?;
+        answers.text(" ");
+        write_station(answers, structure, *station);
     }
-    Ok(())
+    answers.line("");
+}
+
+/// Writes where a route ends: its set, or its gate.
+fn write_end<W: Write>(answers: &mut Answers<W>, structure: &Structure, end: EndPoint) {
+    match end {
+        EndPoint::Set(set) => {
+            answers.text(" ");
+            answers.text(set_name(structure, set));
+        }
+        EndPoint::Environment(gate) => write_gate(answers, structure, gate),
+    }
 }
 
 /// Writes all routes by number, and how many there are.
-fn write_routes<W: Write>(
-    output: &mut W,
-    structure: &Structure,
-    routes: &Routes,
-) -> Result<(), Halt> {
+fn write_routes<W: Write>(answers: &mut Answers<W>, structure: &Structure, routes: &Routes) {
     let mut number = 0u32;
     for _ in 0..routes.len() {
         if let Some(route) = routes.get(RouteId(number)) {
-            write_route(output, structure, number, route)?;
+            write_route(answers, structure, number, route);
         }
         number = number.saturating_add(1);
     }
-    writeln!(output, "routes {}", routes.len())?;
-    Ok(())
+    answers.text("routes ");
+    answers.number_line(routes.len() as u64);
 }
 
 /// Writes a route as the command `routes` does: its number, its signal, the gate where it starts, its hops, and the gate where
 /// it ends.
 fn write_route<W: Write>(
-    output: &mut W,
+    answers: &mut Answers<W>,
     structure: &Structure,
     number: u32,
     route: &Route,
-) -> io::Result<()> {
-    write!(output, "{number} {}", signal_name(structure, route.signal))?;
-    write_gate(output, structure, route.start)?;
-    write_hops(output, structure, route.hops.as_slice())?;
-    write_gate(output, structure, route.end_gate)?;
-    writeln!(output)
+) {
+    answers.number(number as u64);
+    answers.text(" ");
+    answers.text(signal_name(structure, route.signal));
+    write_gate(answers, structure, route.start);
+    write_hops(answers, structure, route.hops.as_slice());
+    write_gate(answers, structure, route.end_gate);
+    answers.line("");
 }
 
-fn write_hops<W: Write>(output: &mut W, structure: &Structure, hops: &[Hop]) -> io::Result<()> {
+fn write_hops<W: Write>(answers: &mut Answers<W>, structure: &Structure, hops: &[Hop]) {
     for hop in hops {
-        write_hop(output, structure, *hop)?;
+        answers.text(" ");
+        write_path(answers, structure, *hop);
     }
-    Ok(())
 }
 
-fn write_gate<W: Write>(output: &mut W, structure: &Structure, gate: GateId) -> io::Result<()> {
+fn write_gate<W: Write>(answers: &mut Answers<W>, structure: &Structure, gate: GateId) {
     let (agent, gate) = gate_name(structure, gate);
-    write!(output, " {agent}.{gate}")
-}
-
-fn write_hop<W: Write>(output: &mut W, structure: &Structure, hop: Hop) -> io::Result<()> {
-    let channel = channel_name(structure, hop.channel);
-    write!(output, " {channel}{}", if hop.back { "-" } else { "+" })
+    answers.text(" ");
+    answers.text(agent);
+    answers.text(".");
+    answers.text(gate);
 }
