@@ -1,3 +1,4 @@
 pub mod Merely
 pub mod Ends
 pub mod Examples
+pub mod Breaches

@@ -1,1 +1,2 @@
 pub mod Stay
+pub mod Breaches

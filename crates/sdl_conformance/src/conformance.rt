@@ -62,7 +62,7 @@ fn is_output_of(outputs: &[OfferedOutput], sets: u32, signal: &Signal, to: Dest,
         && is_legal_dest(sets as usize, to)
 }
 
-fn is_action_of(offer: &Offer, action: &Action) -> bool
+pub(crate) fn is_action_of(offer: &Offer, action: &Action) -> bool
     ensures { IsTrue result ↔ IsActionOf offer.now action.now }
 {
     match action {
@@ -83,7 +83,7 @@ fn are_actions_of(offer: &Offer, actions: &[Action]) -> bool
     actions.iter().all(|action| is_action_of(offer, action))
 }
 
-fn is_next_of(offer: &Offer, next: Next) -> bool
+pub(crate) fn is_next_of(offer: &Offer, next: Next) -> bool
     ensures { IsTrue result ↔ IsNextOf offer.now next }
 {
     match next {
