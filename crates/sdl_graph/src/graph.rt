@@ -1,13 +1,14 @@
 //! A process graph, and what its transitions answer.
-ghost use Rattle.std.specs.Prelude.{ℕ, IsTrue, ◌↔◌};
+ghost use Rattle.std.specs.Prelude.{ℕ, IsTrue, ◌↔◌, IsNone, IfSome};
 ghost use Rattle.sdl_behaviour.specs.declared.step.Frame.{Frame as AFrame};
 ghost use Rattle.sdl_behaviour.specs.declared.step.Step.{Step as AStep};
 ghost use Rattle.sdl_behaviour.specs.Offers.{IsBlank, IsFrameOf, Conforms};
 ghost use Rattle.sdl_conformance.specs.Stay.{CanEnd};
+ghost use Rattle.sdl_conformance.specs.Breaches.{IsFirstBroken};
 ghost use Rattle.sdl_graph.specs.Answers.{IsKept};
 
 use sdl_behaviour::{Frame, Offer, Step};
-use sdl_conformance::{conforms, kept, stay};
+use sdl_conformance::{Breach, conforms, first_broken, kept, stay};
 
 /// What a designer writes of a system's agents: for the number of each transition what it offers and what it does. There
 /// is nothing to prove. (This project's own.)
@@ -42,15 +43,18 @@ pub fn answer<G: Graph>(number: u32, offer: &Offer, frame: &Frame) -> Step
     kept(offer, frame, G::step(number, frame))
 }
 
-/// Whether the step conforms to the offer. Where it does not, the step that does nothing is put in its place.
-pub fn judge(offer: &Offer, frame: &Frame, step: &mut Step) -> bool
+/// What of the step the offer does not allow, where the step does not conform to it. Then the step that does nothing is put in its
+/// place.
+pub fn judge(offer: &Offer, frame: &Frame, step: &mut Step) -> Option<Breach>
     ensures kept { IsKept offer.now frame.now step.old step.new }
-    ensures exact { IsTrue result ↔ Conforms offer.now step.old }
+    ensures exact { IsNone result ↔ Conforms offer.now step.old }
+    ensures first { IfSome result (IsFirstBroken offer.now step.old) }
     ensures conforms { IsFrameOf offer.now frame.now → CanEnd offer.now → Conforms offer.now step.new }
 {
-    let meets = conforms(offer, step);
-    if !meets {
-        *step = stay(offer, frame);
+    if conforms(offer, step) {
+        return None;
     }
-    meets
+    let breach = first_broken(offer, step);
+    *step = stay(offer, frame);
+    breach
 }

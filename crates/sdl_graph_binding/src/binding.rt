@@ -9,6 +9,7 @@ ghost use Rattle.sdl_graph_binding.specs.Transitions.{transitions_in, all_transi
 
 use crate::agents::GraphAgents;
 use crate::faults::GraphFault;
+use crate::misfits::misfit_of;
 use crate::set_behaviour::{set_named, take_first, with_rows, with_saves, with_states, with_uses};
 use crate::sets::{Design, SetDesign, Use};
 use arrayvec::ArrayVec;
@@ -171,7 +172,11 @@ fn bound_of<G: Graph>(
 {
     match bind(alloc, checked, routes, behaviours) {
         Ok(bound) => Ok(bound),
-        Err(unbound) => Err(GraphFault::Bind(unbound.fault)),
+        Err(unbound) => {
+            let structure = unbound.checked.structure();
+            let misfit = misfit_of(structure, unbound.behaviours.as_slice(), unbound.fault);
+            Err(GraphFault::Bind(unbound.fault, misfit))
+        }
     }
 }
 

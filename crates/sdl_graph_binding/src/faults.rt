@@ -1,4 +1,5 @@
 //! Why a graph does not fit a structure.
+use crate::misfits::Misfit;
 use sdl_signal::SetId;
 use sdl_transition::BindFault;
 use std::alloc::{AllocError, AllocFailed};
@@ -28,8 +29,8 @@ pub enum GraphFault {
     ManySaves(SetId),
     /// The graph has more transitions than the sets of the design.
     ManyTransitions,
-    /// A fault of binding.
-    Bind(BindFault),
+    /// A fault of binding, and the first part that has it.
+    Bind(BindFault, Option<Misfit>),
     /// Memory was refused.
     Memory,
 }

@@ -1,13 +1,14 @@
 //! Which transitions broke their offers in a run.
+use sdl_conformance::Breach;
 use std::alloc::{AllocError, Global};
-use std::sync::Arc;
 use std::sync::atomic::{AtomicU64, Ordering};
+use std::sync::{Arc, OnceLock};
 
-/// The two counts behind all shares of the marks.
+/// What is behind all shares of the marks.
 #[derive(Drop)]
 struct Counts {
-    /// The number of the first transition that broke its offer, and 1 more; 0 before any did.
-    first: AtomicU64,
+    /// The number of the first transition that broke its offer, and what of its step the offer does not allow.
+    first: OnceLock<(u32, Breach)>,
     broken: AtomicU64,
 }
 
@@ -23,6 +24,8 @@ pub struct Marks {
 pub struct Broken {
     /// The number of the transition that broke its offer first.
     pub first: u32,
+    /// What of its step its offer did not allow.
+    pub breach: Breach,
     /// How many answers broke their offers.
     pub count: u64,
 }
@@ -31,7 +34,7 @@ impl Marks {
     /// Marks without a broken answer.
     pub fn new(alloc: Global) -> Result<Marks, AllocError> {
         let counts = Counts {
-            first: AtomicU64::new(0),
+            first: OnceLock::new(),
             broken: AtomicU64::new(0),
         };
         Ok(Marks {
@@ -46,23 +49,21 @@ impl Marks {
         })
     }
 
-    /// Marks an answer of the transition of this number, which breaks its offer.
-    pub fn note(&self, number: u32) {
-        let own = number as u64 + 1;
-        let _ = self
-            .counts
-            .first
-            .compare_exchange(0, own, Ordering::SeqCst, Ordering::SeqCst);
+    /// Marks an answer of the transition of this number, which breaks its offer so. No memory is taken.
+    pub fn note(&self, number: u32, breach: Breach) {
+        // one that is not the first is only counted
+        let _ = self.counts.first.try_set((number, breach));
         self.counts.broken.fetch_add(1, Ordering::SeqCst);
     }
 
     /// What was marked so far, and None where nothing was.
     pub fn broken(&self) -> Option<Broken> {
         let count = self.counts.broken.load(Ordering::SeqCst);
-        let first = self.counts.first.load(Ordering::SeqCst);
-        match u32::try_from(first.checked_sub(1)?) {
-            Ok(first) => Some(Broken { first, count }),
-            Err(_) => None,
-        }
+        let (first, breach) = *self.counts.first.get()?;
+        Some(Broken {
+            first,
+            breach,
+            count,
+        })
     }
 }

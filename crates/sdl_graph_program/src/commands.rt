@@ -11,6 +11,7 @@ use crate::words::{PlainWords, plain_words};
 use sdl_command::arguments::{Arguments, Command, Options, read_arguments};
 use sdl_command::errors::{without_memory, write_error};
 use sdl_command::status::{REFUSED, WRONG_ARGUMENTS};
+use sdl_explaining::explain;
 use sdl_file_commands::commands::{check_command, checked_file, routes_command, routes_in};
 use sdl_file_commands::files::{FileRead, read_file};
 use sdl_file_commands::words::{words_behind_the_name, words_of};
@@ -85,7 +86,8 @@ fn prepare_asked<W: Write, E: Write>(
     ensures refused { IfErr result (λ status. status ≡ 1 → output.new ≡ output.old) }
     ensures silent { IfErr result (λ status. status ≡ 0 → Keeps (E.contents errors.old) (E.contents errors.new)) }
 {
-    let Some(checked) = checked_file(alloc, file, errors) else {
+    let Some(checked) = checked_file(alloc, file, &mut *errors) else {
+        explain(alloc, file, errors);
         return Err(REFUSED);
     };
     match options.command {

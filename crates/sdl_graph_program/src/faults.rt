@@ -1,11 +1,15 @@
 //! The texts of the faults of a graph.
+use crate::misfitting::MisfitPart;
 use crate::numbering::Numbered;
 use sdl_command::errors::{without_memory, write_error};
 use sdl_file_commands::faults::write_bind_fault;
 use sdl_graph_binding::{Design, GraphFault};
+use sdl_signal::SetId;
+use sdl_transition::BindFault;
 use std::io::Write;
 
-/// Writes why a graph does not run, as one line. A line that is not taken is dropped.
+/// Writes why a graph does not run, as one line, and for a fault of binding the part that has it as a second. A line that is not
+/// taken is dropped.
 pub fn write_graph_fault<E: Write>(errors: &mut E, design: &Design, fault: GraphFault) {
     match fault {
         GraphFault::NoOffer(number) => {
@@ -43,8 +47,34 @@ pub fn write_graph_fault<E: Write>(errors: &mut E, design: &Design, fault: Graph
             write_error(errors, format_args!("G11 ManySaves set {}", set.0))
         }
         GraphFault::ManyTransitions => write_error(errors, "G10 ManyTransitions"),
-        GraphFault::Bind(fault) => write_bind_fault(errors, fault),
+        GraphFault::Bind(fault, misfit) => {
+            write_bind_fault(errors, fault);
+            if let (Some(set), Some(misfit)) = (set_of(fault), misfit) {
+                let part = MisfitPart {
+                    design,
+                    set,
+                    misfit,
+                };
+                write_error(errors, format_args!("{part}"));
+            }
+        }
         GraphFault::Memory => without_memory(errors),
+    }
+}
+
+/// The set that a fault of binding names.
+fn set_of(fault: BindFault) -> Option<SetId> {
+    match fault {
+        BindFault::NoBehaviour(set)
+        | BindFault::TwoBehaviours(set)
+        | BindFault::WrongName(set)
+        | BindFault::UndeclaredOutput(set)
+        | BindFault::UndeclaredGate(set)
+        | BindFault::UnknownState(set)
+        | BindFault::WrongSorts(set)
+        | BindFault::CreateElsewhere(set)
+        | BindFault::TwoRows(set) => Some(set),
+        BindFault::Memory => None,
     }
 }
 

@@ -3,8 +3,11 @@
 #![tactic(auto)]
 
 pub mod audited;
+mod breaking;
 pub mod commands;
 mod faults;
+mod misfitting;
+mod naming;
 pub mod numbering;
 pub mod runs;
 mod words;

@@ -7,6 +7,7 @@ ghost use Rattle.sdl_driver.specs.Closings.{plan_of_bound};
 ghost use Rattle.sdl_graph_program.specs.Outcomes.{HasMadeAudited, HasRunGraphOrNot};
 
 use crate::audited::run_audited;
+use crate::breaking::BrokenPart;
 use crate::commands::Prepared;
 use crate::faults::write_graph_fault;
 use crate::numbering::Numbered;
@@ -35,7 +36,7 @@ pub fn refused<E: Write>(errors: &mut E, design: &Design, fault: GraphFault) -> 
 
 /// Binds the stored transitions to the structure and runs the agents, and answers the exit status: the first refusal, also of
 /// what was to be stored, or how the run ended. Where a transition broke its offer, a line of standard error names the first, with the number of
-/// answers that broke theirs. The logs are stored where a trace or an audit was asked for, and else counted alone.
+/// answers that broke theirs. A second one says what the offer of the first does not allow. The logs are stored where a trace or an audit was asked for, and else counted alone.
 #[tactic(auto, unfolding(sdl_file_commands::specs::Running::CanRun))]
 pub fn run_prepared<G: Graph + Send, T: Threads + Wait + Sync, R: Read, W: Write, E: Write>(
     rt: &T,
@@ -100,7 +101,7 @@ fn run_marked<G: Graph + Send, T: Threads + Wait + Sync, R: Read, W: Write, E: W
     if status == REFUSED {
         return REFUSED;
     }
-    report_broken(status, design, marks.broken(), errors)
+    report_broken::<G, E>(status, design, marks.broken(), errors)
 }
 
 /// Runs a system that is bound, with its structure's budget and with an audit of what it leaves where that is asked for, and answers
@@ -128,8 +129,9 @@ pub fn run_told<S: Agents + Send + Drop, T: Threads + Wait + Sync, R: Read, W: W
     }
 }
 
-/// Writes which transition broke its offer first, and how many answers did, where one did, and answers the exit status.
-fn report_broken<E: Write>(
+/// Writes which transition broke its offer first, and how many answers did, where one did, and answers the exit status. A second
+/// line says what of its step the offer does not allow.
+fn report_broken<G: Graph, E: Write>(
     status: u8,
     design: &Design,
     broken: Option<Broken>,
@@ -141,16 +143,31 @@ fn report_broken<E: Write>(
 {
     match broken {
         None => status,
-        Some(Broken { first, count }) => {
-            let transition = Numbered {
-                design,
-                number: first,
-            };
-            write_error(
-                errors,
-                format_args!("broken offer transition {transition} answers {count}"),
-            );
+        Some(broken) => {
+            write_broken::<G, E>(design, broken, errors);
             BROKEN
         }
     }
+}
+
+/// Writes both lines of a broken offer.
+fn write_broken<G: Graph, E: Write>(design: &Design, broken: Broken, errors: &mut E) {
+    let Broken {
+        first: number,
+        breach,
+        count,
+    } = broken;
+    let transition = Numbered { design, number };
+    write_error(
+        errors,
+        format_args!("broken offer transition {transition} answers {count}"),
+    );
+    let offer = G::offer(number);
+    let part = BrokenPart {
+        design,
+        number,
+        offer: &offer,
+        breach,
+    };
+    write_error(errors, format_args!("{part}"));
 }

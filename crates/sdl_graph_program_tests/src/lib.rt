@@ -4,6 +4,8 @@
 #[cfg(test)]
 mod echo;
 #[cfg(test)]
+mod explained;
+#[cfg(test)]
 mod graphs;
 #[cfg(test)]
 mod office;

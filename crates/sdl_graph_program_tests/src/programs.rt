@@ -62,14 +62,14 @@ const TRIALS: [Trial; 7] = [
         start: MENDED,
         ..WHOLE
     },
-    // The answers that break their offer do nothing. The run goes on, and its status and one line say so.
+    // The answers that break their offer do nothing. The run goes on, and its status and two lines say so.
     Trial {
         start: MUTE,
         books: false,
         lines: PINGS,
         status: BROKEN,
         output: b"",
-        errors: b"broken offer transition 3 answers 2\n",
+        errors: b"broken offer transition 3 answers 2\ntransition 3 in state 0 on ping: its offer has no output pong via any\n",
     },
     // A broken offer is told after a fault of the input.
     Trial {
@@ -78,7 +78,7 @@ const TRIALS: [Trial; 7] = [
         lines: b"line ping 7\nline\n",
         status: 4,
         output: b"",
-        errors: b"input line 2: L3 Missing\nbroken offer transition 3 answers 1\n",
+        errors: b"input line 2: L3 Missing\nbroken offer transition 3 answers 1\ntransition 3 in state 0 on ping: its offer has no output pong via any\n",
     },
     // A number without an offer is not stored, and nothing is run.
     Trial {

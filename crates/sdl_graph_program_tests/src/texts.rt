@@ -1,7 +1,10 @@
 //! The texts of a design's own faults.
 use super::echo::{DESIGN, SET};
+use sdl_graph_binding::Misfit;
 use sdl_graph_program::numbering::{Numbered, numbered_in};
-use sdl_graph_program::{Design, GraphFault, SetDesign, SetId, refused};
+use sdl_graph_program::{
+    Design, GateId, GraphFault, Kind, SetDesign, SetId, SignalId, StateId, refused,
+};
 use sdl_transition::BindFault;
 use std::test::Fail;
 
@@ -80,14 +83,94 @@ fn each_fault_has_its_text(rt: HostRuntime) -> Result<(), Fail> {
         (GraphFault::ManyTransitions, "G10 ManyTransitions\n"),
         (GraphFault::ManySaves(SetId(1)), "G11 ManySaves set 1\n"),
         (
-            GraphFault::Bind(BindFault::WrongName(SetId(0))),
+            GraphFault::Bind(BindFault::WrongName(SetId(0)), None),
             "B3 WrongName set 0\n",
+        ),
+        (
+            GraphFault::Bind(BindFault::NoBehaviour(SetId(1)), None),
+            "B1 NoBehaviour set 1\n",
         ),
         (GraphFault::Memory, "memory\n"),
     ] {
         let mut errors: Vec<u8> = Vec::new(rt.alloc());
         assert!(rt; refused(&mut errors, &DESIGN, fault) == 1);
         assert!(rt; errors.as_slice() == wanted.as_bytes());
+    }
+    Ok(())
+}
+
+/// The part of the design that has the fault stands in a second line.
+#[test]
+fn each_misfit_has_its_text(rt: HostRuntime) -> Result<(), Fail> {
+    let (idle, pong) = (StateId(0), SignalId(1));
+    for (misfit, wanted) in [
+        (
+            Misfit::Named(Kind::Signal, 1),
+            "signal 1 is pong here, and has another name in the file\n",
+        ),
+        (
+            Misfit::Absent(Kind::Gate, 7),
+            "gate 7 is gate 7 here, and is not in the file\n",
+        ),
+        (
+            Misfit::Unmeant(Kind::Signal, 2),
+            "signal 2 is not among the uses\n",
+        ),
+        (
+            Misfit::Unused(1, Kind::Channel, 4),
+            "transition 1 (E row 1): channel 4 is not among the uses\n",
+        ),
+        (
+            Misfit::Sets(0, 3),
+            "transition 0 (E start): its offer says 3 sets\n",
+        ),
+        (
+            Misfit::Output(1, pong),
+            "transition 1 (E row 1): no gate of E has pong outward\n",
+        ),
+        (
+            Misfit::OtherGate(1, pong, GateId(5)),
+            "transition 1 (E row 1): pong via gate 5, gate 5, which is none of E\n",
+        ),
+        (
+            Misfit::Gate(1, pong, GateId(5)),
+            "transition 1 (E row 1): gate 5, gate 5, does not have pong outward\n",
+        ),
+        (
+            Misfit::State(1, StateId(3)),
+            "transition 1 (E row 1): state 3 is past the list of states\n",
+        ),
+        (
+            Misfit::SavingState(StateId(3)),
+            "state 3 saves, and is past the list of states\n",
+        ),
+        (
+            Misfit::Signal(1, pong),
+            "transition 1 (E row 1): pong has other sorts in the file\n",
+        ),
+        (
+            Misfit::Variables(0),
+            "transition 0 (E start): its offer has other sorts than the variables\n",
+        ),
+        (
+            Misfit::InitialPid(2),
+            "variable 2 is a Pid other than Null\n",
+        ),
+        (
+            Misfit::Create(1, SetId(4)),
+            "transition 1 (E row 1): set 4 lies in another block than E\n",
+        ),
+        (Misfit::TwoRows(idle, pong), "two rows for idle and pong\n"),
+        (
+            Misfit::SavedTwice(idle, pong),
+            "idle saves pong, and has it once more\n",
+        ),
+    ] {
+        let mut errors: Vec<u8> = Vec::new(rt.alloc());
+        let fault = GraphFault::Bind(BindFault::WrongSorts(SetId(0)), Some(misfit));
+        assert!(rt; refused(&mut errors, &DESIGN, fault) == 1);
+        let both = format!(in rt.alloc(); "B7 WrongSorts set 0\n{wanted}")?;
+        assert!(rt; errors.as_slice() == both.as_bytes());
     }
     Ok(())
 }

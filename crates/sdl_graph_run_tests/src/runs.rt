@@ -2,7 +2,7 @@
 ghost use Rattle.sdl_transition.specs.Bound.{IsBound};
 
 use super::graphs::Graphs;
-use super::wheel::{BROKEN, DESIGN, FAULTY, SOUND, TRANSITIONS, WHEEL};
+use super::wheel::{BREACH, BROKEN, DESIGN, FAULTY, SOUND, TRANSITIONS, WHEEL};
 use sdl_behaviour::{Frame, Run};
 use sdl_graph_binding::{Broken, GraphAgents, GraphFault, Marks, Stored, bind_graph};
 use sdl_graph_run::run_graph;
@@ -134,6 +134,7 @@ const LOOKS: &[u8] = b"g turn\ng look\ng turn\ng look\ng look\ng turn\ng look\n"
 fn assert_marked(rt: &impl Abort, ran: &Ran) {
     let broken = Some(Broken {
         first: BROKEN,
+        breach: BREACH,
         count: 2,
     });
     assert!(rt; ran.output.as_slice() == b"g at 1 1\ng at 3 3\n".as_slice());

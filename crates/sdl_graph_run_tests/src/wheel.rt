@@ -1,5 +1,6 @@
 //! A wheel of 16 positions, its structure, and a wheel with a broken offer.
 use sdl_behaviour::{Dest, Frame, Kind, Offer, Step, Via};
+use sdl_conformance::Breach;
 use sdl_graph::{OfferBuilder, StepBuilder, integer_variable, no_offer, no_step};
 use sdl_graph_binding::{Design, SetDesign};
 use sdl_signal::{SignalId, Sort, StateId, Value};
@@ -164,6 +165,9 @@ pub const FAULTY: u32 = TRANSITIONS;
 
 /// The number of the transition whose offer is broken.
 pub const BROKEN: u32 = FAULTY + 9;
+
+/// What it does not offer.
+pub const BREACH: Breach = Breach::Output(AT, Via::Any);
 
 /// The offers of both wheels, from 0 on.
 pub fn offer(number: u32) -> Offer {

@@ -1,8 +1,10 @@
 //! What marked answers are, and what is marked.
-use super::breaking::{CONFORMING, NUMBERS, breaking_frame, offer, step};
+use super::breaking::{CONFORMING, NUMBERS, breach, breaking_frame, offer, step};
 use sdl_behaviour::{Next, Step};
+use sdl_conformance::{Breach, first_broken};
+use sdl_graph::{StepBuilder, no_step};
 use sdl_graph_binding::{Broken, Marks, keep_to_offer};
-use sdl_signal::StateId;
+use sdl_signal::{SetId, SignalId, StateId, Value};
 use std::test::Fail;
 
 /// The answer of this number, kept to its offer.
@@ -38,6 +40,7 @@ fn a_broken_answer_does_nothing(rt: HostRuntime) -> Result<(), Fail> {
         assert!(rt; answer.next == Next::State(StateId(0)));
         let wanted = Some(Broken {
             first: number,
+            breach: breach(number),
             count: 1,
         });
         assert_eq!(rt; marks.broken(), wanted, "transition {number}");
@@ -54,7 +57,11 @@ fn the_first_is_named_and_all_are_counted(rt: HostRuntime) -> Result<(), Fail> {
         let own = if number == 3 { &share } else { &marks };
         let _step = kept_answer(number, own);
     }
-    let wanted = Some(Broken { first: 9, count: 4 });
+    let wanted = Some(Broken {
+        first: 9,
+        breach: breach(9),
+        count: 4,
+    });
     assert!(rt; marks.broken() == wanted);
     assert!(rt; share.broken() == wanted);
     Ok(())
@@ -64,12 +71,30 @@ fn the_first_is_named_and_all_are_counted(rt: HostRuntime) -> Result<(), Fail> {
 fn the_least_and_the_greatest_number_are_named(rt: HostRuntime) -> Result<(), Fail> {
     for number in [0, u32::MAX] {
         let marks = Marks::new(rt.alloc())?;
-        marks.note(number);
+        marks.note(number, Breach::Stop);
         let wanted = Some(Broken {
             first: number,
+            breach: Breach::Stop,
             count: 1,
         });
         assert!(rt; marks.broken() == wanted);
     }
     Ok(())
+}
+
+/// Of a step with several such parts the first action is named, then the end, then the first variable.
+#[test]
+fn the_first_part_of_a_broken_step_is_named(rt: HostRuntime) {
+    let frame = breaking_frame();
+    let far = StepBuilder::next_state(&frame, StateId(2)).set_variable(0, Value::Integer(1));
+    let step = far.create(SetId(1)).create(SetId(0)).build();
+    assert!(rt; first_broken(&offer(), &step) == Some(Breach::Create(SetId(0))));
+    let far = StepBuilder::next_state(&frame, StateId(2)).set_variable(0, Value::Integer(1));
+    let step = far.create(SetId(1)).build();
+    assert!(rt; first_broken(&offer(), &step) == Some(Breach::NextState(StateId(2))));
+    let near = StepBuilder::next_state(&frame, StateId(1)).set_variable(1, Value::Boolean(true));
+    let step = near.set_variable(0, Value::Integer(1)).build();
+    assert!(rt; first_broken(&offer(), &step) == Some(Breach::Variable(0)));
+    let none = no_step();
+    assert!(rt; first_broken(&offer(), &none) == Some(Breach::NoInstance(SignalId(0))));
 }

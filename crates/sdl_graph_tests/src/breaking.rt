@@ -1,6 +1,7 @@
 //! Steps that break their offer, each number in one way.
 use super::sample::values_of;
 use sdl_behaviour::{Dest, Frame, Offer, Step, Via};
+use sdl_conformance::Breach;
 use sdl_graph::{OfferBuilder, StepBuilder};
 use sdl_signal::{GateId, Pid, SetId, Signal, SignalId, Sort, StateId, Value};
 
@@ -99,5 +100,21 @@ pub fn step(number: u32, frame: &Frame) -> Step {
         // another next state
         10 => StepBuilder::next_state(frame, StateId(2)).build(),
         _ => StepBuilder::stop(frame).build(),
+    }
+}
+
+/// What of the step of this number the offer does not allow.
+pub fn breach(number: u32) -> Breach {
+    match number {
+        1 => Breach::Output(NOTICE, Via::Gate(GateId(1))),
+        2 => Breach::Output(NOTICE, Via::Any),
+        3 => Breach::Output(ASK, Via::Any),
+        4 | 5 => Breach::Output(ANSWER, Via::Any),
+        6 => Breach::NoInstance(ANSWER),
+        7 => Breach::NoInstance(NOTICE),
+        8 => Breach::Create(SetId(0)),
+        9 => Breach::Variable(1),
+        10 => Breach::NextState(StateId(2)),
+        _ => Breach::Stop,
     }
 }

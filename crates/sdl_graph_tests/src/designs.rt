@@ -2,7 +2,7 @@
 use super::pair::{ASKER, DESIGN, PAIR, TELLER};
 use super::storing::{BoundSet, Unfit, bind_pair};
 use sdl_behaviour::Kind;
-use sdl_graph_binding::{Design, GraphFault, SetDesign};
+use sdl_graph_binding::{Design, GraphFault, Misfit, SetDesign};
 use sdl_signal::{SetId, SignalId, StateId, Value};
 use sdl_transition::BindFault;
 use std::alloc::Global;
@@ -123,23 +123,39 @@ fn saves_that_do_not_fit_are_named(rt: HostRuntime) -> Result<(), Fail> {
     let fault = fault_of_saves(rt.alloc(), many.as_slice());
     assert!(rt; fault == Some(GraphFault::ManySaves(SetId(0))));
     for (saves, wanted) in [
-        (&many[..256], Some(BindFault::TwoRows(SetId(0)))),
+        (
+            &many[..256],
+            Some((
+                BindFault::TwoRows(SetId(0)),
+                Some(Misfit::SavedTwice(StateId(0), SignalId(1))),
+            )),
+        ),
         (
             &[(StateId(0), SignalId(0))],
-            Some(BindFault::TwoRows(SetId(0))),
+            Some((
+                BindFault::TwoRows(SetId(0)),
+                Some(Misfit::SavedTwice(StateId(0), SignalId(0))),
+            )),
         ),
         (
             &[(StateId(0), SignalId(2))],
-            Some(BindFault::WrongName(SetId(0))),
+            Some((
+                BindFault::WrongName(SetId(0)),
+                Some(Misfit::Unmeant(Kind::Signal, 2)),
+            )),
         ),
         (
             &[(StateId(1), SignalId(1))],
-            Some(BindFault::UnknownState(SetId(0))),
+            Some((
+                BindFault::UnknownState(SetId(0)),
+                Some(Misfit::SavingState(StateId(1))),
+            )),
         ),
         (&many[..1], None),
     ] {
         let fault = fault_of_saves(rt.alloc(), saves);
-        assert!(rt; fault == wanted.map(|fault| GraphFault::Bind(fault)));
+        let wanted = wanted.map(|(fault, misfit)| GraphFault::Bind(fault, misfit));
+        assert!(rt; fault == wanted);
     }
     Ok(())
 }
@@ -197,14 +213,15 @@ fn transitions_are_neither_too_few_nor_too_many(rt: HostRuntime) -> Result<(), F
 #[test]
 fn a_fault_of_binding_is_passed_on(rt: HostRuntime) -> Result<(), Fail> {
     let fault = fault_of_sets(rt.alloc(), &[TELLER], [0, 1].as_slice());
-    let wanted = GraphFault::Bind(BindFault::NoBehaviour(SetId(0)));
+    let wanted = GraphFault::Bind(BindFault::NoBehaviour(SetId(0)), None);
     assert!(rt; fault == Some(wanted));
     let design = Design {
         uses: &DESIGN.uses[..3],
         ..DESIGN
     };
     let fault = fault_of(rt.alloc(), &design, NUMBERS.as_slice());
-    let wanted = GraphFault::Bind(BindFault::WrongName(SetId(1)));
+    let misfit = Some(Misfit::Unused(1, Kind::Signal, 1));
+    let wanted = GraphFault::Bind(BindFault::WrongName(SetId(1)), misfit);
     assert!(rt; fault == Some(wanted));
     Ok(())
 }
@@ -216,7 +233,7 @@ fn a_refusal_of_memory_is_named(rt: HostRuntime) -> Result<(), Fail> {
         Ok(sets) => sets.len() == 2,
         Err(Unfit::Graph(fault)) => matches!(
             fault,
-            GraphFault::Memory | GraphFault::Bind(BindFault::Memory)
+            GraphFault::Memory | GraphFault::Bind(BindFault::Memory, None)
         ),
         Err(Unfit::Structure(stop)) => matches!(stop, sdl_test_systems::Stop::Memory),
     };
