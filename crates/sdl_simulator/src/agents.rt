@@ -2,7 +2,7 @@
 ghost use Rattle.std.specs.Prelude.{◌≡◌, ℕ, List, IfOk, IfSome};
 ghost use Rattle.sdl_simulator.specs.Files.{Describes};
 
-use crate::faults::write_agents_fault;
+use sdl_agents_faults::write_agents_fault;
 use sdl_agents_file::{AgentsFault, ListedSet, read_agents};
 use sdl_command::errors::write_error;
 use sdl_command::stack::takes_stack;

@@ -3,17 +3,8 @@
 #![tactic(auto)]
 
 mod agents;
-mod details;
-mod faults;
-mod keys;
-mod known;
-mod near;
-mod places;
 mod program;
-mod sections;
-mod spots;
 mod words;
-mod wrong;
 
 use sdl_command::status::REFUSED;
 use sdl_file_commands::streams::{Input, Output, shared_buffer};

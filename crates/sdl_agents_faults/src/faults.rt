@@ -5,7 +5,7 @@ use crate::known::Source;
 use crate::places::text_at;
 use crate::sections::place_in_file;
 use crate::spots::{Spot, Told, spot_at, spot_of_key, spot_of_table};
-use crate::wrong::{bad_name, second_name, unknown_name};
+use crate::words_at_fault::{bad_name, second_name, unknown_name};
 use sdl_agents_file::fault::AgentsText;
 use sdl_agents_file::{AgentsFault, AgentsPlace};
 use sdl_body_text::{TextFault, position_of};

@@ -1,12 +1,12 @@
-//! The words that are wrong in the lists of an agents file.
+//! Finds the words at fault in the lists of an agents file.
 use crate::details::{Detail, Kind};
 use crate::known::{Source, see_sets, see_signals};
-use crate::near::Nearest;
 use crate::places::{list_at, table_of, text_at};
 use crate::spots::{Told, spot_of_key, spot_of_word};
 use sdl_agents_file::{AgentsKey, AgentsPart, AgentsPlace};
 use sdl_body_text::Named;
 use sdl_parts::Structure;
+use sdl_places::Nearest;
 use sdl_signal::name;
 use sdl_tokens::is_reserved;
 use toml::Value;
@@ -126,14 +126,14 @@ fn is_signal_of(structure: &Structure, word: &str) -> bool {
         .any(|signal| signal.name.as_str() == word)
 }
 
-fn unknown_set<'a>(source: &Source, word: &'a str) -> Detail<'a> {
+fn unknown_set<'a>(source: &Source<'a>, word: &'a str) -> Detail<'a> {
     let mut nearest = Nearest::to(source.alloc, word);
     see_sets(source.structure, &mut nearest);
-    Detail::Unknown(Kind::Named(Named::Set), word, nearest.name())
+    Detail::Unknown(Kind::Named(Named::Set), word, nearest.found())
 }
 
-fn unknown_signal<'a>(source: &Source, word: &'a str) -> Detail<'a> {
+fn unknown_signal<'a>(source: &Source<'a>, word: &'a str) -> Detail<'a> {
     let mut nearest = Nearest::to(source.alloc, word);
     see_signals(source.structure, &mut nearest);
-    Detail::Unknown(Kind::Named(Named::Signal), word, nearest.name())
+    Detail::Unknown(Kind::Named(Named::Signal), word, nearest.found())
 }

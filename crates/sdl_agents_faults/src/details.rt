@@ -1,7 +1,7 @@
 //! What is wrong at the place of a fault, and what is expected or near, as the second line of a fault ends.
 use sdl_agents_file::AgentsKey;
 use sdl_body_text::{Named, TextFault, Wanted};
-use sdl_signal::{Name, Sort};
+use sdl_signal::Sort;
 use std::fmt;
 use std::fmt::{Display, Formatter};
 
@@ -57,7 +57,7 @@ pub enum Detail<'a> {
     /// This is expected.
     Expected(Expected),
     /// Nothing of this kind has the name of the word, and another name may be near.
-    Unknown(Kind, &'a str, Option<Name>),
+    Unknown(Kind, &'a str, Option<&'a str>),
     /// The word is there already.
     There(&'a str),
     /// The word is no name, or is reserved.
@@ -78,7 +78,7 @@ impl Display for Detail<'_> {
                 let what = what.text();
                 write!(f, ": {what} is expected")
             }
-            Detail::Unknown(kind, word, near) => write_unknown(f, kind.text(), word, near.as_ref()),
+            Detail::Unknown(kind, word, near) => write_unknown(f, kind.text(), word, near),
             Detail::There(word) => write!(f, ": {word} is there already"),
             Detail::NoName(word) => write!(f, ": {word} is no name"),
             Detail::System(name) => write!(f, ": the system is {name}"),
@@ -96,11 +96,11 @@ fn write_unknown<W: fmt::Write>(
     f: &mut Formatter<W>,
     kind: &str,
     word: &str,
-    near: Option<&Name>,
+    near: Option<&str>,
 ) -> fmt::Result {
     write!(f, ": no {kind} {word}")?;
     match near {
-        Some(name) => write!(f, "; {} is near", name.as_str()),
+        Some(name) => write!(f, "; {name} is near"),
         None => Ok(()),
     }
 }
@@ -114,7 +114,7 @@ fn sort_text(sort: Sort) -> &'static str {
 }
 
 /// What is said of a fault in a text, at this word, where names are near.
-pub fn detail_of<'a>(fault: TextFault, word: &'a str, near: Option<Name>) -> Detail<'a> {
+pub fn detail_of<'a>(fault: TextFault, word: &'a str, near: Option<&'a str>) -> Detail<'a> {
     match fault {
         TextFault::Expected(wanted) => Detail::Expected(Expected::Text(wanted)),
         TextFault::UnknownName(kind) => Detail::Unknown(Kind::Named(kind), word, near),

@@ -1,8 +1,7 @@
 //! The keys of an agents file that its tables may not have.
-use crate::near::Nearest;
 use crate::places::list_at;
 use sdl_agents_file::{AgentsKey, AgentsPart, AgentsPlace};
-use sdl_signal::Name;
+use sdl_places::Nearest;
 use std::alloc::Global;
 use toml::{Table, Value};
 
@@ -79,10 +78,10 @@ fn is_among(keys: &[AgentsKey], word: &str) -> bool {
 }
 
 /// The key of the part that is nearest to the word.
-pub fn nearest_key(alloc: Global, part: AgentsPart, word: &str) -> Option<Name> {
+pub fn nearest_key<'a>(alloc: Global, part: AgentsPart, word: &'a str) -> Option<&'a str> {
     let mut nearest = Nearest::to(alloc, word);
     for key in part.keys() {
-        nearest.see_text(key.text());
+        nearest.see(key.text());
     }
-    nearest.name()
+    nearest.found()
 }

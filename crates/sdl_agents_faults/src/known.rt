@@ -1,10 +1,10 @@
 //! The names that a word of an agents file may mean.
-use crate::near::Nearest;
 use crate::places::{behaviour_of, list_at, text_at};
 use sdl_agents_file::AgentsPlace;
 use sdl_body_text::Named;
 use sdl_parts::{Owner, Structure};
-use sdl_signal::Name;
+use sdl_places::Nearest;
+use sdl_signal::name;
 use sdl_tokens::{Kind, Sign, cut};
 use std::alloc::Global;
 use toml::{Table, Value};
@@ -35,15 +35,15 @@ const VALUES: [&str; 8] = [
 
 const SORTS: [&str; 3] = ["Integer", "Boolean", "Pid"];
 
-impl Source<'_> {
+impl<'a> Source<'a> {
     /// The name that is nearest to the word among those of this kind that a text at the place may name.
     pub fn nearest(
         &self,
         place: AgentsPlace,
         item: usize,
         kind: Named,
-        word: &str,
-    ) -> Option<Name> {
+        word: &'a str,
+    ) -> Option<&'a str> {
         let mut nearest = Nearest::to(self.alloc, word);
         match kind {
             Named::Signal => see_signals(self.structure, &mut nearest),
@@ -65,21 +65,21 @@ impl Source<'_> {
                 see_sets(self.structure, &mut nearest);
             }
         }
-        nearest.name()
+        nearest.found()
     }
 
-    fn see_constants(&self, nearest: &mut Nearest) {
+    fn see_constants(&self, nearest: &mut Nearest<'a>) {
         self.see_first_words(list_at(self.table, "constants"), nearest);
     }
 
-    fn see_variables(&self, place: AgentsPlace, nearest: &mut Nearest) {
+    fn see_variables(&self, place: AgentsPlace, nearest: &mut Nearest<'a>) {
         if let Some(behaviour) = behaviour_of(self.table, place) {
             self.see_first_words(list_at(behaviour, "variables"), nearest);
         }
     }
 
     /// Sees the name that each of the texts begins with.
-    fn see_first_words(&self, values: &[Value], nearest: &mut Nearest) {
+    fn see_first_words(&self, values: &'a [Value], nearest: &mut Nearest<'a>) {
         for value in values {
             if let Some(text) = value.as_str() {
                 see_first_word(self.alloc, text, nearest);
@@ -88,13 +88,13 @@ impl Source<'_> {
     }
 
     /// Sees the names of the signal's parameters, which stand in brackets behind it.
-    fn see_parameters(&self, place: AgentsPlace, item: usize, nearest: &mut Nearest) {
+    fn see_parameters(&self, place: AgentsPlace, item: usize, nearest: &mut Nearest<'a>) {
         if let Some(text) = text_at(self.table, place, item) {
             see_head(self.alloc, text, nearest);
         }
     }
 
-    fn see_states(&self, place: AgentsPlace, nearest: &mut Nearest) {
+    fn see_states(&self, place: AgentsPlace, nearest: &mut Nearest<'a>) {
         if let Some(behaviour) = behaviour_of(self.table, place) {
             for group in list_at(behaviour, "state") {
                 if let Some(group) = group.as_table() {
@@ -105,54 +105,61 @@ impl Source<'_> {
     }
 }
 
-pub fn see_signals(structure: &Structure, nearest: &mut Nearest) {
+pub fn see_signals<'a>(structure: &'a Structure, nearest: &mut Nearest<'a>) {
     for signal in structure.signals() {
-        nearest.see(&signal.name);
+        nearest.see(signal.name.as_str());
     }
 }
 
-pub fn see_sets(structure: &Structure, nearest: &mut Nearest) {
+pub fn see_sets<'a>(structure: &'a Structure, nearest: &mut Nearest<'a>) {
     for set in structure.sets() {
-        nearest.see(&set.name);
+        nearest.see(set.name.as_str());
     }
 }
 
 /// The gates of sets.
-fn see_gates(structure: &Structure, nearest: &mut Nearest) {
+fn see_gates<'a>(structure: &'a Structure, nearest: &mut Nearest<'a>) {
     for gate in structure.gates() {
         if let Owner::Set(_) = gate.owner {
-            nearest.see(&gate.name);
+            nearest.see(gate.name.as_str());
         }
     }
 }
 
-fn see_channels(structure: &Structure, nearest: &mut Nearest) {
+fn see_channels<'a>(structure: &'a Structure, nearest: &mut Nearest<'a>) {
     for channel in structure.channels() {
-        nearest.see(&channel.name);
+        nearest.see(channel.name.as_str());
     }
 }
 
-fn see_texts(texts: &[&str], nearest: &mut Nearest) {
+fn see_texts<'a>(texts: &[&'a str], nearest: &mut Nearest<'a>) {
     for text in texts {
-        nearest.see_text(text);
+        nearest.see(*text);
     }
 }
 
-fn see_values(values: &[Value], nearest: &mut Nearest) {
+/// Sees the text, where it is a name.
+fn see_name<'a>(text: &'a str, nearest: &mut Nearest<'a>) {
+    if name(text).is_some() {
+        nearest.see(text);
+    }
+}
+
+fn see_values<'a>(values: &'a [Value], nearest: &mut Nearest<'a>) {
     for value in values {
         if let Some(text) = value.as_str() {
-            nearest.see_text(text);
+            see_name(text, nearest);
         }
     }
 }
 
-fn see_bytes(bytes: &[u8], nearest: &mut Nearest) {
+fn see_bytes<'a>(bytes: &'a [u8], nearest: &mut Nearest<'a>) {
     if let Ok(text) = str::from_utf8(bytes) {
-        nearest.see_text(text);
+        see_name(text, nearest);
     }
 }
 
-fn see_first_word(alloc: Global, text: &str, nearest: &mut Nearest) {
+fn see_first_word<'a>(alloc: Global, text: &'a str, nearest: &mut Nearest<'a>) {
     if let Ok(tokens) = cut(alloc, text.as_bytes()) {
         if let Some(token) = tokens.as_slice().first() {
             see_bytes(token.text, nearest);
@@ -161,7 +168,7 @@ fn see_first_word(alloc: Global, text: &str, nearest: &mut Nearest) {
 }
 
 /// Sees the names behind the first, up to a colon.
-fn see_head(alloc: Global, text: &str, nearest: &mut Nearest) {
+fn see_head<'a>(alloc: Global, text: &'a str, nearest: &mut Nearest<'a>) {
     if let Ok(tokens) = cut(alloc, text.as_bytes()) {
         for token in tokens.as_slice().iter().skip(1) {
             match token.kind {
