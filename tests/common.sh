@@ -3,8 +3,10 @@
 # for the script's own files, which goes when the script ends. It counts what passed and what failed.
 set -u
 top=$(CDPATH='' cd -- "$(dirname -- "$0")/.." && pwd)
+# shellcheck source=tests/ending.sh
+. "$top/tests/ending.sh"
 work=$(mktemp -d)
-trap 'rm -rf "$work"' EXIT
+remove_at_end "$work"
 passed=0
 failed=0
 
