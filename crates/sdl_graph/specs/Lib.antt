@@ -1,3 +1,4 @@
 pub mod Answers
 pub mod Drafts
+pub mod Lists
 pub mod Reading

@@ -1,13 +1,16 @@
 //! Offers, put together.
-ghost use Rattle.std.specs.Prelude.{◌≡◌, ◌<◌, ◌≤◌, [], ◌∷◌, ◌++◌, ◌↔◌, true, false, Some, None, IsTrue, length};
+ghost use Rattle.std.specs.Prelude.{◌≡◌, ◌<◌, ◌≤◌, [], ◌∷◌, ◌++◌, ◌↔◌, true, false, Some, None, IsTrue, length, map};
 ghost use Rattle.arrayvec.specs.ArrayVec.{array_vec_len};
 ghost use Rattle.sdl_conformance.specs.Stay.{CanEnd};
+ghost use Rattle.sdl_signal.specs.Sorts.{sort_of};
 ghost use Rattle.sdl_graph.specs.Drafts.{sorted};
+ghost use Rattle.sdl_graph.specs.Lists.{offered_as, states_below};
 
 use crate::limits::fitting_sorts;
+use crate::lists::{SetLists, listed_outputs, listed_sets, sorts_of, states_to};
 use arrayvec::ArrayVec;
 use sdl_behaviour::{Offer, OfferedOutput, SignalSorts, Via};
-use sdl_signal::{SetId, SignalId, Sort, StateId};
+use sdl_signal::{SetId, SignalId, Sort, StateId, Value};
 use std::marker::Model;
 
 /// An offer that is being put together. What finds no room is remembered: then `build` gives an offer that cannot end.
@@ -76,6 +79,40 @@ impl OfferBuilder {
                 fits: false,
             },
         }
+    }
+
+    /// The offer of a start that may do all that its set may, by the structure file: each output of its lists, each create in its block,
+    /// each of so many states, and a stop. Its agents have variables of the sorts of these values.
+    pub fn all(lists: &SetLists, states: usize, variables: &[Value]) -> OfferBuilder
+        ensures fits { IsTrue result.fits ↔ (length variables.now ≤ 8 × length lists.now.outward.now ≤ 16 × length lists.now.creates.now ≤ 8 × states ≤ 16) }
+        ensures offer { IsTrue result.fits → result.offer ≡ record {
+          state = None;
+          signal = None;
+          vars = record { items = map sort_of variables.now };
+          outputs = record { items = map offered_as lists.now.outward.now };
+          creates = record { items = lists.now.creates.now };
+          nexts = record { items = states_below states };
+          may_stop = true;
+          sets = lists.now.sets;
+        } }
+    {
+        let short = variables.len() <= 8 && lists.outward.len() <= 16;
+        let fits = short && lists.creates.len() <= 8 && states <= 16;
+        if !fits {
+            let offer = no_offer();
+            return OfferBuilder { offer, fits };
+        }
+        let offer = Offer {
+            state: None,
+            signal: None,
+            vars: sorts_of(variables),
+            outputs: listed_outputs(lists.outward),
+            creates: listed_sets(lists.creates),
+            nexts: states_to(states as u32),
+            may_stop: true,
+            sets: lists.sets,
+        };
+        OfferBuilder { offer, fits }
     }
 
     /// The same, of a row in the state for the signal, with parameters of these sorts, at most 4.

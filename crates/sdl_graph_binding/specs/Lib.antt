@@ -1,1 +1,2 @@
+pub mod Agents
 pub mod Transitions

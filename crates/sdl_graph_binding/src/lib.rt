@@ -1,6 +1,7 @@
 //! The transitions of a process graph, stored, given to the sets of a structure by name, and bound to it.
 #![tactic(auto)]
 
+pub mod agent_sets;
 pub mod agents;
 pub mod binding;
 pub mod faults;
@@ -10,6 +11,7 @@ mod set_behaviour;
 pub mod sets;
 pub mod stored;
 
+pub use agent_sets::{AgentSet, AgentSets};
 pub use agents::{GraphAgents, keep_to_offer};
 pub use binding::bind_graph;
 pub use faults::GraphFault;
