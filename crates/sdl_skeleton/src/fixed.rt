@@ -1,7 +1,7 @@
 //! The files that are the same in every skeleton.
 
-/// The lines of `main.rt`.
-pub const MAIN: &[&str] = &[
+/// The lines of `main.rt` up to the files of the sets.
+pub const MAIN_HEAD: &[&str] = &[
     "//! The program of a system of agents. It takes the words `check FILE`, `routes FILE` and",
     "//! `run [--serial] [--ledger] [--trace] FILE`.",
     "#![tactic(auto)]",
@@ -9,6 +9,10 @@ pub const MAIN: &[&str] = &[
     "mod agents;",
     "mod numbers;",
     "mod running;",
+];
+
+/// The lines of `main.rt` behind them.
+pub const MAIN_BODY: &[&str] = &[
     "",
     "use sdl_graph_program::{Input, Output, REFUSED, prepare, shared_buffer};",
     "use std::process::ExitCode;",
@@ -36,8 +40,9 @@ pub const RUNNING: &[&str] = &[
     "//! The agents are stored and run.",
     "ghost use Rattle.sdl_graph_program.specs.Running.{CanRun};",
     "",
-    "use crate::agents::{Agents, DESIGN, TRANSITIONS};",
-    "use sdl_graph_program::{Frame, Prepared, Run, Stored, run_prepared};",
+    "use crate::agents::{Agents, agent_sets};",
+    "use crate::numbers::USES;",
+    "use sdl_graph_program::{Design, Frame, GraphFault, Prepared, Run, Stored, refused, run_prepared};",
     "use std::io::{Read, Write};",
     "use std::sync::Wait;",
     "use std::thread::Threads;",
@@ -53,8 +58,20 @@ pub const RUNNING: &[&str] = &[
     "    requires { CanRun prepared.checked prepared.routes }",
     "{",
     "    let alloc = prepared.alloc;",
+    "    let listed = agent_sets(alloc);",
+    "    let Ok(sets) = listed.designs() else {",
+    "        let design = Design {",
+    "            uses: &USES,",
+    "            sets: &[],",
+    "        };",
+    "        return refused(errors, &design, GraphFault::Memory);",
+    "    };",
+    "    let design = Design {",
+    "        uses: &USES,",
+    "        sets: sets.as_slice(),",
+    "    };",
     "    let mut stored: Stored<Agents> = Stored::new(alloc);",
-    "    for number in 0..TRANSITIONS {",
+    "    for number in 0..listed.transitions() {",
     "        let Some(own) = stored.answering(number) else {",
     "            break;",
     "        };",
@@ -65,6 +82,6 @@ pub const RUNNING: &[&str] = &[
     "        };",
     "        stored.keep(number, offer, run);",
     "    }",
-    "    run_prepared(rt, prepared, &DESIGN, stored, input, output, errors)",
+    "    run_prepared(rt, prepared, &design, stored, input, output, errors)",
     "}",
 ];

@@ -3,9 +3,15 @@
 
 pub mod agents;
 pub mod fixed;
-mod names;
+mod lists;
+pub mod names;
 pub mod numbers;
+pub mod set_file;
+pub mod texts;
 
-pub use agents::write_agents;
-pub use fixed::{MAIN, RUNNING};
+pub use agents::{write_agents, write_main};
+pub use fixed::RUNNING;
+pub use names::Names;
 pub use numbers::write_numbers;
+pub use set_file::write_set;
+pub use texts::{write_lines, write_texts};

@@ -5,14 +5,16 @@ use sdl_file_commands::commands::{checked_file, written};
 use sdl_file_commands::files::{FileRead, read_file};
 use sdl_file_commands::words::{words_behind_the_name, words_of};
 use sdl_parts::Structure;
-use sdl_skeleton::agents::write_lines;
-use sdl_skeleton::{MAIN, RUNNING, write_agents, write_numbers};
+use sdl_skeleton::{
+    Names, RUNNING, write_agents, write_lines, write_main, write_numbers, write_set, write_texts,
+};
 use sdl_structure::FileFault;
 use std::alloc::{AllocError, Global};
 use std::io::{Result as Written, Write};
 use std::rt::{Env, Files};
 
-const USAGE: &str = "usage: main FILE | running FILE | numbers FILE | agents FILE | all FILE";
+const USAGE: &str =
+    "usage: main FILE | running FILE | numbers FILE | agents FILE | sets FILE | all FILE";
 
 /// A file of the skeleton, or all of them.
 #[derive(Clone, Copy, Debug, PartialEq, Eq)]
@@ -21,6 +23,7 @@ enum Wanted {
     Running,
     Numbers,
     Agents,
+    Sets,
     All,
 }
 
@@ -84,6 +87,8 @@ fn wanted_of(word: &str) -> Option<Wanted> {
         Some(Wanted::Numbers)
     } else if word == "agents" {
         Some(Wanted::Agents)
+    } else if word == "sets" {
+        Some(Wanted::Sets)
     } else if word == "all" {
         Some(Wanted::All)
     } else {
@@ -124,31 +129,52 @@ fn write_file<W: Write, E: Write>(
     let Some(checked) = checked_file(alloc, file, errors) else {
         return REFUSED;
     };
-    let text = write_wanted(output, wanted, checked.structure());
+    let structure = checked.structure();
+    let Ok(names) = Names::of(alloc, structure) else {
+        without_memory(errors);
+        return REFUSED;
+    };
+    let text = write_wanted(output, wanted, structure, &names);
     written(text, output, errors)
 }
 
 /// Writes what is wanted.
-fn write_wanted<W: Write>(output: &mut W, wanted: Wanted, structure: &Structure) -> Written<()> {
+fn write_wanted<W: Write>(
+    output: &mut W,
+    wanted: Wanted,
+    structure: &Structure,
+    names: &Names,
+) -> Written<()> {
     match wanted {
-        Wanted::Main => write_lines(output, MAIN),
+        Wanted::Main => write_main(output, names),
         Wanted::Running => write_lines(output, RUNNING),
-        Wanted::Numbers => write_numbers(output, structure),
-        Wanted::Agents => write_agents(output, structure),
-        Wanted::All => write_all(output, structure),
+        Wanted::Numbers => write_numbers(output, structure, names),
+        Wanted::Agents => write_agents(output, structure, names),
+        Wanted::Sets => write_sets(output, structure, names),
+        Wanted::All => write_all(output, structure, names),
     }
 }
 
+/// Writes the files of the sets, each below a line with its name.
+fn write_sets<W: Write>(output: &mut W, structure: &Structure, names: &Names) -> Written<()> {
+    for (number, file) in names.files().iter().enumerate() {
+        write_texts(output, &["==> ", file.as_str(), ".rt\n"])?;
+        write_set(output, structure, names, number)?;
+    }
+    Ok(())
+}
+
 /// Writes all files, each below a line with its name.
-fn write_all<W: Write>(output: &mut W, structure: &Structure) -> Written<()> {
-    writeln!(output, "==> main.rt")?;
-    write_lines(output, MAIN)?;
-    writeln!(output, "==> running.rt")?;
+fn write_all<W: Write>(output: &mut W, structure: &Structure, names: &Names) -> Written<()> {
+    write_lines(output, &["==> main.rt"])?;
+    write_main(output, names)?;
+    write_lines(output, &["==> running.rt"])?;
     write_lines(output, RUNNING)?;
-    writeln!(output, "==> numbers.rt")?;
-    write_numbers(output, structure)?;
-    writeln!(output, "==> agents.rt")?;
-    write_agents(output, structure)
+    write_lines(output, &["==> numbers.rt"])?;
+    write_numbers(output, structure, names)?;
+    write_lines(output, &["==> agents.rt"])?;
+    write_agents(output, structure, names)?;
+    write_sets(output, structure, names)
 }
 
 fn wrong_arguments<E: Write>(errors: &mut E) -> u8 {
