@@ -1,0 +1,6 @@
+pub mod Items
+pub mod Texts
+pub mod EdgeLemmas
+pub mod Blocks
+pub mod Shown
+mod Examples

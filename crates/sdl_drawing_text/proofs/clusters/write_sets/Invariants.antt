@@ -1,0 +1,8 @@
+use Rattle.std.proofs.Common.{take, flat_map}
+use Rattle.std.specs.Io.KnownBytes.{Appends}
+use Rattle.std.specs.List.{enumerate_from}
+use Rattle.sdl_drawing_text.specs.Dot.{set_line}
+use Rattle.sdl_drawing_text.proofs.clusters.write_sets.Given as goal
+
+abbrev pub invariant-loop-number : goal.invariant-loop-number
+invariant-loop-number g l = Appends (g.W.Write.contents l.fn.output) (g.W.Write.contents l.output) (flat_map (set_line l.structure l.block) (take l.number (enumerate_from 0 l.sets)))

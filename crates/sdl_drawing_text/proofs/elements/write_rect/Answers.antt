@@ -1,0 +1,6 @@
+use Rattle.std.proofs.KnownBytes.{Appends-trans}
+use Rattle.sdl_drawing_text.proofs.Texts.{on_ok}
+use Rattle.sdl_drawing_text.proofs.elements.write_rect.Goals as goal
+
+pub returns : goal.returns
+returns g c = on_ok c.write_sides.result _ _ (λ last. Appends-trans _ _ _ _ _ c.in_ok-write_place.ensures last) c.write_sides.ensures

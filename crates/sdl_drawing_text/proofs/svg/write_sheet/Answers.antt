@@ -1,0 +1,8 @@
+use Rattle.std.proofs.KnownBytes.{Appends-trans}
+use Rattle.sdl_drawing_text.proofs.Texts.{on_ok}
+use Rattle.sdl_drawing_text.proofs.svg.write_sheet.Goals as goal
+
+pub returns : goal.returns
+returns g c =
+    let part_1 = Appends-trans _ _ _ _ _ c.in_ok-write_text.ensures c.in_ok-write_size.ensures in
+    on_ok c.write_text-2.result _ _ (λ last. Appends-trans _ _ _ _ _ part_1 last) c.write_text-2.ensures

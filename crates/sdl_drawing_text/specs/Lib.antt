@@ -1,0 +1,11 @@
+pub mod Paths
+pub mod Elements
+pub mod Frames
+pub mod Gates
+pub mod Channels
+pub mod Lists
+pub mod Svg
+pub mod Written
+pub mod Dot
+pub mod Words
+pub mod Commands
