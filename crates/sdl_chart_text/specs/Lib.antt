@@ -1,0 +1,3 @@
+pub mod Signals
+pub mod Legends
+pub mod Rows

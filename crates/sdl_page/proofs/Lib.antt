@@ -1,0 +1,6 @@
+pub mod OneMore
+pub mod Values
+pub mod Noting
+pub mod Listed
+pub mod Texts
+pub mod Going
