@@ -1,6 +1,8 @@
-//! Runs of graphs as a designer's program makes them, with what it writes.
+//! Runs of graphs: as a designer's program makes them, with what it writes, a wheel on one thread, and a chain of sixteen blocks in threads.
 #![tactic(auto)]
 
+#[cfg(test)]
+mod chain;
 #[cfg(test)]
 mod echo;
 #[cfg(test)]
@@ -17,3 +19,9 @@ mod running;
 mod saving;
 #[cfg(test)]
 mod texts;
+#[cfg(test)]
+mod wheel;
+#[cfg(test)]
+mod wheel_runs;
+#[cfg(test)]
+mod wheels;

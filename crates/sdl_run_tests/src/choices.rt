@@ -1,7 +1,7 @@
 //! Schedules whose picks choose: among the routes of a line, among the instances that it may enter, and among the routes
 //! of the answer.
 use crate::echo;
-use crate::plan::{Left, PLENTY, Plan};
+use crate::plan::{Left, Plan};
 use sdl_instances::Event;
 use sdl_run::{EnvOut, Ledger, RunEnd};
 use sdl_signal::{Pid, RouteId, SetId};
@@ -59,7 +59,6 @@ fn run(alloc: Global, reading: u32, arriving: u32) -> Result<Left, Stop> {
         budget: 100,
         schedule: &schedule,
         input: b"line ping 7\n",
-        room: PLENTY,
     };
     echo::run(alloc, TWO_WAYS, plan)
 }

@@ -15,42 +15,13 @@ use sdl_signal::{InputEnd, Item, OutputEnd};
 use sdl_test_systems::{Stop, bind_to};
 use sdl_transition::{Agents, Behaviour, Bound};
 use std::alloc::Global;
-use std::io;
-use std::io::{ErrorKind, Write};
 
-/// How many turns each block may have, the schedule, what stands in the input, and how many bytes the output takes.
+/// How many turns each block may have, the schedule, and what stands in the input.
 #[derive(Clone, Copy)]
 pub struct Plan<'a> {
     pub budget: u32,
     pub schedule: &'a [u32],
     pub input: &'a [u8],
-    pub room: usize,
-}
-
-/// More bytes than a run of these tests writes.
-pub const PLENTY: usize = 1_000_000;
-
-/// Takes so many bytes, and then fails.
-#[derive(Drop)]
-struct Room {
-    taken: Vec<u8>,
-    left: usize,
-}
-
-impl Write for Room {
-    fn write(&mut self, bytes: &[u8]) -> io::Result<usize> {
-        if self.left == 0 {
-            return Err(io::Error::from(ErrorKind::Other));
-        }
-        let count = self.left.min(bytes.len());
-        self.taken.extend_from_slice(&bytes[..count])?;
-        self.left -= count;
-        Ok(count)
-    }
-
-    fn flush(&mut self) -> io::Result<()> {
-        Ok(())
-    }
 }
 
 /// What a run left but its system, and what it wrote.
@@ -112,10 +83,7 @@ fn run_once<S: Agents + Drop>(
     ensures back { IfErr result (IsBackIn S.may bound) }
 {
     let mut input = plan.input;
-    let mut written = Room {
-        taken: Vec::new(alloc),
-        left: plan.room,
-    };
+    let mut written = Vec::new(alloc);
     let closing = run_serial(
         alloc,
         bound,
@@ -124,7 +92,7 @@ fn run_once<S: Agents + Drop>(
         &mut input,
         &mut written,
     )?;
-    Ok(left_by(closing, written.taken))
+    Ok(left_by(closing, written))
 }
 
 /// What is left, without the system.

@@ -1,5 +1,5 @@
 //! Whole runs of Ring.
-use crate::plan::{PLENTY, Plan};
+use crate::plan::Plan;
 use crate::ring;
 use sdl_test_systems::Stop;
 use std::alloc::{AllocError, Global};
@@ -14,7 +14,6 @@ fn run(rt: &impl Abort, alloc: Global, schedule: &[u32]) -> Result<(), Stop> {
         budget: BUDGET,
         schedule,
         input: &[],
-        room: PLENTY,
     };
     ring::run(rt, alloc, plan)
 }

@@ -8,7 +8,7 @@ use arrayvec::ArrayVec;
 use sdl_agents::offers::start_offer;
 use sdl_agents::steps::begin;
 use sdl_signal::{SetId, SignalId, StateId};
-use sdl_transition::{Agents, Behaviour, Frame, Kind, Row, Run, Save, Transition};
+use sdl_transition::{Agents, Behaviour, Frame, Kind, Named, Row, Run, Save, Transition};
 use std::alloc::Global;
 
 /// How many uses, rows and saves a behaviour has at most.
@@ -33,22 +33,31 @@ fn add_use(behaviour: &mut Behaviour<Anything>, number: u32) -> Option<()>
     }
 }
 
-/// Adds uses as long as there may be more, each with its place as its number. It answers how many there are, and whether
-/// they stand in that order.
+/// Adds uses as long as there may be more, each with its place as its number.
+fn add_uses(behaviour: &mut Behaviour<Anything>) -> Option<()> {
+    for number in 0..300 {
+        if behaviour.uses.len() < MOST {
+            add_use(behaviour, number)?;
+        }
+    }
+    Some(())
+}
+
+/// How many uses there are, and whether each has its place as its number.
+fn uses_in_order(uses: &[Named]) -> (usize, bool) {
+    let mut numbered = uses.iter().enumerate();
+    (
+        uses.len(),
+        numbered.all(|(place, used)| used.number as usize == place),
+    )
+}
+
+/// Fills a behaviour with uses. It answers how many there are, and whether they stand in their order.
 fn fill_uses(alloc: Global) -> Option<(usize, bool)> {
     let run: Run = Box::new(alloc, |frame: &Frame| begin(frame)).ok()?;
     let mut behaviour = behaviour_of(alloc, Transition::store(0, start_offer(1), run));
-    for number in 0..300 {
-        if behaviour.uses.len() < MOST {
-            add_use(&mut behaviour, number)?;
-        }
-    }
-    let uses = behaviour.uses.as_slice();
-    let mut numbered = uses.iter().enumerate();
-    Some((
-        uses.len(),
-        numbered.all(|(place, used)| used.number as usize == place),
-    ))
+    add_uses(&mut behaviour)?;
+    Some(uses_in_order(behaviour.uses.as_slice()))
 }
 
 /// Adds the row. Where memory is refused, what was handed back is added once more.
@@ -62,6 +71,15 @@ fn add_row(behaviour: &mut Behaviour<Anything>, row: Row<Anything>) -> Option<()
         Ok(()) => Some(()),
         Err((same, _)) => behaviour.add_row(same).ok(),
     }
+}
+
+/// How many rows there are, and whether each is for the signal with its place as its number.
+fn rows_in_order(rows: &[Row<Anything>]) -> (usize, bool) {
+    let mut numbered = rows.iter().enumerate();
+    (
+        rows.len(),
+        numbered.all(|(place, row)| row.signal.0 as usize == place),
+    )
 }
 
 /// Adds rows as long as there may be more, each for the signal with its place as its number. It answers how many there are,
@@ -80,12 +98,7 @@ fn fill_rows(alloc: Global) -> Option<(usize, bool)> {
             add_row(&mut behaviour, row)?;
         }
     }
-    let rows = behaviour.rows.as_slice();
-    let mut numbered = rows.iter().enumerate();
-    Some((
-        rows.len(),
-        numbered.all(|(place, row)| row.signal.0 as usize == place),
-    ))
+    Some(rows_in_order(behaviour.rows.as_slice()))
 }
 
 /// The save of this number: state by state, 64 signals each.
@@ -117,22 +130,31 @@ fn add_save(behaviour: &mut Behaviour<Anything>, save: Save) -> Option<()>
     }
 }
 
-/// Adds saves as long as there may be more, each at the place of its number. It answers how many there are, and whether they
-/// stand in that order.
+/// Adds saves as long as there may be more, each at the place of its number.
+fn add_saves(behaviour: &mut Behaviour<Anything>) -> Option<()> {
+    for number in 0..300 {
+        if behaviour.saves.len() < MOST {
+            add_save(behaviour, save_of(number))?;
+        }
+    }
+    Some(())
+}
+
+/// How many saves there are, and whether each stands at the place of its number.
+fn saves_in_order(saves: &[Save]) -> (usize, bool) {
+    let mut numbered = saves.iter().enumerate();
+    (
+        saves.len(),
+        numbered.all(|(place, save)| is_of(save, place)),
+    )
+}
+
+/// Fills a behaviour with saves. It answers how many there are, and whether they stand in their order.
 fn fill_saves(alloc: Global) -> Option<(usize, bool)> {
     let run: Run = Box::new(alloc, |frame: &Frame| begin(frame)).ok()?;
     let mut behaviour = behaviour_of(alloc, Transition::store(0, start_offer(1), run));
-    for number in 0..300 {
-        if behaviour.saves.len() < MOST {
-            add_save(&mut behaviour, save_of(number))?;
-        }
-    }
-    let saves = behaviour.saves.as_slice();
-    let mut numbered = saves.iter().enumerate();
-    Some((
-        saves.len(),
-        numbered.all(|(place, save)| is_of(save, place)),
-    ))
+    add_saves(&mut behaviour)?;
+    Some(saves_in_order(behaviour.saves.as_slice()))
 }
 
 #[test]

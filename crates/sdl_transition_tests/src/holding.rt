@@ -7,7 +7,7 @@ use sdl_agents::{Runner, hold};
 use sdl_examples::HOLD;
 use sdl_signal::{SetId, SignalId, StateId};
 use sdl_test_systems::routes_of;
-use sdl_transition::{Agents, Behaviour, BindFault, bind};
+use sdl_transition::{Agents, Behaviour, BindFault, Bound, Unbound, bind};
 use std::alloc::{AllocError, Global};
 
 /// Binds Hold with a save more.
@@ -20,14 +20,19 @@ struct WithSave {
 /// What came of it: the fault, or that none was found.
 type Found = Option<Option<BindFault>>;
 
+/// The fault of what was not bound.
+fn fault_of<S: Agents + Drop>(bound: Result<Bound<S>, Unbound<S>>) -> Option<BindFault> {
+    match bound {
+        Ok(_) => None,
+        Err(unbound) => Some(unbound.fault),
+    }
+}
+
 fn bind_hold<S: Agents + Drop>(alloc: Global, behaviours: Vec<Behaviour<S>>) -> Found
     requires { AllByRecursion (IsAllowedBehaviour S.may) behaviours.items }
 {
     match routes_of(alloc, HOLD) {
-        Ok((checked, routes)) => match bind(alloc, checked, routes, behaviours) {
-            Ok(_) => Some(None),
-            Err(unbound) => Some(Some(unbound.fault)),
-        },
+        Ok((checked, routes)) => Some(fault_of(bind(alloc, checked, routes, behaviours))),
         Err(_) => None,
     }
 }

@@ -1,0 +1,284 @@
+//! A chain of sixteen blocks in threads, 66 workers: the first two blocks make their first steps at once.
+ghost use Rattle.sdl_transition.specs.Bound.{IsBound};
+
+use sdl_behaviour::{Dest, Frame, Kind, Offer, Run, Step, Via};
+use sdl_graph::{Graph, OfferBuilder, StepBuilder, integer_parameter, no_step};
+use sdl_graph_binding::{Design, GraphAgents, SetDesign, Stored, bind_graph};
+use sdl_run::{AuditFault, Closing, Gate, Ledger, RunEnd, StartFault, audit, run_threads};
+use sdl_signal::{SignalId, Sort, StateId, Value};
+use sdl_test_systems::routes_of;
+use sdl_transition::Bound;
+use std::alloc::{AllocError, Global};
+use std::sync::Wait;
+use std::sync::atomic::AtomicU64;
+use std::sync::atomic::Ordering::SeqCst;
+use std::test::Fail;
+use std::thread;
+use std::thread::Threads;
+
+const BLOCKS: u32 = 16;
+
+const NUM: SignalId = SignalId(0);
+
+const IDLE: StateId = StateId(0);
+
+/// Each set sends the number that it receives on. An even number is that of a start, an odd one that of a row.
+struct Links;
+
+impl Graph for Links {
+    fn offer(number: u32) -> Offer {
+        let set = OfferBuilder::start(BLOCKS, &[]);
+        if number % 2 == 0 {
+            return set.next_state(IDLE).build();
+        }
+        set.row(IDLE, NUM, &[Sort::Integer])
+            .output(NUM, &[Sort::Integer], Via::Any)
+            .next_state(IDLE)
+            .build()
+    }
+
+    fn step(number: u32, frame: &Frame) -> Step {
+        if number % 2 == 0 {
+            return StepBuilder::next_state(frame, IDLE).build();
+        }
+        match integer_parameter(frame, 0) {
+            None => no_step(),
+            Some(number) => StepBuilder::next_state(frame, IDLE)
+                .output(NUM, &[Value::Integer(number)], Dest::Anywhere, Via::Any)
+                .build(),
+        }
+    }
+}
+
+const LINK: SetDesign = SetDesign {
+    name: "S0",
+    states: &["idle"],
+    variables: &[],
+    saves: &[],
+    transitions: 2,
+};
+
+const DESIGN: Design = Design {
+    uses: &[
+        (Kind::Set, 0, "S0"),
+        (Kind::Set, 1, "S1"),
+        (Kind::Set, 2, "S2"),
+        (Kind::Set, 3, "S3"),
+        (Kind::Set, 4, "S4"),
+        (Kind::Set, 5, "S5"),
+        (Kind::Set, 6, "S6"),
+        (Kind::Set, 7, "S7"),
+        (Kind::Set, 8, "S8"),
+        (Kind::Set, 9, "S9"),
+        (Kind::Set, 10, "S10"),
+        (Kind::Set, 11, "S11"),
+        (Kind::Set, 12, "S12"),
+        (Kind::Set, 13, "S13"),
+        (Kind::Set, 14, "S14"),
+        (Kind::Set, 15, "S15"),
+        (Kind::Signal, 0, "num"),
+    ],
+    sets: &[
+        LINK,
+        SetDesign { name: "S1", ..LINK },
+        SetDesign { name: "S2", ..LINK },
+        SetDesign { name: "S3", ..LINK },
+        SetDesign { name: "S4", ..LINK },
+        SetDesign { name: "S5", ..LINK },
+        SetDesign { name: "S6", ..LINK },
+        SetDesign { name: "S7", ..LINK },
+        SetDesign { name: "S8", ..LINK },
+        SetDesign { name: "S9", ..LINK },
+        SetDesign {
+            name: "S10",
+            ..LINK
+        },
+        SetDesign {
+            name: "S11",
+            ..LINK
+        },
+        SetDesign {
+            name: "S12",
+            ..LINK
+        },
+        SetDesign {
+            name: "S13",
+            ..LINK
+        },
+        SetDesign {
+            name: "S14",
+            ..LINK
+        },
+        SetDesign {
+            name: "S15",
+            ..LINK
+        },
+    ],
+};
+
+const HEAD: &str = "version = 1
+system = 'Chain'
+signal = [{ name = 'num', sorts = ['Integer'] }]
+gate = [{ name = 'in', inward = ['num'] }, { name = 'out', outward = ['num'] }]
+";
+
+/// The structure file of the chain. The channels between the blocks stand behind them.
+fn chain_file(alloc: Global) -> Result<String, AllocError> {
+    let gates = "gate = [{ name = 'i', inward = ['num'] }, { name = 'o', outward = ['num'] }]";
+    let mut blocks = String::new(alloc);
+    let mut channels = String::new(alloc);
+    let mut end = format!(in alloc; "env.in")?;
+    for n in 0..BLOCKS {
+        let block = format!(in alloc;
+            "[[block]]
+name = 'B{n}'
+{gates}
+set = [{{ name = 'S{n}', {gates} }}]
+channel = [
+  {{ name = 'x{n}', ends = ['env.i', 'S{n}.i'], forth = ['num'] }},
+  {{ name = 'y{n}', ends = ['S{n}.o', 'env.o'], forth = ['num'] }},
+]
+"
+        )?;
+        blocks.push_str(block.as_str())?;
+        let channel = format!(in alloc;
+            "[[channel]]
+name = 'c{n}'
+ends = ['{end}', 'B{n}.i']
+forth = ['num']
+"
+        )?;
+        channels.push_str(channel.as_str())?;
+        end = format!(in alloc; "B{n}.o")?;
+    }
+    format!(in alloc;
+        "{HEAD}{blocks}{channels}[[channel]]
+name = 'last'
+ends = ['{end}', 'env.out']
+forth = ['num']
+"
+    )
+}
+
+/// The first two workers, which are blocks, wait at their first steps until both are there, and give up after some tries.
+#[derive(Drop)]
+struct Meeting {
+    came: AtomicU64,
+    met: AtomicU64,
+}
+
+const TRIES: u64 = 100_000_000;
+
+impl Gate for Meeting {
+    fn before(&self, worker: u32, step: u64) {
+        if worker > 1 || step != 0 {
+            return;
+        }
+        self.came.fetch_add(1, SeqCst);
+        for _ in 0..TRIES {
+            if self.came.load(SeqCst) == 2 {
+                self.met.fetch_add(1, SeqCst);
+                return;
+            }
+            thread::yield_now();
+        }
+    }
+}
+
+/// What a run left that this test looks at.
+#[derive(Drop)]
+struct Left {
+    ledger: Ledger,
+    end: RunEnd,
+    workers: usize,
+    written: Vec<u8>,
+    /// What an audit says of it.
+    audited: Result<(), AuditFault>,
+}
+
+/// Runs the chain in threads on an input, and audits what it left.
+fn run_bound<T: Threads + Wait + Sync>(
+    rt: &T,
+    alloc: Global,
+    bound: Bound<GraphAgents<Links>>,
+    gate: &Meeting,
+    input: &[u8],
+) -> Result<Left, Fail>
+    requires { IsBound (λ _ _ _. Unit {0}) bound }
+{
+    let mut input = input;
+    let mut output = Vec::new(alloc);
+    let ran: Result<Closing<GraphAgents<Links>>, StartFault<GraphAgents<Links>>> = run_threads(
+        rt,
+        alloc,
+        bound,
+        1_000,
+        gate,
+        &mut input,
+        &mut output,
+    );
+    match ran {
+        Ok(closing) => {
+            let (closing, audited) = audit(rt, closing);
+            Ok(Left {
+                ledger: closing.ledger,
+                end: closing.end,
+                workers: closing.hands.len(),
+                written: output,
+                audited,
+            })
+        }
+        Err(StartFault::Memory(_)) => Err("memory".into()),
+    }
+}
+
+/// Stores the transitions, binds the chain and runs it.
+fn run<T: Threads + Wait + Sync>(
+    rt: &T,
+    alloc: Global,
+    gate: &Meeting,
+    input: &[u8],
+) -> Result<Left, Fail> {
+    let file = chain_file(alloc)?;
+    let Ok((checked, routes)) = routes_of(alloc, file.as_str()) else {
+        return Err("no chain".into());
+    };
+    let mut stored: Stored<Links> = Stored::new(alloc);
+    for number in 0..2 * BLOCKS {
+        let Some(own) = stored.answering(number) else {
+            break;
+        };
+        let offer = own.offer();
+        let run: Run = match Box::new(alloc, move |frame: &Frame| own.answer(frame)) {
+            Ok(run) => run,
+            Err(_) => break,
+        };
+        stored.keep(number, offer, run);
+    }
+    let (transitions, _) = stored.into_parts()?;
+    let bound = bind_graph(alloc, checked, routes, &DESIGN, transitions)?;
+    run_bound(rt, alloc, bound, gate, input)
+}
+
+#[test]
+fn two_blocks_of_a_chain_make_their_first_step_at_once(rt: HostRuntime) -> Result<(), Fail> {
+    let meeting = Meeting {
+        came: AtomicU64::new(0),
+        met: AtomicU64::new(0),
+    };
+    let left = run(&rt, rt.alloc(), &meeting, b"in num 7\n")?;
+    assert!(rt; meeting.met.load(SeqCst) == 2);
+    assert!(rt; (left.end, left.workers) == (RunEnd::Quiet, 66));
+    assert!(rt; left.written.as_slice() == b"out num 7\n".as_slice());
+    // the line, and what each block sends
+    let ledger = Ledger {
+        output: 17,
+        entered: 17,
+        fired: 16,
+        environment: 1,
+        ..Ledger::default()
+    };
+    assert!(rt; left.ledger == ledger);
+    assert!(rt; left.audited == Ok(()));
+    Ok(())
+}

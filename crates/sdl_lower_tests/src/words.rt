@@ -1,0 +1,43 @@
+//! The words that no name can be.
+use sdl_tokens::is_reserved;
+
+const WORDS: [&str; 26] = [
+    "output",
+    "create",
+    "next",
+    "stop",
+    "if",
+    "then",
+    "else",
+    "fi",
+    "to",
+    "via",
+    "channel",
+    "and",
+    "or",
+    "xor",
+    "not",
+    "mod",
+    "rem",
+    "true",
+    "false",
+    "null",
+    "env",
+    "self",
+    "parent",
+    "offspring",
+    "sender",
+    "serial",
+];
+
+#[test]
+fn words_are_reserved_in_small_letters_alone(rt: HostRuntime) {
+    for word in WORDS {
+        assert!(rt; is_reserved(word.as_bytes()), "{word}");
+    }
+    for name in [
+        "", "Output", "SELF", "outputs", "i", "ifs", "mod ", "modulo", "state", "timer",
+    ] {
+        assert!(rt; !is_reserved(name.as_bytes()), "{name}");
+    }
+}
