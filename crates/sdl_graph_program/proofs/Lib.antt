@@ -1,3 +1,4 @@
 mod Numbers
 mod Behind
 mod Ended
+pub mod Moved

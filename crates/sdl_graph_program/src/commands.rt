@@ -1,5 +1,5 @@
 //! The commands of a graph's program up to a run.
-ghost use Rattle.std.specs.Prelude.{◌≡◌, ◌≢◌, ℕ, List, false, IfOk, IfErr, IsErr};
+ghost use Rattle.std.specs.Prelude.{◌≡◌, ◌≢◌, ℕ, List, false, None, IfOk, IfErr, IsErr};
 ghost use Rattle.std.specs.Io.KnownBytes.{Keeps};
 ghost use Rattle.sdl_file_commands.specs.Commands.{IsDone};
 ghost use Rattle.sdl_file_commands.specs.Files.{Declares};
@@ -8,9 +8,11 @@ ghost use Rattle.sdl_file_commands.specs.Running.{CanRun};
 ghost use Rattle.sdl_graph_program.specs.Outcomes.{IsDoneAtOnce, IsToldOf};
 
 use crate::words::{PlainWords, plain_words};
+use sdl_chart_words::{Request, request_of};
 use sdl_command::arguments::{Arguments, Command, Options, read_arguments};
 use sdl_command::errors::{without_memory, write_error};
 use sdl_command::status::{REFUSED, WRONG_ARGUMENTS};
+use sdl_drawing_text::{form_of, structure_at};
 use sdl_explaining::explain;
 use sdl_file_commands::commands::{check_command, checked_file, routes_command, routes_in};
 use sdl_file_commands::files::{FileRead, read_file};
@@ -23,7 +25,7 @@ use std::io::Write;
 use std::rt::{Env, Files};
 
 const USAGE: &str =
-    "usage: check FILE | routes FILE | run [--serial] [--ledger] [--trace] [--audit] FILE";
+    "usage: check FILE | routes FILE | structure [--dot] FILE | run [--serial] [--ledger] [--trace] [--audit] FILE | chart [--serial] [--text] [--from N] [--to N] FILE";
 
 /// A run that is asked for: the structure of a file, with its routes, what is to be told of the run, and where it takes its memory.
 #[derive(Drop)]
@@ -32,13 +34,15 @@ pub struct Prepared {
     pub options: Options,
     /// Whether what the run leaves is audited.
     pub audit: bool,
+    /// What is to be written of the run as its chart, where one is asked for in place of the environment's lines.
+    pub chart: Option<Request>,
     pub checked: Checked,
     pub routes: Routes,
 }
 
 /// Carries out `check` or `routes` on the bytes of a structure file, and answers the exit status; for `run` the run that
 /// is asked for, where the file and its structure keep all rules, and else the status of a refusal. What the run leaves is not
-/// audited, unless the caller asks for that.
+/// audited, and no chart of it is written, unless the caller asks for that.
 pub fn prepare_file<W: Write, E: Write>(
     alloc: Global,
     file: &[u8],
@@ -48,7 +52,7 @@ pub fn prepare_file<W: Write, E: Write>(
 ) -> Result<Prepared, u8>
     ensures ready { IfOk result (λ p. CanRun p.checked p.routes) }
     ensures declared { IfOk result (λ p. Declares file.now p.checked) }
-    ensures asked { IfOk result (λ p. (p.options ≡ options) × (p.audit ≡ false)) }
+    ensures asked { IfOk result (λ p. (p.options ≡ options) × (p.audit ≡ false) × (p.chart ≡ None)) }
     // Only a run is prepared, and a run that is not is refused.
     ensures done { options.command ≢ Command.Run → IfErr result (IsDone HasRun (W.contents output.old) (W.contents output.new) options.command file.now) }
     ensures run { options.command ≡ Command.Run → IfErr result (λ status. status ≡ 1) }
@@ -75,7 +79,7 @@ fn prepare_asked<W: Write, E: Write>(
 ) -> Result<Prepared, u8>
     ensures ready { IfOk result (λ p. CanRun p.checked p.routes) }
     ensures declared { IfOk result (λ p. Declares file.now p.checked) }
-    ensures asked { IfOk result (λ p. (p.options ≡ options) × (p.audit ≡ audit)) }
+    ensures asked { IfOk result (λ p. (p.options ≡ options) × (p.audit ≡ audit) × (p.chart ≡ None)) }
     ensures done { options.command ≢ Command.Run → IfErr result (IsDone HasRun (W.contents output.old) (W.contents output.new) options.command file.now) }
     ensures run { options.command ≡ Command.Run → IfErr result (λ status. status ≡ 1) }
     ensures others { options.command ≢ Command.Run → IsErr result }
@@ -98,6 +102,7 @@ fn prepare_asked<W: Write, E: Write>(
                 alloc,
                 options,
                 audit,
+                chart: None,
                 checked,
                 routes,
             }),
@@ -153,8 +158,81 @@ fn prepare_words<H: Env + Files + AllocGlobal, W: Write, E: Write>(
         return Ok(Err(wrong_arguments(errors)));
     };
     let shown = words_behind_the_name(alloc, words.as_slice())?;
-    let PlainWords { words, audit } = plain_words(alloc, shown.as_slice())?;
-    Ok(prepare_shown(rt, alloc, words.as_slice(), audit, output, errors))
+    match shown.as_slice() {
+        [command, rest @ ..] if *command == "structure" => {
+            Ok(Err(show_structure(rt, alloc, rest, output, errors)))
+        }
+        [command, rest @ ..] if *command == "chart" => {
+            Ok(prepare_chart(rt, alloc, rest, output, errors))
+        }
+        words => {
+            let PlainWords { words, audit } = plain_words(alloc, words)?;
+            Ok(prepare_shown(rt, alloc, words.as_slice(), audit, output, errors))
+        }
+    }
+}
+
+/// Carries out `structure` with the words behind it, and answers the exit status.
+fn show_structure<H: Files, W: Write, E: Write>(
+    rt: &H,
+    alloc: Global,
+    words: &[&str],
+    output: &mut W,
+    errors: &mut E,
+) -> u8
+    ensures done { IsDoneAtOnce (W.contents output.old) (W.contents output.new) result }
+    ensures refused { result ≡ 1 → output.new ≡ output.old }
+    ensures silent { result ≡ 0 → Keeps (E.contents errors.old) (E.contents errors.new) }
+{
+    let Some(form) = form_of(words) else {
+        return wrong_arguments(errors);
+    };
+    let Some(path) = words.last() else {
+        return wrong_arguments(errors);
+    };
+    structure_at(rt, alloc, path, form, output, errors)
+}
+
+/// The same for the words behind `chart`: its options, and last the file.
+fn prepare_chart<H: Files, W: Write, E: Write>(
+    rt: &H,
+    alloc: Global,
+    words: &[&str],
+    output: &mut W,
+    errors: &mut E,
+) -> Result<Prepared, u8>
+    ensures ready { IfOk result (λ p. CanRun p.checked p.routes) }
+    ensures declared { IfOk result (λ p. (file : List ℕ) × Declares file p.checked) }
+    ensures run { IfOk result (λ p. p.options.command ≡ Command.Run) }
+    ensures done { IfErr result (IsDoneAtOnce (W.contents output.old) (W.contents output.new)) }
+    ensures unwritten { IfOk result (λ p. output.new ≡ output.old) }
+    ensures quiet { IfOk result (λ p. errors.new ≡ errors.old) }
+    ensures refused { IfErr result (λ status. status ≡ 1 → output.new ≡ output.old) }
+    ensures silent { IfErr result (λ status. status ≡ 0 → Keeps (E.contents errors.old) (E.contents errors.new)) }
+{
+    let Some((file, chosen)) = words.split_last() else {
+        return Err(wrong_arguments(errors));
+    };
+    if file.starts_with("--") {
+        return Err(wrong_arguments(errors));
+    }
+    let Some(request) = request_of(chosen) else {
+        return Err(wrong_arguments(errors));
+    };
+    let options = Options {
+        command: Command::Run,
+        serial: request.serial,
+        ledger: false,
+        trace: false,
+    };
+    match prepare_path(rt, alloc, file, options, false, output, errors) {
+        Ok(prepared) => {
+            let mut charted = prepared;
+            charted.chart = Some(request);
+            Ok(charted)
+        }
+        Err(status) => Err(status),
+    }
 }
 
 /// The same for the words after the program's name without `--audit`, which `run` alone may have.

@@ -4,6 +4,7 @@
 
 pub mod audited;
 mod breaking;
+mod charting;
 pub mod commands;
 mod faults;
 mod misfitting;
@@ -18,8 +19,9 @@ pub use sdl_behaviour::{Dest, Frame, Kind, Offer, Run, Step, Via};
 pub use sdl_command::status::REFUSED;
 pub use sdl_file_commands::streams::{Input, Output, shared_buffer};
 pub use sdl_graph::{
-    Graph, OfferBuilder, StepBuilder, boolean_parameter, boolean_variable, in_place,
-    integer_parameter, integer_variable, no_offer, no_step, pid_parameter, pid_variable,
+    Agent, Answer, Graph, Inward, NoStep, OfferBuilder, Outward, SetLists, States, StepBuilder,
+    answer_of, boolean_parameter, boolean_variable, in_place, integer_parameter, integer_variable,
+    next_state, no_offer, no_step, offer_in, parameter, pid_parameter, pid_variable, variable,
 };
-pub use sdl_graph_binding::{Answering, Design, GraphFault, SetDesign, Stored, Use};
+pub use sdl_graph_binding::{AgentSets, Answering, Design, GraphFault, SetDesign, Stored, Use};
 pub use sdl_signal::{ChannelId, GateId, Pid, SetId, SignalId, Sort, StateId, Value};

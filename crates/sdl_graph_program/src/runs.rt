@@ -1,17 +1,19 @@
 //! The command `run` of a graph's program, once its transitions are stored.
-ghost use Rattle.std.specs.Prelude.{◌≡◌, ◌⊎◌, MatchOption};
+ghost use Rattle.std.specs.Prelude.{◌≡◌, ◌⊎◌, MatchOption, option_map};
 ghost use Rattle.std.specs.Io.KnownBytes.{Keeps};
 ghost use Rattle.sdl_transition.specs.Bound.{IsBound, structure_of, routes_of};
 ghost use Rattle.sdl_file_commands.specs.Running.{CanRun, HasBudget};
 ghost use Rattle.sdl_driver.specs.Closings.{plan_of_bound};
-ghost use Rattle.sdl_graph_program.specs.Outcomes.{HasMadeAudited, HasRunGraphOrNot};
+ghost use Rattle.sdl_graph_program.specs.Outcomes.{HasMadeAudited, HasMadeAsked, HasRunGraphOrNot};
 
 use crate::audited::run_audited;
 use crate::breaking::BrokenPart;
+use crate::charting::to_chart_of;
 use crate::commands::Prepared;
 use crate::faults::write_graph_fault;
 use crate::numbering::Numbered;
-use sdl_command::errors::write_error;
+use sdl_chart_runs::{ToChart, run_charted};
+use sdl_command::errors::{without_memory, write_error};
 use sdl_command::status::REFUSED;
 use sdl_file_runs::in_threads::run_bound_in_threads;
 use sdl_file_runs::running::Settings;
@@ -22,6 +24,13 @@ use std::alloc::Global;
 use std::io::{Read, Write};
 use std::sync::Wait;
 use std::thread::Threads;
+
+/// What is told of a run: whether what it leaves is audited, or its chart.
+#[derive(Drop)]
+pub struct Telling {
+    pub audit: bool,
+    pub to_chart: Option<ToChart>,
+}
 
 /// The status of a run in which a transition broke its offer.
 pub const BROKEN: u8 = 4;
@@ -48,7 +57,7 @@ pub fn run_prepared<G: Graph + Send, T: Threads + Wait + Sync, R: Read, W: Write
     errors: &mut E,
 ) -> u8
     requires { CanRun prepared.checked prepared.routes }
-    ensures run { HasRunGraphOrNot prepared.options prepared.audit (R.remaining input.old) (R.remaining input.new)
+    ensures run { HasRunGraphOrNot prepared.chart prepared.options prepared.audit (R.remaining input.old) (R.remaining input.new)
         (W.contents output.old) (W.contents output.new) prepared.checked prepared.routes result }
     // Where nothing was run, nothing was read or written.
     ensures refused { result ≡ 1 → (input.new ≡ input.old) × (output.new ≡ output.old) }
@@ -58,6 +67,7 @@ pub fn run_prepared<G: Graph + Send, T: Threads + Wait + Sync, R: Read, W: Write
         alloc,
         options,
         audit,
+        chart,
         checked,
         routes,
     } = prepared;
@@ -70,9 +80,14 @@ pub fn run_prepared<G: Graph + Send, T: Threads + Wait + Sync, R: Read, W: Write
         Ok(parts) => parts,
         Err(fault) => return refused(errors, design, fault),
     };
+    let Ok(to_chart) = to_chart_of(alloc, chart, checked.structure(), design) else {
+        without_memory(errors);
+        return REFUSED;
+    };
+    let telling = Telling { audit, to_chart };
     match bind_graph(alloc, checked, routes, design, transitions) {
         Ok(bound) => run_marked(
-            rt, settings, audit, bound, design, &marks, input, output, errors,
+            rt, settings, &telling, bound, design, &marks, input, output, errors,
         ),
         Err(fault) => refused(errors, design, fault),
     }
@@ -82,7 +97,7 @@ pub fn run_prepared<G: Graph + Send, T: Threads + Wait + Sync, R: Read, W: Write
 fn run_marked<G: Graph + Send, T: Threads + Wait + Sync, R: Read, W: Write, E: Write>(
     rt: &T,
     settings: Settings,
-    audit: bool,
+    telling: &Telling,
     bound: Bound<GraphAgents<G>>,
     design: &Design,
     marks: &Marks,
@@ -92,16 +107,39 @@ fn run_marked<G: Graph + Send, T: Threads + Wait + Sync, R: Read, W: Write, E: W
 ) -> u8
     requires bound { IsBound (λ _ _ _. Unit {0}) bound }
     requires budget { HasBudget (structure_of bound) }
-    ensures run { HasRunGraphOrNot settings.entry.options audit (R.remaining input.old) (R.remaining input.new)
+    ensures run { HasRunGraphOrNot (option_map (λ t. t.request) telling.now.to_chart) settings.entry.options telling.now.audit (R.remaining input.old) (R.remaining input.new)
         (W.contents output.old) (W.contents output.new) (structure_of bound) (routes_of bound) result }
     ensures refused { result ≡ 1 → (input.new ≡ input.old) × (output.new ≡ output.old) }
     ensures silent { result ≡ 0 → Keeps (E.contents errors.old) (E.contents errors.new) }
 {
-    let status = run_told(rt, settings, audit, bound, input, output, &mut *errors);
+    let status = run_as_told(rt, settings, telling, bound, input, output, &mut *errors);
     if status == REFUSED {
         return REFUSED;
     }
     report_broken::<G, E>(status, design, marks.broken(), errors)
+}
+
+/// Runs a system that is bound, and writes its chart where one is asked for.
+pub fn run_as_told<S: Agents + Send + Drop, T: Threads + Wait + Sync, R: Read, W: Write, E: Write>(
+    rt: &T,
+    settings: Settings,
+    telling: &Telling,
+    bound: Bound<S>,
+    input: &mut R,
+    output: &mut W,
+    errors: &mut E,
+) -> u8
+    requires bound { IsBound S.may bound }
+    requires budget { HasBudget (structure_of bound) }
+    ensures made { (result ≡ 1) ⊎ HasMadeAsked S.may (plan_of_bound bound (structure_of bound).budget) (option_map (λ t. t.request) telling.now.to_chart) settings.entry.options telling.now.audit
+        (R.remaining input.old) (R.remaining input.new) (W.contents output.old) (W.contents output.new) result }
+    ensures refused { result ≡ 1 → (input.new ≡ input.old) × (output.new ≡ output.old) }
+    ensures silent { result ≡ 0 → Keeps (E.contents errors.old) (E.contents errors.new) }
+{
+    match &telling.to_chart {
+        Some(to_chart) => run_charted(rt, settings, bound, to_chart, input, output, errors),
+        None => run_told(rt, settings, telling.audit, bound, input, output, errors),
+    }
 }
 
 /// Runs a system that is bound, with its structure's budget and with an audit of what it leaves where that is asked for, and answers

@@ -5,5 +5,6 @@
 mod faults;
 mod labels;
 pub mod runs;
+mod states;
 
 pub use runs::{BENT, run_listing};

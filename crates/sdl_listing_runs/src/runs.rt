@@ -14,8 +14,10 @@ ghost use Rattle.sdl_listing_runs.specs.Outcomes.{HasRunPrepared, HasRunMarked};
 
 use crate::faults::write_listing_fault;
 use crate::labels::{Label, labels_of};
+use crate::states::{states_of, to_chart_with};
 use sdl_behaviour::{Agents, Frame, Run, Transition};
 use sdl_body::{Row, offer_of};
+use sdl_chart_text::States;
 use sdl_command::errors::write_error;
 use sdl_command::status::REFUSED;
 use sdl_file_agents::{
@@ -24,7 +26,7 @@ use sdl_file_agents::{
 };
 use sdl_file_runs::running::Settings;
 use sdl_graph_program::Prepared;
-use sdl_graph_program::runs::run_told;
+use sdl_graph_program::runs::{Telling, run_as_told};
 use sdl_parts::Structure;
 use std::alloc::Global;
 use std::collections::VecDeque;
@@ -49,6 +51,8 @@ struct ToStore {
 struct Others {
     heads: Vec<Head>,
     labels: Vec<Label>,
+    /// The names of states, where a chart is asked for.
+    states: States,
     marks: Marks,
 }
 
@@ -62,7 +66,8 @@ struct Job {
 /// Runs the agents that the listing says in the structure that is prepared, in threads unless one was asked for, and answers the
 /// exit status: the first refusal, or how the run ended. The blocks have the rules that the listing says of their sets, and each
 /// answer is what the row of the transition's number says for the frame. Where a value was bent, a line of standard error names the
-/// first transition that bent one, with the number of such answers. May wait for other threads.
+/// first transition that bent one, with the number of such answers. Where a chart of the run is asked for, it is written in place of
+/// the environment's lines. May wait for other threads.
 pub fn run_listing<T: Threads + Wait + Sync, R: Read, W: Write, E: Write>(
     rt: &T,
     prepared: Prepared,
@@ -105,7 +110,9 @@ fn try_listing<T: Threads + Wait + Sync, R: Read, W: Write, E: Write>(
     ensures fault { IsErr result → (input.new ≡ input.old) × (output.new ≡ output.old) }
     ensures silent { IfOk result (λ status. status ≡ 0 → Keeps (E.contents errors.old) (E.contents errors.new)) }
 {
-    let (to_store, others) = taken_apart(prepared.alloc, prepared.checked.structure(), listing)?;
+    let structure = prepared.checked.structure();
+    let charted = prepared.chart.is_some();
+    let (to_store, others) = taken_apart(prepared.alloc, structure, listing, charted)?;
     let mut waiting = Some(Job { prepared, others });
     run_rows::<Brand, T, R, W, E>(rt, to_store, &mut waiting, input, output, errors)
 }
@@ -115,6 +122,7 @@ fn taken_apart(
     alloc: Global,
     structure: &Structure,
     listing: Vec<ListedSet>,
+    charted: bool,
 ) -> Result<(ToStore, Others), ListingFault>
     ensures rows { IfOk result (λ both. both.0.rows.items ≡ rows_of listing.items) }
     ensures few { IfOk result (λ both. length both.0.rows.items < 2 ^ 32) }
@@ -122,6 +130,7 @@ fn taken_apart(
     ensures heads { IfOk result (λ both. map head_parts both.1.heads.items ≡ map listed_head listing.items) }
 {
     let labels = labels_of(alloc, structure, listing.as_slice())?;
+    let states = states_of(alloc, structure, listing.as_slice(), charted)?;
     let marks = Marks::new(alloc)?;
     let shared = marks.share()?;
     let (heads, rows) = lay_out(alloc, listing)?;
@@ -136,6 +145,7 @@ fn taken_apart(
     let others = Others {
         heads,
         labels,
+        states,
         marks,
     };
     Ok((to_store, others))
@@ -234,9 +244,19 @@ fn run_job<S: Agents + Send + Drop, T: Threads + Wait + Sync, R: Read, W: Write,
     let Others {
         heads,
         labels,
+        states,
         marks,
     } = others;
-    let status = run_prepared(rt, prepared, heads, stored, input, output, &mut *errors);
+    let status = run_prepared(
+        rt,
+        prepared,
+        heads,
+        states,
+        stored,
+        input,
+        output,
+        &mut *errors,
+    );
     if status == REFUSED {
         return REFUSED;
     }
@@ -249,6 +269,7 @@ fn run_prepared<S: Agents + Send + Drop, T: Threads + Wait + Sync, R: Read, W: W
     rt: &T,
     prepared: Prepared,
     heads: Vec<Head>,
+    states: States,
     stored: VecDeque<Transition<S>>,
     input: &mut R,
     output: &mut W,
@@ -267,6 +288,7 @@ fn run_prepared<S: Agents + Send + Drop, T: Threads + Wait + Sync, R: Read, W: W
         alloc,
         options,
         audit,
+        chart,
         checked,
         routes,
     } = prepared;
@@ -275,8 +297,10 @@ fn run_prepared<S: Agents + Send + Drop, T: Threads + Wait + Sync, R: Read, W: W
         options,
         schedule: &[],
     };
+    let to_chart = to_chart_with(chart, states);
+    let telling = Telling { audit, to_chart };
     match bind_listing(alloc, checked, routes, heads, stored) {
-        Ok(bound) => run_told(rt, settings, audit, bound, input, output, errors),
+        Ok(bound) => run_as_told(rt, settings, &telling, bound, input, output, errors),
         Err(fault) => {
             write_listing_fault(errors, fault);
             REFUSED

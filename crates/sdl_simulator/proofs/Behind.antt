@@ -2,7 +2,7 @@
 use Rattle.std.proofs.Common.{◌≡◌, ℕ, List, [], ◌∷◌, ◌++◌, Some, Bor, map, refl, ap, ◌∙◌}
 use Rattle.std.proofs.lemmas.List.{map-append}
 use Rattle.sdl_command.specs.Arguments.{last_word, words_before}
-use Rattle.sdl_simulator.specs.Words.{run_of, run_with, chosen_of}
+use Rattle.sdl_simulator.specs.Words.{run_of, run_with, chosen_of, chart_of, chart_with, charted}
 
 last_behind : (words : List (List ℕ)) (file : List ℕ) → last_word (words ++ file ∷ []) ≡ Some file
 last_behind [] file = refl
@@ -33,3 +33,20 @@ run_split words front chosen file agents h k =
     let both : map now words ≡ map now front ++ agents.now ∷ [] = ap (map now) h ∙ map-append now front (agents ∷ []) in
     let first : map now front ≡ map now chosen ++ file.now ∷ [] = ap (map now) k ∙ map-append now chosen (file ∷ []) in
     ap run_of (both ∙ ap (λ fs. fs ++ agents.now ∷ []) first) ∙ run_behind (map now chosen) file.now agents.now
+
+chart_behind : (chosen : List (List ℕ)) (file agents : List ℕ) → chart_of ((chosen ++ file ∷ []) ++ agents ∷ []) ≡ charted chosen file agents
+chart_behind chosen file agents =
+    let front : List (List ℕ) = chosen ++ file ∷ [] in
+    let all : List (List ℕ) = front ++ agents ∷ [] in
+    ap (λ fs. chart_with (words_before fs) (last_word fs) (last_word all)) (before_last front agents)
+    ∙ (ap (λ cs. chart_with cs (last_word front) (last_word all)) (before_last chosen file)
+    ∙ (ap (λ f. chart_with chosen f (last_word all)) (last_behind chosen file)
+    ∙ ap (λ a. chart_with chosen (Some file) a) (last_behind front agents)))
+
+-- the options of a chart and both files
+pub chart_split : (words front chosen : List (Bor (List ℕ))) (file agents : Bor (List ℕ)) → words ≡ front ++ agents ∷ [] → front ≡ chosen ++ file ∷ []
+    → chart_of (map (λ w. w.now) words) ≡ charted (map (λ w. w.now) chosen) file.now agents.now
+chart_split words front chosen file agents h k =
+    let both : map now words ≡ map now front ++ agents.now ∷ [] = ap (map now) h ∙ map-append now front (agents ∷ []) in
+    let first : map now front ≡ map now chosen ++ file.now ∷ [] = ap (map now) k ∙ map-append now chosen (file ∷ []) in
+    ap chart_of (both ∙ ap (λ fs. fs ++ agents.now ∷ []) first) ∙ chart_behind (map now chosen) file.now agents.now

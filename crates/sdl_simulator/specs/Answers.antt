@@ -1,20 +1,22 @@
 -- What the simulator does of its words, and its exit statuses. (This project's own.)
-use Rattle.std.specs.Prelude.{◌≡◌, ℕ, ◌⊎◌, Bool, List, Option, Some, None}
+use Rattle.std.specs.Prelude.{◌≡◌, ℕ, ◌⊎◌, Bool, false, List, Option, Some, None}
 use Rattle.std.specs.Io.KnownBytes.{Keeps}
 use Rattle.sdl_parts.specs.Structure.{Structure}
 use Rattle.sdl_routes.specs.declared.route.TableRow.{TableRow}
 use Rattle.sdl_routes.specs.Routes.{AreRoutesOf}
 use Rattle.sdl_body.specs.declared.listing.ListedSet.{ListedSet}
 use Rattle.sdl_command.specs.declared.arguments.Options.{Options}
+use Rattle.sdl_chart_words.specs.declared.asked.Request.{Request}
 use Rattle.sdl_file_commands.specs.Files.{Declares}
 use Rattle.sdl_file_commands.specs.Commands.{HasPrinted}
 use Rattle.sdl_file_commands.specs.Texts.{check_text}
 use Rattle.sdl_file_agents.specs.Answers.{rows_of, IsAnswerIn}
 use Rattle.sdl_graph_program.specs.Outcomes.{IsToldOf}
 use Rattle.sdl_listing_runs.specs.Outcomes.{HasRunListed}
+use Rattle.sdl_drawing_text.specs.Commands.{IsShown}
 use Rattle.sdl_simulator.specs.declared.words.Asked.{Asked}
 use Rattle.sdl_simulator.specs.declared.words.Asked.TheVariants as asked
-use Rattle.sdl_simulator.specs.Words.{asked_of}
+use Rattle.sdl_simulator.specs.Words.{asked_of, chart_options}
 use Rattle.sdl_simulator.specs.Files.{Describes}
 
 -- a command on both files was refused, or it was done on the structure that the first declares, and on what the second says of its sets
@@ -26,10 +28,10 @@ IsDoneOf done status =
 -- The structure was run to an end. Its blocks have the rules that the listing says of their sets: which transition is made in which state
 -- for which signal, and what is saved. Each answer is what the row of its number says for the frame. The status tells how the run
 -- ended, or that in one of these answers a value was bent.
-abbrev pub HasRunListing : Options → Bool → Option (List ℕ) → Option (List ℕ) → Option (List ℕ) → Option (List ℕ) → Structure → List ListedSet → ℕ → Type 0
-HasRunListing options audit unread rest old new s listing status =
+abbrev pub HasRunListing : Option Request → Options → Bool → Option (List ℕ) → Option (List ℕ) → Option (List ℕ) → Option (List ℕ) → Structure → List ListedSet → ℕ → Type 0
+HasRunListing chart options audit unread rest old new s listing status =
     (routes : List TableRow) × AreRoutesOf s routes
-    × ((told : ℕ) × HasRunListed (IsAnswerIn (rows_of listing)) listing s routes options audit unread rest old new told × ((status ≡ told) ⊎ (status ≡ 4)))
+    × ((told : ℕ) × HasRunListed (IsAnswerIn (rows_of listing)) listing s routes chart options audit unread rest old new told × ((status ≡ told) ⊎ (status ≡ 4)))
 
 -- nothing was read and nothing written
 abbrev pub IsUntouched : Option (List ℕ) → Option (List ℕ) → Option (List ℕ) → Option (List ℕ) → Type 0
@@ -41,10 +43,14 @@ abbrev pub Answers : Option Asked → Option (List ℕ) → Option (List ℕ) �
 Answers None unread rest old new status = (status ≡ 2) × IsUntouched unread rest old new
 Answers (Some (asked.File command)) unread rest old new status =
     ((file : List ℕ) × IsToldOf old new file status) × Keeps unread rest × (status ≡ 1 → Keeps old new)
+Answers (Some (asked.Structure form)) unread rest old new status =
+    ((file : List ℕ) × IsShown form file old new status) × Keeps unread rest × (status ≡ 1 → Keeps old new)
 Answers (Some asked.Check) unread rest old new status =
     IsDoneOf (λ s listing told. HasPrinted old new (check_text s) told) status × Keeps unread rest × (status ≡ 1 → Keeps old new)
 Answers (Some (asked.Run options audit)) unread rest old new status =
-    IsDoneOf (HasRunListing options audit unread rest old new) status × (status ≡ 1 → IsUntouched unread rest old new)
+    IsDoneOf (HasRunListing None options audit unread rest old new) status × (status ≡ 1 → IsUntouched unread rest old new)
+Answers (Some (asked.Chart request)) unread rest old new status =
+    IsDoneOf (HasRunListing (Some request) (chart_options request) false unread rest old new) status × (status ≡ 1 → IsUntouched unread rest old new)
 
 -- the program: what it was asked for by its words; or memory was refused before it had them, or one of them was not UTF-8
 abbrev pub IsAnswered : Option (List ℕ) → Option (List ℕ) → Option (List ℕ) → Option (List ℕ) → ℕ → Type 0

@@ -1,5 +1,5 @@
-//! `sdl_simulator`: any system, by its structure file and its agents file. It takes the words `check FILE [AGENTS]`, `routes FILE`
-//! and `run [--serial] [--ledger] [--trace] [--audit] FILE AGENTS`.
+//! `sdl_simulator`: any system, by its structure file and its agents file. It takes the words `check FILE [AGENTS]`, `routes FILE`,
+//! `structure [--dot] FILE`, `run [--serial] [--ledger] [--trace] [--audit] FILE AGENTS`, and `chart` with the options of a run's chart.
 #![tactic(auto)]
 
 mod agents;

@@ -12,9 +12,11 @@ ghost use Rattle.sdl_simulator.specs.Answers.{Answers, HasRunListing, IsAnswered
 
 use crate::agents::listing_of;
 use crate::words::{Asked, asked_of};
+use sdl_chart_words::Request;
 use sdl_command::arguments::{Command, Options};
 use sdl_command::errors::{without_memory, write_error};
 use sdl_command::status::{REFUSED, WRONG_ARGUMENTS};
+use sdl_drawing_text::structure_at;
 use sdl_file_agents::{ListedSet, are_sound};
 use sdl_file_commands::commands::check_command;
 use sdl_file_commands::files::{FileRead, read_file};
@@ -29,7 +31,7 @@ use std::sync::Wait;
 use std::thread::Threads;
 
 const USAGE: &str =
-    "usage: check FILE [AGENTS] | routes FILE | run [--serial] [--ledger] [--trace] [--audit] FILE AGENTS";
+    "usage: check FILE [AGENTS] | routes FILE | structure [--dot] FILE | run [--serial] [--ledger] [--trace] [--audit] FILE AGENTS | chart [--serial] [--text] [--from N] [--to N] FILE AGENTS";
 
 /// The paths of a structure file and of an agents file.
 #[derive(Clone, Copy)]
@@ -43,6 +45,8 @@ struct Paths<'a> {
 struct Chosen {
     options: Options,
     audit: bool,
+    /// What is asked for of the chart of the run, where one is written.
+    chart: Option<Request>,
 }
 
 /// A structure that is prepared for a run, and what an agents file says of its sets.
@@ -110,9 +114,28 @@ fn run_words<H: Files + Threads + Wait + Sync, R: Read, W: Write, E: Write>(
     let paths = paths_in(words);
     match asked {
         Asked::File(command) => do_alone(rt, alloc, paths.agents, command, output, errors),
+        Asked::Structure(form) => structure_at(rt, alloc, paths.agents, form, output, errors),
         Asked::Check => check_both(rt, alloc, paths, output, errors),
         Asked::Run(options, audit) => {
-            let chosen = Chosen { options, audit };
+            let chosen = Chosen {
+                options,
+                audit,
+                chart: None,
+            };
+            run_both(rt, alloc, paths, chosen, input, output, errors)
+        }
+        Asked::Chart(request) => {
+            let options = Options {
+                command: Command::Run,
+                serial: request.serial,
+                ledger: false,
+                trace: false,
+            };
+            let chosen = Chosen {
+                options,
+                audit: false,
+                chart: Some(request),
+            };
             run_both(rt, alloc, paths, chosen, input, output, errors)
         }
     }
@@ -210,7 +233,7 @@ fn simulation_of<H: Files, W: Write, E: Write>(
     ensures ready { IfSome result (λ x. CanRun x.prepared.checked x.prepared.routes) }
     ensures declared { IfSome result (λ x. (file : List ℕ) × Declares file x.prepared.checked) }
     ensures described { IfSome result (λ x. (agents : List ℕ) × Describes agents x.prepared.checked x.listing.items) }
-    ensures asked { IfSome result (λ x. (x.prepared.options ≡ chosen.options) × (x.prepared.audit ≡ chosen.audit)) }
+    ensures asked { IfSome result (λ x. (x.prepared.options ≡ chosen.options) × (x.prepared.audit ≡ chosen.audit) × (x.prepared.chart ≡ chosen.chart)) }
     ensures unwritten { output.new ≡ output.old }
     ensures quiet { IfSome result (λ x. errors.new ≡ errors.old) }
 {
@@ -219,6 +242,7 @@ fn simulation_of<H: Files, W: Write, E: Write>(
     };
     let mut prepared = prepared;
     prepared.audit = chosen.audit;
+    prepared.chart = chosen.chart;
     let structure = prepared.checked.structure();
     let listing = listing_of(rt, alloc, paths.agents, structure, errors)?;
     Some(Simulation { prepared, listing })
@@ -245,6 +269,7 @@ fn check_both<H: Files, W: Write, E: Write>(
     let chosen = Chosen {
         options,
         audit: false,
+        chart: None,
     };
     let Some(simulation) = simulation_of(rt, alloc, paths, chosen, output, errors) else {
         return REFUSED;
@@ -263,7 +288,7 @@ fn run_both<H: Files + Threads + Wait + Sync, R: Read, W: Write, E: Write>(
     errors: &mut E,
 ) -> u8
     requires { chosen.options.command ≡ Command.Run }
-    ensures done { IsDoneOf (HasRunListing chosen.options chosen.audit (R.remaining input.old) (R.remaining input.new) (W.contents output.old) (W.contents output.new)) result }
+    ensures done { IsDoneOf (HasRunListing chosen.chart chosen.options chosen.audit (R.remaining input.old) (R.remaining input.new) (W.contents output.old) (W.contents output.new)) result }
     ensures refused { result ≡ 1 → (input.new ≡ input.old) × (output.new ≡ output.old) }
     ensures silent { result ≡ 0 → Keeps (E.contents errors.old) (E.contents errors.new) }
 {

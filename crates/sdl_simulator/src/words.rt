@@ -5,17 +5,23 @@ ghost use Rattle.sdl_command.specs.Arguments.{has};
 ghost use Rattle.sdl_simulator.specs.Words as rule;
 ghost use Rattle.sdl_simulator.specs.Words.{is_choice};
 
+use sdl_chart_words::{Request, request_of};
 use sdl_command::arguments::{Command, Options};
+use sdl_drawing_text::{Form, form_of};
 
 /// What the program is to do.
-#[derive(Clone, Copy, Debug, PartialEq, Eq)]
+#[derive(Clone, Copy)]
 pub enum Asked {
     /// A command on a structure file alone.
     File(Command),
+    /// The block diagram of a structure file, in this form.
+    Structure(Form),
     /// Says whether a structure file and an agents file keep all rules.
     Check,
     /// Runs the system of both files, and audits what the run leaves where that is asked for.
     Run(Options, bool),
+    /// Runs the system of both files, and writes the chart of the run.
+    Chart(Request),
 }
 
 /// What the words ask for, and None where they are wrong arguments.
@@ -29,8 +35,12 @@ pub fn asked_of(words: &[&str]) -> Option<Asked>
                 check_of(rest)
             } else if *word == "routes" {
                 routes_of(rest)
+            } else if *word == "structure" {
+                structure_of(rest)
             } else if *word == "run" {
                 run_of(rest)
+            } else if *word == "chart" {
+                chart_of(rest)
             } else {
                 None
             }
@@ -81,6 +91,16 @@ fn routes_of(words: &[&str]) -> Option<Asked>
     }
 }
 
+/// The words after `structure`: a structure file, with or without an option.
+fn structure_of(words: &[&str]) -> Option<Asked>
+    ensures { result ≡ rule.structure_of (map (λ w. w.now) words.now) }
+{
+    match form_of(words) {
+        Some(form) => Some(Asked::Structure(form)),
+        None => None,
+    }
+}
+
 /// The words after `run`: its options, and last the structure file and the agents file.
 fn run_of(words: &[&str]) -> Option<Asked>
     ensures { result ≡ rule.run_of (map (λ w. w.now) words.now) }
@@ -104,6 +124,28 @@ fn chosen_of(chosen: &[&str], file: &str, agents: &str) -> Option<Asked>
         trace: has_word(chosen, "--trace"),
     };
     Some(Asked::Run(options, has_word(chosen, "--audit")))
+}
+
+/// The words after `chart`: its options, and last the structure file and the agents file.
+fn chart_of(words: &[&str]) -> Option<Asked>
+    ensures { result ≡ rule.chart_of (map (λ w. w.now) words.now) }
+{
+    let (agents, front) = words.split_last()?;
+    let (file, chosen) = front.split_last()?;
+    charted(chosen, file, agents)
+}
+
+/// The options and the files of `chart`.
+fn charted(chosen: &[&str], file: &str, agents: &str) -> Option<Asked>
+    ensures { result ≡ rule.charted (map (λ w. w.now) chosen.now) file.now agents.now }
+{
+    if file.starts_with("--") || agents.starts_with("--") {
+        return None;
+    }
+    match request_of(chosen) {
+        Some(request) => Some(Asked::Chart(request)),
+        None => None,
+    }
 }
 
 /// Whether each word is an option of `run`.

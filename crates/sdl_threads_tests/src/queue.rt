@@ -1,3 +1,0 @@
-//! A queue with two feeders, its ends in threads of their own.
-mod ends;
-mod three_threads;
