@@ -1,5 +1,4 @@
 pub mod Items
-pub mod Texts
 pub mod EdgeLemmas
 pub mod Blocks
 pub mod Shown

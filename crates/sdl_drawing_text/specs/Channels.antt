@@ -11,7 +11,7 @@ use Rattle.sdl_file_commands.specs.Texts.{channel_text}
 use Rattle.sdl_drawing.specs.declared.shapes.ChannelLine.{ChannelLine}
 use Rattle.sdl_drawing.specs.declared.shapes.Head.{Head}
 use Rattle.sdl_drawing.specs.Shown.{path_signals}
-use Rattle.sdl_drawing_text.specs.Elements.{attribute_text, corner_text, label_text}
+use Rattle.sdl_svg.specs.Elements.{attribute_text, corner_text, label_text}
 use Rattle.sdl_drawing_text.specs.Paths.{finish_side}
 
 -- the sign of a path: `+` from the channel's first end to its second, and `-` back
@@ -61,7 +61,7 @@ name_style Outer = codes "text-anchor=\"end\" font-size=\"9\" fill=\"#666\" font
 name_style Inner = codes "text-anchor=\"start\" font-size=\"9\" fill=\"#666\" font-style=\"italic\""
 
 abbrev pub channel_name_text : Structure → ChannelLine → List ℕ
-channel_name_text s l = label_text l.name (name_style (finish_side s l.channel Forth)) (channel_text s l.channel)
+channel_name_text s l = label_text l.name.x l.name.y (name_style (finish_side s l.channel Forth)) (channel_text s l.channel)
 
 abbrev pub channel_names_text : Structure → List ChannelLine → List ℕ
 channel_names_text s lines = flat_map (channel_name_text s) lines

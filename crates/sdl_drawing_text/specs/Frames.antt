@@ -6,7 +6,8 @@ use Rattle.sdl_parts.specs.declared.parts.Owner.TheVariants as owner
 use Rattle.sdl_parts.specs.Structure.{Structure, set_at}
 use Rattle.sdl_file_commands.specs.Texts.{owner_text, block_text}
 use Rattle.sdl_drawing.specs.declared.shapes.Frame.{Frame}
-use Rattle.sdl_drawing_text.specs.Elements.{attribute_text, rect_text, text_front, set_words}
+use Rattle.sdl_svg.specs.Elements.{attribute_text, text_front}
+use Rattle.sdl_drawing_text.specs.Elements.{rect_text, set_words}
 
 -- a frame: a rectangle with the kind and the name of its agent, and how it looks
 abbrev pub frame_front : Owner → List ℕ
@@ -47,7 +48,7 @@ title_style (owner.Block b) = codes "text-anchor=\"end\" font-size=\"11\" font-w
 title_style (owner.Set t) = codes "text-anchor=\"middle\" font-size=\"11\" font-weight=\"bold\""
 
 abbrev pub title_text : Structure → Frame → List ℕ
-title_text s f = text_front f.name (title_style f.agent) ++ title_words s f.agent ++ codes "</text>\n"
+title_text s f = text_front f.name.x f.name.y (title_style f.agent) ++ title_words s f.agent ++ codes "</text>\n"
 
 abbrev pub titles_text : Structure → List Frame → List ℕ
 titles_text s frames = flat_map (title_text s) frames

@@ -6,7 +6,8 @@ use Rattle.sdl_parts.specs.declared.parts.Owner.TheVariants as owner
 use Rattle.sdl_parts.specs.Structure.{Structure, gate_at}
 use Rattle.sdl_file_commands.specs.Texts.{agent_text, gate_text}
 use Rattle.sdl_drawing.specs.declared.shapes.GateBox.{GateBox}
-use Rattle.sdl_drawing_text.specs.Elements.{rect_text, label_text}
+use Rattle.sdl_svg.specs.Elements.{label_text}
+use Rattle.sdl_drawing_text.specs.Elements.{rect_text}
 
 -- a gate's box: a rectangle with the names of its agent and of the gate
 abbrev pub box_front : Structure → GateId → List ℕ
@@ -28,7 +29,7 @@ gate_name_style (owner.Block b) = codes "text-anchor=\"start\" font-size=\"9\" f
 gate_name_style (owner.Set t) = codes "text-anchor=\"start\" font-size=\"9\" fill=\"#1b4b9b\""
 
 abbrev pub gate_name_text : Structure → GateBox → List ℕ
-gate_name_text s box = label_text box.name (gate_name_style (gate_owner s box.gate)) (gate_text s box.gate)
+gate_name_text s box = label_text box.name.x box.name.y (gate_name_style (gate_owner s box.gate)) (gate_text s box.gate)
 
 abbrev pub gate_names_text : Structure → List GateBox → List ℕ
 gate_names_text s boxes = flat_map (gate_name_text s) boxes

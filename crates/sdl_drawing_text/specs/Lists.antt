@@ -7,9 +7,8 @@ use Rattle.sdl_parts.specs.declared.parts.Side.TheVariants.{Outer, Inner}
 use Rattle.sdl_parts.specs.Structure.{Structure}
 use Rattle.sdl_file_commands.specs.Texts.{signal_text}
 use Rattle.sdl_drawing.specs.declared.shapes.ListRow.{ListRow}
-use Rattle.sdl_drawing.specs.declared.shapes.Point.{Point}
 use Rattle.sdl_drawing.specs.Shown.{path_signals}
-use Rattle.sdl_drawing_text.specs.Elements.{text_front}
+use Rattle.sdl_svg.specs.Elements.{text_front}
 use Rattle.sdl_drawing_text.specs.Paths.{finish_side}
 
 -- The signal at a place of a list. The first has a bracket before it, and each other a space. The last has a bracket behind it,
@@ -35,12 +34,9 @@ abbrev pub list_style : Side → List ℕ
 list_style Outer = codes "text-anchor=\"end\" font-size=\"10\""
 list_style Inner = codes "text-anchor=\"start\" font-size=\"10\""
 
-abbrev pub row_place : ListRow → Point
-row_place row = record { x = row.x; y = row.y }
-
 abbrev pub row_text : Structure → ListRow → List ℕ
 row_text s row =
-    text_front (row_place row) (list_style (finish_side s row.channel row.direction))
+    text_front row.x row.y (list_style (finish_side s row.channel row.direction))
     ++ items_text s (path_signals s row.channel row.direction) row.from row.end ++ codes "</text>\n"
 
 abbrev pub rows_text : Structure → List ListRow → List ℕ

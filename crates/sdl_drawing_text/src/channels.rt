@@ -3,11 +3,12 @@ ghost use Rattle.std.specs.Prelude.{◌≡◌, ◌++◌, OnOk, codes, flat_map};
 ghost use Rattle.std.specs.Io.KnownBytes.{Appends};
 ghost use Rattle.sdl_drawing_text.specs.Channels.{line_name, corners_text, polyline_text, line_text, lines_text, head_text, head_front, head_points, polygon_text, direction_sign, name_style, channel_name_text, channel_names_text};
 
-use crate::elements::{side_of, write_attribute, write_corner, write_label, write_text};
+use crate::elements::side_of;
 use sdl_drawing::{ChannelLine, Drawing, Head, signals_of};
 use sdl_file_commands::names::channel_name;
 use sdl_parts::{Direction, Side, Structure};
 use sdl_signal::ChannelId;
+use sdl_svg::{write_attribute, write_corner, write_label, write_text};
 use std::io::{Result, Write};
 
 /// Writes the lines of all channels.
@@ -162,7 +163,8 @@ fn write_channel_name<W: Write>(
 {
     let id = line.channel;
     let style = style_of(side_of(structure, id, Direction::Forth));
-    write_label(output, line.name, style, channel_name(structure, id))
+    let name = channel_name(structure, id);
+    write_label(output, line.name.x, line.name.y, style, name)
 }
 
 /// How the name of a channel looks. At an outer side it ends before the gate, and at an inner side it begins behind it.

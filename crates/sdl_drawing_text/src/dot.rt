@@ -7,8 +7,8 @@ ghost use Rattle.sdl_drawing_text.specs.Dot.{IsDot, dot_head, dot_front, look_te
 
 use crate::clusters::write_system;
 use crate::edges::write_edges;
-use crate::elements::write_text;
 use sdl_parts::Structure;
+use sdl_svg::write_text;
 use std::io::{Result, Write};
 
 /// Writes the structure in Graphviz' language. All names stand in quotes.

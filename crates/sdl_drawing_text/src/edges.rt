@@ -4,11 +4,11 @@ ghost use Rattle.std.specs.Io.KnownBytes.{Appends};
 ghost use Rattle.sdl_drawing_text.specs.Written.{Adds};
 ghost use Rattle.sdl_drawing_text.specs.Dot.{row_dot, IsListFrom, edge_ends, edge_name, edge_front, arrow_name, edge_head, edge_tail, edge_arrows, IsEdge, AreEdges};
 
-use crate::elements::write_text;
 use crate::lists::write_items;
 use sdl_drawing::texts::row_end;
 use sdl_parts::{Channel, Direction, Structure};
 use sdl_signal::SignalId;
+use sdl_svg::write_text;
 use std::io::{Result, Write};
 
 /// The most characters of a row of a list, unless one signal alone has more.

@@ -3,15 +3,14 @@ ghost use Rattle.std.specs.Prelude.{◌≡◌, ◌++◌, OnOk, codes, flat_map};
 ghost use Rattle.std.specs.Io.KnownBytes.{Appends};
 ghost use Rattle.sdl_file_commands.specs.Texts.{owner_text};
 ghost use Rattle.sdl_drawing_text.specs.Frames.{frame_front, agent_text, frame_end, frame_text, frames_text, scope_words, set_title, title_words, title_style, title_text, titles_text};
-ghost use Rattle.sdl_drawing_text.specs.Elements.{text_front};
+ghost use Rattle.sdl_svg.specs.Elements.{text_front};
 
-use crate::elements::{
-    close_text, open_text, write_attribute, write_rect, write_set_words, write_text,
-};
+use crate::elements::{write_rect, write_set_words};
 use sdl_drawing::{Drawing, Frame, Point};
 use sdl_file_commands::names::{block_name, set_name};
 use sdl_parts::{Owner, Structure};
 use sdl_signal::SetId;
+use sdl_svg::{close_text, open_text, write_attribute, write_text};
 use std::io::{Result, Write};
 
 /// Writes the frames of all agents.
@@ -112,9 +111,9 @@ fn write_title<W: Write>(output: &mut W, structure: &Structure, frame: &Frame) -
 
 /// Writes the front of a title: where it stands, and how it looks.
 fn open_title<W: Write>(output: &mut W, at: Point, agent: Owner) -> Result<()>
-    ensures { OnOk result (Appends (W.contents output.old) (W.contents output.new) (text_front at (title_style agent))) }
+    ensures { OnOk result (Appends (W.contents output.old) (W.contents output.new) (text_front at.x at.y (title_style agent))) }
 {
-    open_text(output, at, style_of(agent))
+    open_text(output, at.x, at.y, style_of(agent))
 }
 
 /// How a title looks. A set's has its middle at its place, and each other ends there.

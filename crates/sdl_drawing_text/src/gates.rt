@@ -3,11 +3,12 @@ ghost use Rattle.std.specs.Prelude.{◌≡◌, ◌++◌, OnOk, codes, flat_map};
 ghost use Rattle.std.specs.Io.KnownBytes.{Appends};
 ghost use Rattle.sdl_drawing_text.specs.Gates.{box_front, box_text, boxes_text, gate_name_style, gate_name_text, gate_names_text, gate_owner};
 
-use crate::elements::{write_label, write_rect, write_text};
+use crate::elements::write_rect;
 use sdl_drawing::{Drawing, GateBox};
 use sdl_file_commands::names::{agent_name, gate_name};
 use sdl_parts::{Owner, Structure};
 use sdl_signal::GateId;
+use sdl_svg::{write_label, write_text};
 use std::io::{Result, Write};
 
 /// Writes the boxes of all gates.
@@ -62,7 +63,8 @@ fn write_gate_name<W: Write>(output: &mut W, structure: &Structure, gate: &GateB
 {
     let id = gate.gate;
     let style = style_of(owner_of(structure, id));
-    write_label(output, gate.name, style, gate_name(structure, id))
+    let name = gate_name(structure, id);
+    write_label(output, gate.name.x, gate.name.y, style, name)
 }
 
 /// The agent of a gate.

@@ -2,15 +2,16 @@
 ghost use Rattle.std.specs.Prelude.{◌≡◌, ◌+◌, ◌^◌, ◌<◌, OnOk};
 ghost use Rattle.std.specs.Io.KnownBytes.{Appends};
 ghost use Rattle.sdl_drawing.specs.Shown.{path_signals};
-ghost use Rattle.sdl_drawing_text.specs.Elements.{text_front};
+ghost use Rattle.sdl_svg.specs.Elements.{text_front};
 ghost use Rattle.sdl_drawing_text.specs.Paths.{finish_side};
-ghost use Rattle.sdl_drawing_text.specs.Lists.{item_name, item_text, items_text, before_item, behind_item, list_style, row_place, row_text, rows_text};
+ghost use Rattle.sdl_drawing_text.specs.Lists.{item_name, item_text, items_text, before_item, behind_item, list_style, row_text, rows_text};
 
-use crate::elements::{close_text, open_text, side_of};
-use sdl_drawing::{Drawing, ListRow, Point, signals_of};
+use crate::elements::side_of;
+use sdl_drawing::{Drawing, ListRow, signals_of};
 use sdl_file_commands::names::signal_name;
 use sdl_parts::{Side, Structure};
 use sdl_signal::SignalId;
+use sdl_svg::{close_text, open_text};
 use std::io::{Result, Write};
 
 /// Writes all rows of lists.
@@ -38,11 +39,10 @@ fn write_row<W: Write>(output: &mut W, structure: &Structure, row: &ListRow) -> 
 
 /// Writes the front of a row.
 fn open_row<W: Write>(output: &mut W, structure: &Structure, row: &ListRow) -> Result<()>
-    ensures { OnOk result (Appends (W.contents output.old) (W.contents output.new) (text_front (row_place row.now) (list_style (finish_side structure.now row.now.channel row.now.direction)))) }
+    ensures { OnOk result (Appends (W.contents output.old) (W.contents output.new) (text_front row.now.x row.now.y (list_style (finish_side structure.now row.now.channel row.now.direction)))) }
 {
     let side = side_of(structure, row.channel, row.direction);
-    let at = Point { x: row.x, y: row.y };
-    open_text(output, at, style_of(side))
+    open_text(output, row.x, row.y, style_of(side))
 }
 
 /// Writes the signals of a row.

@@ -1,5 +1,5 @@
 use Rattle.sdl_drawing_text.specs.Channels.{line_text}
-use Rattle.sdl_drawing_text.proofs.Texts.{loop_next}
+use Rattle.sdl_svg.proofs.Texts.{loop_next}
 use Rattle.sdl_drawing_text.proofs.channels.write_lines.Goals as goal
 
 pub loop-line-preserved : goal.loop-line-preserved

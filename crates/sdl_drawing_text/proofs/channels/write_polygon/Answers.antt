@@ -1,5 +1,5 @@
 use Rattle.std.proofs.KnownBytes.{Appends-trans}
-use Rattle.sdl_drawing_text.proofs.Texts.{on_ok}
+use Rattle.sdl_svg.proofs.Texts.{on_ok}
 use Rattle.sdl_drawing_text.proofs.channels.write_polygon.Goals as goal
 
 pub returns : goal.returns

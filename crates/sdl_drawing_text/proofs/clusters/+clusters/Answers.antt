@@ -2,7 +2,7 @@ use Rattle.std.proofs.Common.{◌-◌, ℕ, List, sym, subst, arith}
 use Rattle.std.specs.Io.KnownBytes.{Appends}
 use Rattle.std.proofs.KnownBytes.{Appends-nil, Appends-trans}
 use Rattle.sdl_drawing_text.specs.Dot.{block_line, blocks_dot}
-use Rattle.sdl_drawing_text.proofs.Texts.{on_ok, texts_next, texts_all}
+use Rattle.sdl_svg.proofs.Texts.{on_ok, texts_next, texts_all}
 use Rattle.sdl_drawing_text.proofs.Blocks.{blocks_none, blocks_some}
 use Rattle.sdl_drawing_text.proofs.clusters.+clusters.Goals as goal
 

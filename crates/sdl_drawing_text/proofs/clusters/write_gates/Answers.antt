@@ -1,5 +1,5 @@
 use Rattle.sdl_drawing_text.specs.Dot.{gate_line}
-use Rattle.sdl_drawing_text.proofs.Texts.{texts_next, texts_all}
+use Rattle.sdl_svg.proofs.Texts.{texts_next, texts_all}
 use Rattle.sdl_drawing_text.proofs.clusters.write_gates.Goals as goal
 
 pub loop-number-preserved : goal.loop-number-preserved

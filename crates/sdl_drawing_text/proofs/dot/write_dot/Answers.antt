@@ -1,5 +1,5 @@
 use Rattle.std.proofs.Common.{refl}
-use Rattle.sdl_drawing_text.proofs.Texts.{on_ok}
+use Rattle.sdl_svg.proofs.Texts.{on_ok}
 use Rattle.sdl_drawing_text.proofs.EdgeLemmas.{dot_is}
 use Rattle.sdl_drawing_text.proofs.dot.write_dot.Goals as goal
 

@@ -1,5 +1,5 @@
 use Rattle.std.proofs.Common.{refl}
-use Rattle.sdl_drawing_text.proofs.Texts.{on_ok}
+use Rattle.sdl_svg.proofs.Texts.{on_ok}
 use Rattle.sdl_drawing_text.proofs.EdgeLemmas.{list_more}
 use Rattle.sdl_drawing_text.proofs.edges.+write_list.Goals as goal
 

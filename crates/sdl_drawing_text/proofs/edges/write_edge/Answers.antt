@@ -1,4 +1,4 @@
-use Rattle.sdl_drawing_text.proofs.Texts.{on_ok}
+use Rattle.sdl_svg.proofs.Texts.{on_ok}
 use Rattle.sdl_drawing_text.proofs.EdgeLemmas.{edge_is}
 use Rattle.sdl_drawing_text.proofs.edges.write_edge.Goals as goal
 

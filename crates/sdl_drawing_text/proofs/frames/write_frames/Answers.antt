@@ -1,5 +1,5 @@
 use Rattle.sdl_drawing_text.specs.Frames.{frame_text}
-use Rattle.sdl_drawing_text.proofs.Texts.{loop_next}
+use Rattle.sdl_svg.proofs.Texts.{loop_next}
 use Rattle.sdl_drawing_text.proofs.frames.write_frames.Goals as goal
 
 pub loop-frame-preserved : goal.loop-frame-preserved

@@ -1,5 +1,5 @@
 use Rattle.sdl_drawing_text.specs.Gates.{box_text}
-use Rattle.sdl_drawing_text.proofs.Texts.{loop_next}
+use Rattle.sdl_svg.proofs.Texts.{loop_next}
 use Rattle.sdl_drawing_text.proofs.gates.write_boxes.Goals as goal
 
 pub loop-gate-preserved : goal.loop-gate-preserved

@@ -1,6 +1,6 @@
 use Rattle.std.proofs.KnownBytes.{Appends-trans}
-use Rattle.sdl_drawing_text.proofs.Texts.{on_ok}
-use Rattle.sdl_drawing_text.proofs.elements.write_label.Goals as goal
+use Rattle.sdl_svg.proofs.Texts.{on_ok}
+use Rattle.sdl_svg.proofs.elements.write_label.Goals as goal
 
 pub returns : goal.returns
 returns g c =

@@ -1,6 +1,6 @@
 use Rattle.std.proofs.KnownBytes.{Appends-trans}
-use Rattle.sdl_drawing_text.proofs.Texts.{on_ok}
-use Rattle.sdl_drawing_text.proofs.svg.write_sheet.Goals as goal
+use Rattle.sdl_svg.proofs.Texts.{on_ok}
+use Rattle.sdl_svg.proofs.front.write_sheet.Goals as goal
 
 pub returns : goal.returns
 returns g c =
