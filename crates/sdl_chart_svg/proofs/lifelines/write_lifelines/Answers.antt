@@ -1,0 +1,8 @@
+use Rattle.sdl_chart_svg.specs.Lifelines.{lifeline_text}
+use Rattle.sdl_chart_svg.proofs.Items.{item_next}
+use Rattle.sdl_chart_svg.proofs.lifelines.write_lifelines.Goals as goal
+
+pub loop-line-preserved : goal.loop-line-preserved
+loop-line-preserved g c =
+    item_next lifeline_text c.args.lines.now c.loop-line.line-index c.line-item.result _ _ _
+    c.loop-line-test.true c.line-item.is c.loop-line.invariant c.in_ok-write_lifeline.ensures

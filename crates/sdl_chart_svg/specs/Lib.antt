@@ -1,0 +1,5 @@
+pub mod Texts
+pub mod Shapes
+pub mod Messages
+pub mod Lifelines
+pub mod Svg
