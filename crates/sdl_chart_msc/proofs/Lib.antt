@@ -1,0 +1,5 @@
+pub mod Written
+pub mod Gathered
+pub mod Shown
+pub mod Whole
+pub mod Counted

@@ -1,0 +1,4 @@
+pub mod Names
+pub mod Messages
+pub mod Places
+pub mod Lines
