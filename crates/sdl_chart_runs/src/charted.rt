@@ -39,7 +39,7 @@ pub fn run_charted<S: Agents + Send + Drop, T: Threads + Wait + Sync, R: Read, W
 ) -> u8
     requires bound { IsBound S.may bound }
     requires budget { HasBudget (structure_of bound) }
-    ensures made { (result ≡ 1) ⊎ HasCharted S.may (plan_of_bound bound (structure_of bound).budget) to_chart.now.states to_chart.now.request.from to_chart.now.request.to
+    ensures made { (result ≡ 1) ⊎ HasCharted S.may (plan_of_bound bound (structure_of bound).budget) to_chart.now.states to_chart.now.charting
         (R.remaining input.old) (R.remaining input.new) (W.contents output.old) (W.contents output.new) result }
     ensures refused { result ≡ 1 → (input.new ≡ input.old) × (output.new ≡ output.old) }
     ensures silent { result ≡ 0 → Keeps (E.contents errors.old) (E.contents errors.new) }
@@ -67,7 +67,7 @@ fn run_with<
     requires bound { IsBound S.may bound }
     requires budget { HasBudget (structure_of bound) }
     requires stores { (log : _) → K.stores log ≡ true }
-    ensures made { (result ≡ 1) ⊎ HasCharted S.may (plan_of_bound bound (structure_of bound).budget) to_chart.now.states to_chart.now.request.from to_chart.now.request.to
+    ensures made { (result ≡ 1) ⊎ HasCharted S.may (plan_of_bound bound (structure_of bound).budget) to_chart.now.states to_chart.now.charting
         (R.remaining input.old) (R.remaining input.new) (W.contents output.old) (W.contents output.new) result }
     ensures refused { result ≡ 1 → (input.new ≡ input.old) × (output.new ≡ output.old) }
     ensures silent { result ≡ 0 → Keeps (E.contents errors.old) (E.contents errors.new) }
@@ -134,7 +134,7 @@ fn report_charted<S: Drop, K: Recounts + Shows, T: Wait, W: Write, E: Write>(
     requires routes { AreRoutesOf (structure_of closing.bound) (routes_of closing.bound) }
     requires complete { IsComplete (plan_of_bound closing.bound 0) (outcome_in K.events closing) }
     requires stored { AreStored K.stores closing.logs.items }
-    ensures told { HasToldChart (structure_of closing.bound) (routes_of closing.bound) to_chart.now.states to_chart.now.request.from to_chart.now.request.to
+    ensures told { HasToldChart (structure_of closing.bound) (routes_of closing.bound) to_chart.now.states to_chart.now.charting
         (outcome_in K.events closing) closing.input closing.end (W.contents output.old) (W.contents output.new) result }
     ensures silent { result ≡ 0 → Keeps (E.contents errors.old) (E.contents errors.new) }
 {
@@ -152,7 +152,7 @@ fn report_read<S: Drop, K: Shows, W: Write, E: Write>(
     errors: &mut E,
 ) -> u8
     requires { AreStored K.stores closing.logs.items }
-    ensures told { HasToldChart (structure_of closing.bound) (routes_of closing.bound) to_chart.now.states to_chart.now.request.from to_chart.now.request.to
+    ensures told { HasToldChart (structure_of closing.bound) (routes_of closing.bound) to_chart.now.states to_chart.now.charting
         (outcome_in K.events closing) closing.input closing.end (W.contents output.old) (W.contents output.new) result }
     ensures silent { result ≡ 0 → Keeps (E.contents errors.old) (E.contents errors.new) }
 {

@@ -5,4 +5,4 @@ pub mod charted;
 pub mod drawn;
 
 pub use charted::run_charted;
-pub use drawn::ToChart;
+pub use drawn::{ChartFault, ToChart};

@@ -2,5 +2,7 @@
 #![tactic(auto)]
 
 pub mod asked;
+pub mod sets;
 
-pub use asked::{Request, request_of};
+pub use asked::{ChartForm, Request, request_of};
+pub use sets::{Charting, NoSets, charting_of, sets_in};

@@ -2,8 +2,8 @@
 use Rattle.std.proofs.Common.{◌≡◌, List, Option, subst}
 use Rattle.sdl_parts.specs.Structure.{Structure}
 use Rattle.sdl_routes.specs.declared.route.TableRow.{TableRow}
-use Rattle.sdl_chart_words.specs.declared.asked.Request.{Request}
+use Rattle.sdl_chart_words.specs.declared.sets.Charting.{Charting}
 
-pub moved : (P : Option Request → Structure → List TableRow → Type 0) (x y : Option Request) (s t : Structure) (r q : List TableRow) → x ≡ y → s ≡ t → r ≡ q → P x s r → P y t q
+pub moved : (P : Option Charting → Structure → List TableRow → Type 0) (x y : Option Charting) (s t : Structure) (r q : List TableRow) → x ≡ y → s ≡ t → r ≡ q → P x s r → P y t q
 moved P x y s t r q chart structure routes h =
-    subst (λ (z : Option Request). P z t q) chart (subst (λ (z : Structure). P x z q) structure (subst (λ (z : List TableRow). P x s z) routes h))
+    subst (λ (z : Option Charting). P z t q) chart (subst (λ (z : Structure). P x z q) structure (subst (λ (z : List TableRow). P x s z) routes h))

@@ -14,7 +14,7 @@ use Rattle.sdl_file_runs.specs.Outcomes.{HasMade, plan_with}
 use Rattle.sdl_file_commands.specs.Texts.{check_text}
 use Rattle.sdl_drawing_text.specs.declared.commands.Form.{Form}
 use Rattle.sdl_drawing_text.specs.Commands.{IsShown}
-use Rattle.sdl_chart_words.specs.declared.asked.Request.{Request}
+use Rattle.sdl_chart_words.specs.declared.sets.Charting.{Charting}
 use Rattle.sdl_chart_runs.specs.Charts.{HasCharted}
 
 -- the line of an audit that finds nothing wrong
@@ -34,23 +34,23 @@ HasMadeAudited may plan options audit unread rest old new status =
     (told : ℕ) × (books : Option (List ℕ)) × HasMade may plan options unread rest old books told × HasAudited audit books new told status
 
 -- The same, where no chart is asked for. Else its chart was told in place of what it wrote, and nothing was audited.
-abbrev pub HasMadeAsked : (ℕ → Frame → Step → Type 0) → Plan → Option Request → Options → Bool → Option (List ℕ) → Option (List ℕ) → Option (List ℕ) → Option (List ℕ) → ℕ → Type 0
+abbrev pub HasMadeAsked : (ℕ → Frame → Step → Type 0) → Plan → Option Charting → Options → Bool → Option (List ℕ) → Option (List ℕ) → Option (List ℕ) → Option (List ℕ) → ℕ → Type 0
 HasMadeAsked may plan None options audit unread rest old new status = HasMadeAudited may plan options audit unread rest old new status
-HasMadeAsked may plan (Some r) options audit unread rest old new status = (states : List (List (List ℕ))) × HasCharted may plan states r.from r.to unread rest old new status
+HasMadeAsked may plan (Some c) options audit unread rest old new status = (states : List (List (List ℕ))) × HasCharted may plan states c unread rest old new status
 
 -- The same of a structure, with its own budget. Which rules the behaviours of these agents give its blocks is not said here.
-abbrev pub HasRunAsked : (ℕ → Frame → Step → Type 0) → Structure → List TableRow → Option Request → Options → Bool → Option (List ℕ) → Option (List ℕ) → Option (List ℕ) → Option (List ℕ) → ℕ → Type 0
+abbrev pub HasRunAsked : (ℕ → Frame → Step → Type 0) → Structure → List TableRow → Option Charting → Options → Bool → Option (List ℕ) → Option (List ℕ) → Option (List ℕ) → Option (List ℕ) → ℕ → Type 0
 HasRunAsked may s routes chart options audit unread rest old new status =
     (rules : List (List Rules)) × HasMadeAsked may (plan_with s routes rules) chart options audit unread rest old new status
 
 -- The structure was run to an end, and the status tells how; or it tells that an answer of the run broke its offer. What a graph's
 -- transitions answer is not limited by who runs them, but by their offers.
-abbrev pub HasRunGraph : Option Request → Options → Bool → Option (List ℕ) → Option (List ℕ) → Option (List ℕ) → Option (List ℕ) → Structure → List TableRow → ℕ → Type 0
+abbrev pub HasRunGraph : Option Charting → Options → Bool → Option (List ℕ) → Option (List ℕ) → Option (List ℕ) → Option (List ℕ) → Structure → List TableRow → ℕ → Type 0
 HasRunGraph chart options audit unread rest old new s routes status =
     (told : ℕ) × HasRunAsked (λ _ _ _. Unit {0}) s routes chart options audit unread rest old new told × ((status ≡ told) ⊎ (status ≡ 4))
 
 -- a run was refused before it began, or made to an end
-abbrev pub HasRunGraphOrNot : Option Request → Options → Bool → Option (List ℕ) → Option (List ℕ) → Option (List ℕ) → Option (List ℕ) → Structure → List TableRow → ℕ → Type 0
+abbrev pub HasRunGraphOrNot : Option Charting → Options → Bool → Option (List ℕ) → Option (List ℕ) → Option (List ℕ) → Option (List ℕ) → Structure → List TableRow → ℕ → Type 0
 HasRunGraphOrNot chart options audit unread rest old new s routes status = (status ≡ 1) ⊎ HasRunGraph chart options audit unread rest old new s routes status
 
 -- a command on a file was refused, or the line of `check` or those of `routes` were written of the structure that the file declares

@@ -3,7 +3,8 @@ ghost use Rattle.std.specs.Prelude.{◌≡◌, IfOk, option_map};
 
 use sdl_chart_runs::ToChart;
 use sdl_chart_text::States;
-use sdl_chart_words::Request;
+use sdl_chart_words::Charting;
+use sdl_expression_text::set_named;
 use sdl_graph_binding::Design;
 use sdl_parts::Structure;
 use sdl_signal::SetId;
@@ -12,16 +13,16 @@ use std::alloc::{AllocError, Global};
 /// What the chart is written with, where one is asked for.
 pub(crate) fn to_chart_of(
     alloc: Global,
-    chart: Option<Request>,
+    chart: Option<Charting>,
     structure: &Structure,
     design: &Design,
 ) -> Result<Option<ToChart>, AllocError>
-    ensures { IfOk result (λ made. option_map (λ t. t.request) made ≡ chart) }
+    ensures { IfOk result (λ made. option_map (λ t. t.charting) made ≡ chart) }
 {
     match chart {
-        Some(request) => {
+        Some(charting) => {
             let states = states_of(alloc, structure, design)?;
-            Ok(Some(ToChart { request, states }))
+            Ok(Some(ToChart { charting, states }))
         }
         None => Ok(None),
     }
@@ -31,7 +32,7 @@ pub(crate) fn to_chart_of(
 fn states_of(alloc: Global, structure: &Structure, design: &Design) -> Result<States, AllocError> {
     let mut states = States::new(alloc, structure.sets().len())?;
     for set in design.sets {
-        if let Some(number) = number_of(structure, set.name) {
+        if let Some(number) = set_named(structure, set.name.as_bytes()) {
             say_all(alloc, &mut states, number, set.states)?;
         }
     }
@@ -49,14 +50,4 @@ fn say_all(
         states.say(alloc, set, name)?;
     }
     Ok(())
-}
-
-/// The number of the set of this name.
-fn number_of(structure: &Structure, name: &str) -> Option<SetId> {
-    for (number, set) in structure.sets().iter().enumerate() {
-        if set.name.as_str() == name {
-            return Some(SetId(u32::try_from(number).ok()?));
-        }
-    }
-    None
 }

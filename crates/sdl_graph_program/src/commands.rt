@@ -8,7 +8,7 @@ ghost use Rattle.sdl_file_commands.specs.Running.{CanRun};
 ghost use Rattle.sdl_graph_program.specs.Outcomes.{IsDoneAtOnce, IsToldOf};
 
 use crate::words::{PlainWords, plain_words};
-use sdl_chart_words::{Request, request_of};
+use sdl_chart_words::{Charting, Request, charting_of, request_of};
 use sdl_command::arguments::{Arguments, Command, Options, read_arguments};
 use sdl_command::errors::{without_memory, write_error};
 use sdl_command::status::{REFUSED, WRONG_ARGUMENTS};
@@ -25,7 +25,7 @@ use std::io::Write;
 use std::rt::{Env, Files};
 
 const USAGE: &str =
-    "usage: check FILE | routes FILE | structure [--dot] FILE | run [--serial] [--ledger] [--trace] [--audit] FILE | chart [--serial] [--text] [--from N] [--to N] FILE";
+    "usage: check FILE | routes FILE | structure [--dot] FILE | run [--serial] [--ledger] [--trace] [--audit] FILE | chart [--serial] [--text | --svg | --msc] [--from N] [--to N] [--only SET].. [--by-set] FILE";
 
 /// A run that is asked for: the structure of a file, with its routes, what is to be told of the run, and where it takes its memory.
 #[derive(Drop)]
@@ -35,9 +35,20 @@ pub struct Prepared {
     /// Whether what the run leaves is audited.
     pub audit: bool,
     /// What is to be written of the run as its chart, where one is asked for in place of the environment's lines.
-    pub chart: Option<Request>,
+    pub chart: Option<Charting>,
     pub checked: Checked,
     pub routes: Routes,
+}
+
+/// What the words after the program's name ask for: a command on the file of this path, with an audit or a chart where that is asked for.
+#[derive(Clone, Copy)]
+struct Wish<'a> {
+    path: &'a str,
+    options: Options,
+    audit: bool,
+    chart: Option<Request>,
+    /// The options of the chart.
+    chosen: &'a [&'a str],
 }
 
 /// Carries out `check` or `routes` on the bytes of a structure file, and answers the exit status; for `run` the run that
@@ -163,11 +174,12 @@ fn prepare_words<H: Env + Files + AllocGlobal, W: Write, E: Write>(
             Ok(Err(show_structure(rt, alloc, rest, output, errors)))
         }
         [command, rest @ ..] if *command == "chart" => {
-            Ok(prepare_chart(rt, alloc, rest, output, errors))
+            Ok(prepare_wish(rt, alloc, chart_wish(rest), output, errors))
         }
         words => {
             let PlainWords { words, audit } = plain_words(alloc, words)?;
-            Ok(prepare_shown(rt, alloc, words.as_slice(), audit, output, errors))
+            let wish = plain_wish(words.as_slice(), audit);
+            Ok(prepare_wish(rt, alloc, wish, output, errors))
         }
     }
 }
@@ -193,54 +205,49 @@ fn show_structure<H: Files, W: Write, E: Write>(
     structure_at(rt, alloc, path, form, output, errors)
 }
 
-/// The same for the words behind `chart`: its options, and last the file.
-fn prepare_chart<H: Files, W: Write, E: Write>(
-    rt: &H,
-    alloc: Global,
-    words: &[&str],
-    output: &mut W,
-    errors: &mut E,
-) -> Result<Prepared, u8>
-    ensures ready { IfOk result (λ p. CanRun p.checked p.routes) }
-    ensures declared { IfOk result (λ p. (file : List ℕ) × Declares file p.checked) }
-    ensures run { IfOk result (λ p. p.options.command ≡ Command.Run) }
-    ensures done { IfErr result (IsDoneAtOnce (W.contents output.old) (W.contents output.new)) }
-    ensures unwritten { IfOk result (λ p. output.new ≡ output.old) }
-    ensures quiet { IfOk result (λ p. errors.new ≡ errors.old) }
-    ensures refused { IfErr result (λ status. status ≡ 1 → output.new ≡ output.old) }
-    ensures silent { IfErr result (λ status. status ≡ 0 → Keeps (E.contents errors.old) (E.contents errors.new)) }
-{
-    let Some((file, chosen)) = words.split_last() else {
-        return Err(wrong_arguments(errors));
-    };
-    if file.starts_with("--") {
-        return Err(wrong_arguments(errors));
+/// What the words behind `chart` ask for: its options, and last the file.
+fn chart_wish<'a>(words: &'a [&'a str]) -> Option<Wish<'a>> {
+    let (path, chosen) = words.split_last()?;
+    if path.starts_with("--") {
+        return None;
     }
-    let Some(request) = request_of(chosen) else {
-        return Err(wrong_arguments(errors));
-    };
+    let request = request_of(chosen)?;
     let options = Options {
         command: Command::Run,
         serial: request.serial,
         ledger: false,
         trace: false,
     };
-    match prepare_path(rt, alloc, file, options, false, output, errors) {
-        Ok(prepared) => {
-            let mut charted = prepared;
-            charted.chart = Some(request);
-            Ok(charted)
+    Some(Wish {
+        path,
+        options,
+        audit: false,
+        chart: Some(request),
+        chosen,
+    })
+}
+
+/// What the words of another command ask for, without `--audit`, which `run` alone may have.
+fn plain_wish<'a>(words: &'a [&'a str], audit: bool) -> Option<Wish<'a>> {
+    match read_arguments(words) {
+        Some(Arguments::File(options, place)) if options.command == Command::Run || !audit => {
+            Some(Wish {
+                path: words.get(place)?,
+                options,
+                audit,
+                chart: None,
+                chosen: &[],
+            })
         }
-        Err(status) => Err(status),
+        _ => None,
     }
 }
 
-/// The same for the words after the program's name without `--audit`, which `run` alone may have.
-fn prepare_shown<H: Files, W: Write, E: Write>(
+/// The same for what is asked for.
+fn prepare_wish<H: Files, W: Write, E: Write>(
     rt: &H,
     alloc: Global,
-    words: &[&str],
-    audit: bool,
+    wish: Option<Wish>,
     output: &mut W,
     errors: &mut E,
 ) -> Result<Prepared, u8>
@@ -253,14 +260,22 @@ fn prepare_shown<H: Files, W: Write, E: Write>(
     ensures refused { IfErr result (λ status. status ≡ 1 → output.new ≡ output.old) }
     ensures silent { IfErr result (λ status. status ≡ 0 → Keeps (E.contents errors.old) (E.contents errors.new)) }
 {
-    match read_arguments(words) {
-        Some(Arguments::File(options, place)) if options.command == Command::Run || !audit => {
-            match words.get(place) {
-                Some(path) => prepare_path(rt, alloc, path, options, audit, output, errors),
-                None => Err(wrong_arguments(errors)),
-            }
+    let Some(wish) = wish else {
+        return Err(wrong_arguments(errors));
+    };
+    let (path, options, audit) = (wish.path, wish.options, wish.audit);
+    let prepared = prepare_path(rt, alloc, path, options, audit, output, &mut *errors)?;
+    let Some(request) = wish.chart else {
+        return Ok(prepared);
+    };
+    let structure = prepared.checked.structure();
+    match charting_of(alloc, structure, request, wish.chosen, errors) {
+        Some(charting) => {
+            let mut charted = prepared;
+            charted.chart = Some(charting);
+            Ok(charted)
         }
-        _ => Err(wrong_arguments(errors)),
+        None => Err(REFUSED),
     }
 }
 

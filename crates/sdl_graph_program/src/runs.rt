@@ -107,7 +107,7 @@ fn run_marked<G: Graph + Send, T: Threads + Wait + Sync, R: Read, W: Write, E: W
 ) -> u8
     requires bound { IsBound (λ _ _ _. Unit {0}) bound }
     requires budget { HasBudget (structure_of bound) }
-    ensures run { HasRunGraphOrNot (option_map (λ t. t.request) telling.now.to_chart) settings.entry.options telling.now.audit (R.remaining input.old) (R.remaining input.new)
+    ensures run { HasRunGraphOrNot (option_map (λ t. t.charting) telling.now.to_chart) settings.entry.options telling.now.audit (R.remaining input.old) (R.remaining input.new)
         (W.contents output.old) (W.contents output.new) (structure_of bound) (routes_of bound) result }
     ensures refused { result ≡ 1 → (input.new ≡ input.old) × (output.new ≡ output.old) }
     ensures silent { result ≡ 0 → Keeps (E.contents errors.old) (E.contents errors.new) }
@@ -131,7 +131,7 @@ pub fn run_as_told<S: Agents + Send + Drop, T: Threads + Wait + Sync, R: Read, W
 ) -> u8
     requires bound { IsBound S.may bound }
     requires budget { HasBudget (structure_of bound) }
-    ensures made { (result ≡ 1) ⊎ HasMadeAsked S.may (plan_of_bound bound (structure_of bound).budget) (option_map (λ t. t.request) telling.now.to_chart) settings.entry.options telling.now.audit
+    ensures made { (result ≡ 1) ⊎ HasMadeAsked S.may (plan_of_bound bound (structure_of bound).budget) (option_map (λ t. t.charting) telling.now.to_chart) settings.entry.options telling.now.audit
         (R.remaining input.old) (R.remaining input.new) (W.contents output.old) (W.contents output.new) result }
     ensures refused { result ≡ 1 → (input.new ≡ input.old) × (output.new ≡ output.old) }
     ensures silent { result ≡ 0 → Keeps (E.contents errors.old) (E.contents errors.new) }

@@ -10,13 +10,13 @@ use Rattle.sdl_command.specs.declared.arguments.Options.{Options}
 use Rattle.sdl_file_runs.specs.Outcomes.{plan_with}
 use Rattle.sdl_graph_program.specs.declared.commands.Prepared.{Prepared}
 use Rattle.sdl_graph_program.specs.Outcomes.{HasMadeAsked}
-use Rattle.sdl_chart_words.specs.declared.asked.Request.{Request}
+use Rattle.sdl_chart_words.specs.declared.sets.Charting.{Charting}
 use Rattle.sdl_listing_runs.specs.Rules.{FollowListing}
 
 -- The structure was run to an end along its routes, with its own budget. Its blocks have the rules that the listing says of their sets,
 -- and their agents answer as they may. The books were written, and what was left was audited where that was asked for; or its chart was
 -- told.
-abbrev pub HasRunListed : (ℕ → Frame → Step → Type 0) → List ListedSet → Structure → List TableRow → Option Request → Options → Bool → Option (List ℕ) → Option (List ℕ) → Option (List ℕ) → Option (List ℕ) → ℕ → Type 0
+abbrev pub HasRunListed : (ℕ → Frame → Step → Type 0) → List ListedSet → Structure → List TableRow → Option Charting → Options → Bool → Option (List ℕ) → Option (List ℕ) → Option (List ℕ) → Option (List ℕ) → ℕ → Type 0
 HasRunListed may listing s routes chart options audit unread rest old new status =
     (rules : List (List Rules)) × FollowListing s listing rules × HasMadeAsked may (plan_with s routes rules) chart options audit unread rest old new status
 

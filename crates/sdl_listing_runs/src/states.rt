@@ -4,7 +4,7 @@ ghost use Rattle.std.specs.Prelude.{◌≡◌, option_map};
 use sdl_body::ListedSet;
 use sdl_chart_runs::ToChart;
 use sdl_chart_text::States;
-use sdl_chart_words::Request;
+use sdl_chart_words::Charting;
 use sdl_parts::Structure;
 use std::alloc::{AllocError, Global};
 
@@ -32,11 +32,11 @@ fn say_all(alloc: Global, states: &mut States, listed: &ListedSet) -> Result<(),
 }
 
 /// What a chart is written with, where one is asked for.
-pub fn to_chart_with(chart: Option<Request>, states: States) -> Option<ToChart>
-    ensures { option_map (λ t. t.request) result ≡ chart }
+pub fn to_chart_with(chart: Option<Charting>, states: States) -> Option<ToChart>
+    ensures { option_map (λ t. t.charting) result ≡ chart }
 {
     match chart {
-        Some(request) => Some(ToChart { request, states }),
+        Some(charting) => Some(ToChart { charting, states }),
         None => None,
     }
 }

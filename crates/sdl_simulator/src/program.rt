@@ -8,11 +8,11 @@ ghost use Rattle.sdl_file_commands.specs.Texts.{check_text};
 ghost use Rattle.sdl_graph_program.specs.Outcomes.{IsToldOf};
 ghost use Rattle.sdl_simulator.specs.Words as rule;
 ghost use Rattle.sdl_simulator.specs.Files.{Describes};
-ghost use Rattle.sdl_simulator.specs.Answers.{Answers, HasRunListing, IsAnswered, IsDoneOf};
+ghost use Rattle.sdl_simulator.specs.Answers.{Answers, HasRunAsked, IsAnswered, IsChartAsked, IsDoneOf};
 
 use crate::agents::listing_of;
 use crate::words::{Asked, asked_of};
-use sdl_chart_words::Request;
+use sdl_chart_words::{Charting, Request, charting_of};
 use sdl_command::arguments::{Command, Options};
 use sdl_command::errors::{without_memory, write_error};
 use sdl_command::status::{REFUSED, WRONG_ARGUMENTS};
@@ -23,6 +23,7 @@ use sdl_file_commands::files::{FileRead, read_file};
 use sdl_file_commands::words::{words_behind_the_name, words_of};
 use sdl_graph_program::{Prepared, prepare_file};
 use sdl_listing_runs::run_listing;
+use sdl_parts::Structure;
 use sdl_structure::FileFault;
 use std::alloc::{AllocError, Global};
 use std::io::{Read, Write};
@@ -31,7 +32,7 @@ use std::sync::Wait;
 use std::thread::Threads;
 
 const USAGE: &str =
-    "usage: check FILE [AGENTS] | routes FILE | structure [--dot] FILE | run [--serial] [--ledger] [--trace] [--audit] FILE AGENTS | chart [--serial] [--text] [--from N] [--to N] FILE AGENTS";
+    "usage: check FILE [AGENTS] | routes FILE | structure [--dot] FILE | run [--serial] [--ledger] [--trace] [--audit] FILE AGENTS | chart [--serial] [--text | --svg | --msc] [--from N] [--to N] [--only SET].. [--by-set] FILE AGENTS";
 
 /// The paths of a structure file and of an agents file.
 #[derive(Clone, Copy)]
@@ -42,11 +43,12 @@ struct Paths<'a> {
 
 /// What is asked for of a run.
 #[derive(Clone, Copy)]
-struct Chosen {
+struct Chosen<'a> {
     options: Options,
     audit: bool,
     /// What is asked for of the chart of the run, where one is written.
     chart: Option<Request>,
+    words: &'a [&'a str],
 }
 
 /// A structure that is prepared for a run, and what an agents file says of its sets.
@@ -105,7 +107,7 @@ fn run_words<H: Files + Threads + Wait + Sync, R: Read, W: Write, E: Write>(
     output: &mut W,
     errors: &mut E,
 ) -> u8
-    ensures answered { Answers (rule.asked_of (map (λ w. w.now) words.now)) (R.remaining input.old) (R.remaining input.new) (W.contents output.old) (W.contents output.new) result }
+    ensures answered { Answers (map (λ w. w.now) words.now) (rule.asked_of (map (λ w. w.now) words.now)) (R.remaining input.old) (R.remaining input.new) (W.contents output.old) (W.contents output.new) result }
     ensures silent { result ≡ 0 → Keeps (E.contents errors.old) (E.contents errors.new) }
 {
     let Some(asked) = asked_of(words) else {
@@ -121,6 +123,7 @@ fn run_words<H: Files + Threads + Wait + Sync, R: Read, W: Write, E: Write>(
                 options,
                 audit,
                 chart: None,
+                words,
             };
             run_both(rt, alloc, paths, chosen, input, output, errors)
         }
@@ -135,6 +138,7 @@ fn run_words<H: Files + Threads + Wait + Sync, R: Read, W: Write, E: Write>(
                 options,
                 audit: false,
                 chart: Some(request),
+                words,
             };
             run_both(rt, alloc, paths, chosen, input, output, errors)
         }
@@ -233,7 +237,8 @@ fn simulation_of<H: Files, W: Write, E: Write>(
     ensures ready { IfSome result (λ x. CanRun x.prepared.checked x.prepared.routes) }
     ensures declared { IfSome result (λ x. (file : List ℕ) × Declares file x.prepared.checked) }
     ensures described { IfSome result (λ x. (agents : List ℕ) × Describes agents x.prepared.checked x.listing.items) }
-    ensures asked { IfSome result (λ x. (x.prepared.options ≡ chosen.options) × (x.prepared.audit ≡ chosen.audit) × (x.prepared.chart ≡ chosen.chart)) }
+    ensures asked { IfSome result (λ x. (x.prepared.options ≡ chosen.entry.options) × (x.prepared.audit ≡ chosen.entry.audit)) }
+    ensures chart { IfSome result (λ x. IsChartAsked (map (λ w. w.now) chosen.entry.words.now) chosen.entry.chart x.prepared.checked x.prepared.chart) }
     ensures unwritten { output.new ≡ output.old }
     ensures quiet { IfSome result (λ x. errors.new ≡ errors.old) }
 {
@@ -242,10 +247,31 @@ fn simulation_of<H: Files, W: Write, E: Write>(
     };
     let mut prepared = prepared;
     prepared.audit = chosen.audit;
-    prepared.chart = chosen.chart;
+    let structure = prepared.checked.structure();
+    let chart = chart_of(alloc, structure, chosen, &mut *errors)?;
+    prepared.chart = chart;
     let structure = prepared.checked.structure();
     let listing = listing_of(rt, alloc, paths.agents, structure, errors)?;
     Some(Simulation { prepared, listing })
+}
+
+/// What is asked for of the chart of the run, where one is; where a name is no set's, that was written.
+fn chart_of<E: Write>(
+    alloc: Global,
+    structure: &Structure,
+    chosen: Chosen,
+    errors: &mut E,
+) -> Option<Option<Charting>>
+    ensures chart { IfSome result (IsChartAsked (map (λ w. w.now) chosen.entry.words.now) chosen.entry.chart structure.now) }
+    ensures quiet { IfSome result (λ c. errors.new ≡ errors.old) }
+{
+    match chosen.chart {
+        Some(request) => match charting_of(alloc, structure, request, chosen.words, errors) {
+            Some(charting) => Some(Some(charting)),
+            None => None,
+        },
+        None => Some(None),
+    }
 }
 
 /// Says whether both files keep all rules, so that a run of them can be made: the structure has a table of routes too.
@@ -270,6 +296,7 @@ fn check_both<H: Files, W: Write, E: Write>(
         options,
         audit: false,
         chart: None,
+        words: &[],
     };
     let Some(simulation) = simulation_of(rt, alloc, paths, chosen, output, errors) else {
         return REFUSED;
@@ -288,7 +315,7 @@ fn run_both<H: Files + Threads + Wait + Sync, R: Read, W: Write, E: Write>(
     errors: &mut E,
 ) -> u8
     requires { chosen.options.command ≡ Command.Run }
-    ensures done { IsDoneOf (HasRunListing chosen.chart chosen.options chosen.audit (R.remaining input.old) (R.remaining input.new) (W.contents output.old) (W.contents output.new)) result }
+    ensures done { IsDoneOf (HasRunAsked (map (λ w. w.now) chosen.entry.words.now) chosen.entry.chart chosen.entry.options chosen.entry.audit (R.remaining input.old) (R.remaining input.new) (W.contents output.old) (W.contents output.new)) result }
     ensures refused { result ≡ 1 → (input.new ≡ input.old) × (output.new ≡ output.old) }
     ensures silent { result ≡ 0 → Keeps (E.contents errors.old) (E.contents errors.new) }
 {

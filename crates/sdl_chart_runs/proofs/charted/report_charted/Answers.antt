@@ -9,4 +9,4 @@ report_read-requires g c = subst (λ (logs : Vec _ Global). AreStored g.K.Shows.
 pub returns-clause-told : goal.returns-clause-told
 returns-clause-told g c =
     told_again g.K.Keeps.events c.args.closing c.audit-closing.result.0 c.audit-closing.ensures.same
-    c.args.to_chart.now.states c.args.to_chart.now.request.from c.args.to_chart.now.request.to _ _ c.report_read.result c.report_read.ensures.told
+    c.args.to_chart.now.states c.args.to_chart.now.charting _ _ c.report_read.result c.report_read.ensures.told

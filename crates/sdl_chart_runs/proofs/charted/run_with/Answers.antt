@@ -22,15 +22,15 @@ report_charted-requires-clause-stored g c = λ k d less. c.requires.stores _
 pub returns-in-Ok-clause-made : goal.returns-in-Ok-clause-made
 returns-in-Ok-clause-made g c =
     let v = c.in-Ok.closing in
-    let told : HasToldChart (structure_of c.args.bound) (routes_of c.args.bound) c.args.to_chart.now.states c.args.to_chart.now.request.from c.args.to_chart.now.request.to (outcome_in g.K.Keeps.events v) v.input v.end
+    let told : HasToldChart (structure_of c.args.bound) (routes_of c.args.bound) c.args.to_chart.now.states c.args.to_chart.now.charting (outcome_in g.K.Keeps.events v) v.input v.end
     (g.W.Write.contents c.args.output.now) (g.W.Write.contents c.report_charted.new.output) c.report_charted.result =
-    subst (λ (s : Structure). HasToldChart s (routes_of c.args.bound) c.args.to_chart.now.states c.args.to_chart.now.request.from c.args.to_chart.now.request.to (outcome_in g.K.Keeps.events v) v.input v.end
+    subst (λ (s : Structure). HasToldChart s (routes_of c.args.bound) c.args.to_chart.now.states c.args.to_chart.now.charting (outcome_in g.K.Keeps.events v) v.input v.end
     (g.W.Write.contents c.args.output.now) (g.W.Write.contents c.report_charted.new.output) c.report_charted.result) c.in-Ok.ensures.bound.0
-    (subst (λ (routes : List TableRow). HasToldChart (structure_of v.bound) routes c.args.to_chart.now.states c.args.to_chart.now.request.from c.args.to_chart.now.request.to (outcome_in g.K.Keeps.events v) v.input v.end
+    (subst (λ (routes : List TableRow). HasToldChart (structure_of v.bound) routes c.args.to_chart.now.states c.args.to_chart.now.charting (outcome_in g.K.Keeps.events v) v.input v.end
     (g.W.Write.contents c.args.output.now) (g.W.Write.contents c.report_charted.new.output) c.report_charted.result) c.in-Ok.ensures.bound.1 c.report_charted.ensures.told) in
     inr (was_charted g.S.Agents.may (structure_of c.args.bound) (routes_of c.args.bound) (map block_rules (blocks_of c.args.bound)) c.budget-budget.result
-    c.args.to_chart.now.states c.args.to_chart.now.request.from c.args.to_chart.now.request.to _ _ _ _
+    c.args.to_chart.now.states c.args.to_chart.now.charting _ _ _ _
     (outcome_in g.K.Keeps.events v) v.end v.ledger v.input c.report_charted.result (search rules) c.in-Ok.ensures.ended c.in-Ok.ensures.reading c.in-Ok.ensures.stopped told)
 
 pub returns-in-Ok-clause-refused : goal.returns-in-Ok-clause-refused
-returns-in-Ok-clause-refused g c refused = absurd (not_one _ _ _ _ _ _ _ _ _ _ c.report_charted.result c.report_charted.ensures.told refused)
+returns-in-Ok-clause-refused g c refused = absurd (not_one _ _ _ _ _ _ _ _ _ c.report_charted.result c.report_charted.ensures.told refused)

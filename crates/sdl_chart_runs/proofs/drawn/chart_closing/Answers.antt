@@ -1,30 +1,40 @@
-use Rattle.std.proofs.Common.{unwrap_or, ap, map, length, sym, ◌∙◌, subst, List}
+use Rattle.std.proofs.Common.{ap, map, sym, ◌∙◌, subst, List, length, unwrap_or}
+use Rattle.std.proofs.lemmas.Result.{IfOk-weaker, IfErr-weaker}
 use Rattle.sdl_transition.specs.Bound.{structure_of, routes_of}
 use Rattle.sdl_driver.specs.Closings.{outcome_in}
 use Rattle.sdl_page.specs.Entries.{AreStored}
 use Rattle.sdl_page.specs.Origins.{value_at}
 use Rattle.sdl_page.specs.declared.page.Row.{Row}
 use Rattle.sdl_chart_text.specs.declared.left.Left.TheVariants as lefts
-use Rattle.sdl_chart_runs.specs.Charts.{past_of}
-use Rattle.sdl_chart_runs.proofs.Written.{is_chart}
+use Rattle.sdl_chart_runs.specs.Charts.{Drawn, past_of}
+use Rattle.sdl_chart_runs.proofs.Written.{is_chart, no_chart}
 use Rattle.sdl_chart_runs.proofs.drawn.chart_closing.Goals as goal
 
-pub write_chart-requires-clause-stored : goal.write_chart-requires-clause-stored
-write_chart-requires-clause-stored g c = subst (λ (logs : List _). AreStored g.K.Shows.stores logs) (sym c.lists_in-lists.ensures.logs) c.requires
+pub write_in_form-requires-clause-stored : goal.write_in_form-requires-clause-stored
+write_in_form-requires-clause-stored g c = subst (λ (logs : List _). AreStored g.K.Shows.stores logs) (sym c.lists_in-lists.ensures.logs) c.requires
 
-pub returns-in-Ok-write_chart-clause-chart : goal.returns-in-Ok-write_chart-clause-chart
-returns-in-Ok-write_chart-clause-chart g c = λ whole.
+pub returns-clause-chart : goal.returns-clause-chart
+returns-clause-chart g c =
     let v = c.args.closing.now in
-    let asked = c.args.to_chart.now.request in
-    let page = c.in_ok-page.page in
-    let stored : AreStored g.K.Shows.stores c.lists_in-lists.result.logs.now = subst (λ (logs : List _). AreStored g.K.Shows.stores logs) (sym c.lists_in-lists.ensures.logs) c.requires in (
-      _,
-      is_chart g.K.Keeps.events c.args.to_chart.now.states page (λ o. unwrap_or (value_at c.in-Ok.left o) lefts.Nowhere)
-          asked.from asked.to (outcome_in g.K.Keeps.events v) c.lists_in-lists.result
-          (structure_of v.bound) c.structure-structure.result.now (routes_of v.bound) c.routes.result.now c.in_ok-first.first c.in_ok-first.past
+    let t = c.args.to_chart.now in
+    let stored : AreStored g.K.Shows.stores c.lists_in-lists.result.logs.now = subst (λ (logs : List _). AreStored g.K.Shows.stores logs) (sym c.lists_in-lists.ensures.logs) c.requires in
+    let x : Drawn = record { page = c.in_ok-page.page; left = λ o. unwrap_or (value_at c.in-Ok.left o) lefts.Nowhere; first = c.in-Some.first; past = c.in-Some.past } in
+    IfOk-weaker c.write_in_form.result _ _
+    (λ end written. λ whole. let made = written whole in (
+      made.0,
+      is_chart g.K.Keeps.events t.states t.charting (outcome_in g.K.Keeps.events v) c.lists_in-lists.result x made.0
+          (structure_of v.bound) c.structure-structure.result.now (routes_of v.bound) c.routes.result.now
           (c.structure-structure.ensures.structure ∙ c.checked.ensures) c.routes.ensures
-          (ap (map g.K.Keeps.events) c.lists_in-lists.ensures.logs) c.lists_in-lists.ensures.received c.lists_in-lists.ensures.put
-          c.in_ok-page.ensures.page (c.in_ok-page.ensures.whole stored) c.in_ok-first.ensures.first
-          (c.in_ok-first.ensures.past ∙ ap (λ (rows : List Row). past_of asked.from asked.to (length rows)) c.rows-rows.ensures),
-      c.in-Ok-write_chart.ensures,
-    )
+          (ap (map g.K.Keeps.events) c.lists_in-lists.ensures.logs, c.lists_in-lists.ensures.received, c.lists_in-lists.ensures.put)
+          c.in_ok-page.ensures.page (c.in_ok-page.ensures.whole stored) c.in-Some.ensures.first
+          (c.in-Some.ensures.past ∙ ap (λ (rows : List Row). past_of t.charting.request (length rows)) c.rows-rows.ensures)
+          made.1,
+      made.2,
+    ))
+    c.write_in_form.ensures.text
+
+pub returns-clause-why : goal.returns-clause-why
+returns-clause-why g c =
+    IfErr-weaker c.write_in_form.result _ _
+    (λ fault why. no_chart c.args.to_chart.now.charting (outcome_in g.K.Keeps.events c.args.closing.now) fault why)
+    c.write_in_form.ensures.why

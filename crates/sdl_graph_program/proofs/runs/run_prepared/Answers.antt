@@ -3,7 +3,7 @@ use Rattle.sdl_parts.specs.Structure.{Structure}
 use Rattle.sdl_routes.specs.declared.route.TableRow.{TableRow}
 use Rattle.sdl_file_commands.specs.Running.{CanRun, HasBudget}
 use Rattle.sdl_graph_program.specs.Outcomes.{HasRunGraphOrNot}
-use Rattle.sdl_chart_words.specs.declared.asked.Request.{Request}
+use Rattle.sdl_chart_words.specs.declared.sets.Charting.{Charting}
 use Rattle.sdl_graph_program.proofs.Moved.{moved}
 use Rattle.sdl_graph_program.proofs.runs.run_prepared.Goals as goal
 
@@ -14,6 +14,6 @@ run_marked-requires-clause-budget g c κs outlives = subst HasBudget (sym c.in-O
 pub returns-in-Ok-bind_graph-clause-run : goal.returns-in-Ok-bind_graph-clause-run
 returns-in-Ok-bind_graph-clause-run g c =
     let p = c.args.prepared in
-    let ran : Option Request → Structure → List TableRow → Type 0 =
+    let ran : Option Charting → Structure → List TableRow → Type 0 =
     λ chart s routes. HasRunGraphOrNot chart p.options p.audit (g.R.Read.remaining c.args.input.now) (g.R.Read.remaining c.run_marked.new.input) (g.W.Write.contents c.args.output.now) (g.W.Write.contents c.run_marked.new.output) s routes c.run_marked.result in
     moved ran _ _ _ _ _ _ c.in-Ok-to_chart_of.ensures c.in-Ok-bind_graph.ensures.structure c.in-Ok-bind_graph.ensures.routes c.run_marked.ensures.run

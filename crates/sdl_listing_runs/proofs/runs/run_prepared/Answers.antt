@@ -6,7 +6,7 @@ use Rattle.sdl_transition.specs.Rules.{block_rules}
 use Rattle.sdl_file_commands.specs.Running.{CanRun, HasBudget}
 use Rattle.sdl_file_runs.specs.Outcomes.{plan_with}
 use Rattle.sdl_graph_program.specs.Outcomes.{HasMadeAsked}
-use Rattle.sdl_chart_words.specs.declared.asked.Request.{Request}
+use Rattle.sdl_chart_words.specs.declared.sets.Charting.{Charting}
 use Rattle.sdl_listing_runs.specs.Rules.{FollowListing}
 use Rattle.sdl_graph_program.proofs.Moved.{moved}
 use Rattle.sdl_listing_runs.proofs.Following.{following}
@@ -23,7 +23,7 @@ returns-in-Ok-clause-made g c = λ sets stored heads.
     let rules = map block_rules (blocks_of bound) in
     let follow : FollowListing p.checked sets rules =
     subst (λ (s : Structure). FollowListing s sets rules) c.in-Ok.ensures.structure (following bound sets (c.in-Ok.ensures.behaviours sets heads stored)) in
-    let ran : Option Request → Structure → List TableRow → Type 0 =
+    let ran : Option Charting → Structure → List TableRow → Type 0 =
     λ chart s routes. (c.run_as_told.result ≡ 1) ⊎ HasMadeAsked g.S.Agents.may (plan_with s routes rules) chart p.options p.audit (g.R.Read.remaining c.args.input.now) (g.R.Read.remaining c.run_as_told.new.input)
     (g.W.Write.contents c.args.output.now) (g.W.Write.contents c.run_as_told.new.output) c.run_as_told.result in
     let all : ran p.chart p.checked p.routes =
