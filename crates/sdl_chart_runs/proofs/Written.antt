@@ -9,7 +9,7 @@ use Rattle.sdl_outcome.specs.declared.environment_output.EnvOut.{EnvOut}
 use Rattle.sdl_outcome.specs.Outcome.{Outcome}
 use Rattle.sdl_page.specs.declared.lists.Lists.{Lists}
 use Rattle.sdl_page.specs.Entries.{entries, entries_of}
-use Rattle.sdl_page.specs.Pages.{IsPageOf, AreWhole}
+use Rattle.sdl_page.specs.Pages.{IsPageOf, AreWhole, AreOrderly}
 use Rattle.sdl_page.specs.Pages.{Sheet}
 use Rattle.sdl_chart_words.specs.declared.asked.ChartForm.{ChartForm}
 use Rattle.sdl_chart_words.specs.declared.asked.ChartForm.TheVariants as form
@@ -35,6 +35,10 @@ module _ {K : Type 0} (events : K → List Event) (states : List (List (List ℕ
   pub is_page : (page : Sheet) → AreOf → IsPageOf (entries_of events l) page → AreWhole (entries_of events l) page.rows
       → IsPageOf (entries_left o) page × AreWhole (entries_left o) page.rows
   is_page page are is whole = moved (IsPage page) _ _ _ _ _ _ are.0 are.1 are.2 (is, whole)
+
+  -- the lists are as orderly as what a run left
+  pub are_orderly : AreOf → AreOrderly (entries_left o) → AreOrderly (entries_of events l)
+  are_orderly are h = moved (λ logs received put. AreOrderly (entries logs received put)) _ _ _ _ _ _ (sym are.0) (sym are.1) (sym are.2) h
 
   -- the chart of lists that a run left, by what it is written with
   pub is_chart : (x : Drawn) (text : List ℕ) (s t : Structure) (routes rows : List TableRow) → t ≡ s → rows ≡ routes → AreOf
@@ -76,5 +80,5 @@ is_none (Some x) = ⊥
 pub any_form : (form : Option ChartForm) (f : ChartFault) → IsWhyNoText None f → IsWhyNoText form f
 any_form form (fault.Over rows) why = why
 any_form form fault.Lifelines why = absurd (subst is_none why tt)
-any_form form fault.NotWhole why = why
+any_form form fault.NotWhole why = absurd (subst is_none why tt)
 any_form form fault.Memory why = why

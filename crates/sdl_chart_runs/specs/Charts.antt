@@ -120,11 +120,12 @@ IsTextOf events form c chart first past text =
     IsInForm form chart.states.now c (drawn_of chart first past) text chart.structure.now chart.routes.now
     (map events chart.lists.now.logs.now) chart.lists.now.received.now chart.lists.now.put.now
 
--- Why there is no text in a form: a drawing would have too many lifelines; or memory was refused, of which nothing more is said.
+-- Why there is no text in a form: a drawing would have too many lifelines, or it would not show its part as it has to; or memory was
+-- refused, of which nothing more is said.
 abbrev pub IsWhyNoText : Option ChartForm → ChartFault → Type 0
 IsWhyNoText asked (fault.Over rows) = ⊥
 IsWhyNoText asked fault.Lifelines = asked ≡ Some form.Svg
-IsWhyNoText asked fault.NotWhole = ⊤
+IsWhyNoText asked fault.NotWhole = asked ≡ Some form.Svg
 IsWhyNoText asked fault.Memory = ⊤
 
 -- Why there is no chart: the run has fewer events than were asked for, or there is no text.

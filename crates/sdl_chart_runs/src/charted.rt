@@ -9,7 +9,8 @@ ghost use Rattle.sdl_driver.specs.Ended.{HasEnded};
 ghost use Rattle.sdl_file_commands.specs.Running.{HasBudget};
 ghost use Rattle.sdl_file_runs.specs.Outcomes.{IsToldBy};
 ghost use Rattle.sdl_page.specs.Entries.{AreStored};
-ghost use Rattle.sdl_chart_runs.specs.Charts.{HasToldChart, HasCharted};
+ghost use Rattle.sdl_page.specs.Pages.{AreOrderly};
+ghost use Rattle.sdl_chart_runs.specs.Charts.{HasToldChart, HasCharted, entries_left};
 
 use crate::drawn::{ToChart, chart_closing, write_chart_fault};
 use sdl_audit::{Recounts, audit};
@@ -134,6 +135,7 @@ fn report_charted<S: Drop, K: Recounts + Shows, T: Wait, W: Write, E: Write>(
     requires routes { AreRoutesOf (structure_of closing.bound) (routes_of closing.bound) }
     requires complete { IsComplete (plan_of_bound closing.bound 0) (outcome_in K.events closing) }
     requires stored { AreStored K.stores closing.logs.items }
+    requires orderly { AreOrderly (entries_left (outcome_in K.events closing)) }
     ensures told { HasToldChart (structure_of closing.bound) (routes_of closing.bound) to_chart.now.states to_chart.now.charting
         (outcome_in K.events closing) closing.input closing.end (W.contents output.old) (W.contents output.new) result }
     ensures silent { result ≡ 0 → Keeps (E.contents errors.old) (E.contents errors.new) }
@@ -151,7 +153,8 @@ fn report_read<S: Drop, K: Shows, W: Write, E: Write>(
     output: &mut W,
     errors: &mut E,
 ) -> u8
-    requires { AreStored K.stores closing.logs.items }
+    requires stored { AreStored K.stores closing.logs.items }
+    requires orderly { AreOrderly (entries_left (outcome_in K.events closing)) }
     ensures told { HasToldChart (structure_of closing.bound) (routes_of closing.bound) to_chart.now.states to_chart.now.charting
         (outcome_in K.events closing) closing.input closing.end (W.contents output.old) (W.contents output.new) result }
     ensures silent { result ≡ 0 → Keeps (E.contents errors.old) (E.contents errors.new) }

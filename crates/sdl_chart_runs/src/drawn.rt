@@ -4,8 +4,8 @@ ghost use Rattle.std.specs.Io.KnownBytes.{Appends};
 ghost use Rattle.sdl_transition.specs.Bound.{structure_of, routes_of};
 ghost use Rattle.sdl_driver.specs.Closings.{outcome_in};
 ghost use Rattle.sdl_page.specs.Entries.{AreStored, entries_of};
-ghost use Rattle.sdl_page.specs.Pages.{IsPageOf, AreWhole};
-ghost use Rattle.sdl_chart_runs.specs.Charts.{IsChartOf, IsTextOf, IsHeadingOf, IsWhyNone, IsWhyNoText, IsOver, drawn_of, first_of, last_of, before_of, past_of};
+ghost use Rattle.sdl_page.specs.Pages.{IsPageOf, AreWhole, AreOrderly};
+ghost use Rattle.sdl_chart_runs.specs.Charts.{IsChartOf, IsTextOf, IsHeadingOf, IsWhyNone, IsWhyNoText, IsOver, drawn_of, entries_left, first_of, last_of, before_of, past_of};
 ghost use Rattle.sdl_chart_svg.specs.Svg.{chart_svg};
 ghost use Rattle.sdl_chart_svg.specs.declared.svg.Heading.{Heading as AHeading};
 
@@ -39,7 +39,7 @@ pub struct ToChart {
 pub enum ChartFault {
     /// A growth was refused.
     Memory,
-    /// An event is left whose item was output nowhere. No run is known that leaves such lists.
+    /// A drawing would not show its part as it has to. No run is known of which there is such a drawing.
     NotWhole,
     /// There is no such event: there are so many.
     Over(usize),
@@ -114,16 +114,28 @@ fn lists_in<S, K: Keeps>(closing: &Closing<S, K>) -> Lists<'_, K>
     }
 }
 
-/// The page of the lists.
+/// Why there is no page of lists that are orderly.
+fn fault_of(fault: PageFault) -> ChartFault
+    requires { fault ≡ PageFault.NotWhole → ⊥ }
+    ensures { result ≡ ChartFault.Memory }
+{
+    match fault {
+        PageFault::Memory => ChartFault::Memory,
+        PageFault::NotWhole => unreachable!(),
+    }
+}
+
+/// The page of the lists, which a run left that has ended: it has all events.
 fn page_of<K: Shows>(alloc: Global, lists: &Lists<K>) -> Result<Page, ChartFault>
+    requires stored { AreStored K.stores lists.now.logs.now }
+    requires orderly { AreOrderly (entries_of K.events lists.now) }
     ensures page { IfOk result (IsPageOf (entries_of K.events lists.now)) }
-    ensures whole { IfOk result (λ page. AreStored K.stores lists.now.logs.now → AreWhole (entries_of K.events lists.now) page.rows) }
+    ensures whole { IfOk result (λ page. AreWhole (entries_of K.events lists.now) page.rows) }
     ensures why { IfErr result (IsWhyNoText None) }
 {
     match Page::of(alloc, lists) {
         Ok(page) => Ok(page),
-        Err(PageFault::Memory) => Err(ChartFault::Memory),
-        Err(PageFault::NotWhole) => Err(ChartFault::NotWhole),
+        Err(fault) => Err(fault_of(fault)),
     }
 }
 
@@ -280,7 +292,8 @@ pub(crate) fn chart_closing<S, K: Shows, W: Write>(
     to_chart: &ToChart,
     output: &mut W,
 ) -> Result<OutputEnd, ChartFault>
-    requires { AreStored K.stores closing.now.logs.items }
+    requires stored { AreStored K.stores closing.now.logs.items }
+    requires orderly { AreOrderly (entries_left (outcome_in K.events closing.now)) }
     ensures chart { IfOk result (λ end. end ≡ OutputEnd.Whole → (text : List ℕ)
         × IsChartOf (structure_of closing.now.bound) (routes_of closing.now.bound) to_chart.now.states to_chart.now.charting (outcome_in K.events closing.now) text
         × Appends (W.contents output.old) (W.contents output.new) text) }

@@ -1,6 +1,6 @@
 -- A page that goes on with one event more.
-use Rattle.std.proofs.Common.{◌≡◌, ℕ, zero, suc, ◌+◌, ◌<◌, ◌≤◌, Bool, cond, eqb, List, [], ◌∷◌, ◌++◌, map, length, set, get_or, replicate, slice_get, Option, None, Some, option_and_then, refl, ap, ap₂, sym, ◌∙◌, subst, inl, inr, arith, add-one, add-zero, zero-add}
-use Rattle.std.specs.Prelude.{filter, IsSome}
+use Rattle.std.proofs.Common.{◌≡◌, ℕ, zero, suc, ◌+◌, ◌<◌, ◌≤◌, Bool, cond, eqb, List, [], ◌∷◌, ◌++◌, map, length, set, get_or, replicate, slice_get, Some, option_and_then, refl, ap, ap₂, sym, ◌∙◌, subst, inl, inr, arith, add-one, add-zero, zero-add}
+use Rattle.std.specs.Prelude.{filter}
 use Rattle.std.specs.List.{range_with_len}
 use Rattle.std.proofs.lemmas.Bool.{cases_eq, eq-eqb, ne_eqb, cond_both}
 use Rattle.std.proofs.lemmas.List.{append-nil, map-append, length-map, length-set, get_or-set_same, get_or-set_other}
@@ -14,9 +14,10 @@ use Rattle.sdl_page.specs.declared.page.Spot.{Spot}
 use Rattle.sdl_page.specs.declared.page.Place.{Place}
 use Rattle.sdl_page.specs.declared.lists.Seen.{Seen}
 use Rattle.sdl_page.specs.declared.lists.Seen.TheVariants as seen
-use Rattle.sdl_page.specs.Entries.{Entry, entry_at, entry_seen}
-use Rattle.sdl_page.specs.Pages.{noted_at, events_of, AreEvents, AreOutputAbove, IsSpot, IsPageOf, IsUnderWay, HasAll, AreWhole, NoneNoted, StayNoted, IsSameNoted, IsDue, AreNoted}
-use Rattle.sdl_page.proofs.OneMore.{get_kept, get_last, get_cases}
+use Rattle.sdl_page.specs.Entries.{Entry, entry_at, entry_seen, IsPast}
+use Rattle.sdl_page.specs.Pages.{noted_at, events_of, AreEvents, AreOutputAbove, AreNotedIn, IsSpot, IsPageOf, IsUnderWay, HasAll, HasCome, AreWhole, StayNoted, IsSameNoted, IsDue, AreNoted}
+use Rattle.sdl_page.proofs.OneMore.{get_kept, get_last, get_cases, some_of}
+use Rattle.sdl_page.proofs.Noting.{some_stays}
 
 -- numbers from 0 on, with one more
 range_suc : (a n : ℕ) → range_with_len a (suc n) ≡ range_with_len a n ++ (a + n) ∷ []
@@ -107,6 +108,17 @@ above_kept lists rows places noted r e at stay came before = λ n q d i got here
           }
     ]
 
+noted_kept : (lists : List (List Entry)) (rows : List Row) (places noted : List (List Place)) (r : Row) (e : Entry) → entry_at lists r.list r.number ≡ Some e
+    → AreNoted (length rows) 0 e.sent places noted → AreNotedIn lists rows places → AreNotedIn lists (rows ++ r ∷ []) noted
+noted_kept lists rows places noted r e at notes before n k q d i got here sends =
+    elim (get_cases rows r n q got) [
+      | inl f ↦ some_stays places noted i.origin notes.stay (before n k q d i f here sends)
+      | inr f ↦
+          let shown : Some e ≡ Some d = sym at ∙ (ap (λ (x : Row). entry_at lists x.list x.number) (sym f.1) ∙ here) in
+          let same : e ≡ d = same_Some e d shown in
+          notes.all k i (ap (λ (x : Entry). slice_get x.sent k) same ∙ sends)
+    ]
+
 within_more : (lists : List (List Entry)) (next : List ℕ) (l n : ℕ) (e : Entry) → l < length next → entry_at lists l n ≡ Some e
     → ((k : ℕ) (es : List Entry) → slice_get lists k ≡ Some es → get_or next k 0 ≤ length es)
     → (k : ℕ) (es : List Entry) → slice_get lists k ≡ Some es → get_or (set next l (n + 1)) k 0 ≤ length es
@@ -153,16 +165,17 @@ went_on lists rows next places noted r e h is at came notes =
                   same = one.same;
                 }
           ];
+      noted = noted_kept lists rows places noted r e at notes h.noted;
     }
 
-nothing_arrives : (i : Item) → [] ≡ i ∷ [] → ⊥
+pub nothing_arrives : (i : Item) → [] ≡ i ∷ [] → ⊥
 nothing_arrives i h = cc
 
-one_item : (i j : Item) → i ∷ [] ≡ j ∷ [] → i ≡ j
+pub one_item : (i j : Item) → i ∷ [] ≡ j ∷ [] → i ≡ j
 one_item i j h = cc
 
 -- nothing comes onto the page, and nothing is noted
-pub waits_on : (lists : List (List Entry)) (rows : List Row) (next : List ℕ) (places noted : List (List Place)) → IsSameNoted places noted
+waits_on : (lists : List (List Entry)) (rows : List Row) (next : List ℕ) (places noted : List (List Place)) → IsSameNoted places noted
     → IsUnderWay lists rows next places → IsUnderWay lists rows next noted
 waits_on lists rows next places noted same h =
     record {
@@ -174,7 +187,13 @@ waits_on lists rows next places noted same h =
           let old = h.output_above n r e i got here arrives in
           record { spot = old.spot; noted = same.0 i.origin old.spot old.noted; above = old.above; is = old.is };
       spots = λ o s at. h.spots o s (same.1 o s at);
+      noted = λ n k r e i got here sends. some_stays places noted i.origin same.0 (h.noted n k r e i got here sends);
     }
+
+pub waited : (lists : List (List Entry)) (rows more : List Row) (next after : List ℕ) (places noted : List (List Place)) → more ≡ rows → after ≡ next → IsSameNoted places noted
+    → IsUnderWay lists rows next places → IsUnderWay lists more after noted
+waited lists rows more next after places noted is_rows is_next unchanged h =
+    subst (λ (x : List Row × List ℕ). IsUnderWay lists x.0 x.1 noted) (λ i. (sym is_rows i, sym is_next i)) (waits_on lists rows next places noted unchanged h)
 
 -- the page when all is done
 pub page_made : (lists : List (List Entry)) (rows : List Row) (next : List ℕ) (places : List (List Place)) → IsUnderWay lists rows next places
@@ -185,6 +204,7 @@ page_made lists rows next places h =
       events = h.events;
       output_above = h.output_above;
       spots = h.spots;
+      noted = h.noted;
     }
 
 -- the page when no event is ahead
@@ -197,16 +217,16 @@ page_whole lists rows next places h all l es at =
     h.in_order l ∙ ap (range_with_len 0) same
 
 -- an empty page
-pub page_empty : (lists : List (List Entry)) (next : List ℕ) (places : List (List Place)) → length next ≡ length lists → ((l : ℕ) → get_or next l 0 ≡ 0)
-    → NoneNoted places → IsUnderWay lists [] next places
-page_empty lists next places counted none nowhere =
+pub page_empty : (lists : List (List Entry)) (next : List ℕ) → length next ≡ length lists → ((l : ℕ) → get_or next l 0 ≡ 0) → IsUnderWay lists [] next []
+page_empty lists next counted none =
     record {
       counted = counted;
       in_order = λ l. ap (range_with_len 0) (sym (none l));
       within = λ l es at. let z = none l in omega (arith, z);
       events = λ n r at. absurd (none-some r at);
       output_above = λ n r e i at here arrives. absurd (none-some r at);
-      spots = λ o s at. absurd (none-some s (sym (nowhere o) ∙ at));
+      spots = λ o s at. absurd (none-some s at);
+      noted = λ n k r e i at here sends. absurd (none-some r at);
     }
 
 -- a list of noughts
@@ -218,10 +238,6 @@ nought_at (suc count) (suc n) = nought_at count n
 pub list_inside : (lists : List (List Entry)) (rows : List Row) (next : List ℕ) (places : List (List Place)) (l n : ℕ) (e : Entry) → IsUnderWay lists rows next places
     → entry_at lists l n ≡ Some e → l < length next
 list_inside lists rows next places l n e h at = subst (λ (m : ℕ). l < m) (sym h.counted) (list_within lists l n e at)
-
-some_of : (o : Option Spot) → IsSome o → (s : Spot) × (o ≡ Some s)
-some_of None h = absurd cc
-some_of (Some s) h = (s, refl)
 
 -- what is due was output, where it is an arrival
 due_spot : (e : Seen) (places : List (List Place)) → IsDue e places → (i : Item) → (entry_seen e).arrived ≡ i ∷ [] → (s : Spot) × (noted_at places i.origin ≡ Some s)
@@ -239,3 +255,15 @@ seen_on lists rows more next after places noted l n e is_more is_after due notes
     let r : Row = record { list = l; number = n } in
     subst (λ (x : List Row × List ℕ). IsUnderWay lists x.0 x.1 noted) (λ i. (sym is_more i, sym is_after i))
     (went_on lists rows next places noted r (entry_seen e) h is at (due_spot e places due) notes)
+
+-- an event is due where its item has come
+pub due_come : (e : Seen) (places : List (List Place)) → HasCome (entry_seen e) places → IsDue e places
+due_come (seen.Arrival i) places come = come i.now refl
+due_come (seen.Turn done) places come = tt
+due_come (seen.Put o) places come = tt
+
+-- a list that has an event of a number is not past
+pub not_past : (lists : List (List Entry)) (l n : ℕ) (e : Entry) → IsPast lists l n → entry_at lists l n ≡ Some e → ⊥
+not_past lists l n e past at =
+    option_and_then_some (λ (es : List Entry). slice_get es n) (slice_get lists l) e at
+    (λ es here got. let inside = slice_get_within es n e got in let beyond = past es here in omega (arith, inside, beyond))

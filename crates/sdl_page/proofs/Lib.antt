@@ -4,3 +4,4 @@ pub mod Noting
 pub mod Listed
 pub mod Texts
 pub mod Going
+pub mod Whole

@@ -1,7 +1,8 @@
 -- What is noted of outputs, and what stays noted.
-use Rattle.std.proofs.Common.{◌≡◌, ℕ, zero, suc, ◌+◌, ◌-◌, ◌≤◌, length, get_or, take, drop, flat_map, List, [], ◌∷◌, ◌++◌, replicate, slice_get, Option, None, Some, option_and_then, refl, ap, sym, ◌∙◌, subst, inl, inr, arith, add-zero}
+use Rattle.std.proofs.Common.{◌≡◌, ℕ, zero, suc, ◌+◌, ◌-◌, ◌≤◌, length, get_or, take, drop, flat_map, List, [], ◌∷◌, ◌++◌, slice_get, Option, None, Some, refl, ap, sym, ◌∙◌, subst, inl, inr, arith, add-zero}
+use Rattle.std.specs.Prelude.{IsSome}
 use Rattle.std.proofs.lemmas.List.{take_all}
-use Rattle.std.proofs.lemmas.Option.{same_Some, none-some, option_and_then_some}
+use Rattle.std.proofs.lemmas.Option.{same_Some, none-some}
 use Rattle.sdl_signal.specs.declared.values.Item.{Item}
 use Rattle.sdl_signal.specs.declared.values.Origin.{Origin}
 use Rattle.sdl_log.specs.declared.event.Done.{Done}
@@ -10,10 +11,10 @@ use Rattle.sdl_log.specs.Log.{sent_by}
 use Rattle.sdl_page.specs.declared.page.Spot.{Spot}
 use Rattle.sdl_page.specs.declared.page.Place.{Place}
 use Rattle.sdl_page.specs.declared.page.Place.TheVariants as place
-use Rattle.sdl_page.specs.Origins.{value_at, with_value}
-use Rattle.sdl_page.specs.Pages.{spot_noted, noted_at, NoneNoted, StayNoted, IsSameNoted, IsNoted, AreNoted}
-use Rattle.sdl_page.proofs.OneMore.{get_cases}
-use Rattle.sdl_page.proofs.Values.{value_cases, value_other}
+use Rattle.sdl_page.specs.Origins.{value_at, with_value, GrowsBy}
+use Rattle.sdl_page.specs.Pages.{spot_noted, noted_at, StayNoted, IsSameNoted, IsNoted, AreNoted}
+use Rattle.sdl_page.proofs.OneMore.{some_of}
+use Rattle.sdl_page.proofs.Values.{value_cases, value_other, value_own}
 
 noted_spot : (o : Option Place) (s : Spot) → spot_noted o ≡ Some s → o ≡ Some (place.Stands s)
 noted_spot None s h = absurd (none-some s h)
@@ -33,37 +34,60 @@ stay_noted places o v free p s h =
       | inr e ↦ absurd (none-some s (sym free ∙ (ap (noted_at places) (sym e) ∙ h)))
     ]
 
+-- what is noted of an output stays noted
+pub some_stays : (old new : List (List Place)) (o : Origin) → StayNoted old new → IsSome (noted_at old o) → IsSome (noted_at new o)
+some_stays old new o stay h =
+    let found = some_of (noted_at old o) h in
+    subst (λ (x : Option Spot). IsSome x) (sym (stay o found.0 found.1)) refl
+
+-- room that is made notes nothing
+noted_grown : (old new : List (List Place)) (o : Origin) → GrowsBy place.Ahead old new → noted_at new o ≡ noted_at old o
+noted_grown old new o grown = elim (grown o) [ inl e ↦ ap spot_noted e | inr e ↦ ap spot_noted e.1 ∙ sym (ap spot_noted e.0) ]
+
+pub same_grown : (old new : List (List Place)) → GrowsBy place.Ahead old new → IsSameNoted old new
+same_grown old new grown = (λ o s e. noted_grown old new o grown ∙ e, λ o s e. sym (noted_grown old new o grown) ∙ e)
+
 -- a list that waits is no spot
-pub awaits : (places new : List (List Place)) (o : Origin) (l : ℕ) → noted_at places o ≡ None → new ≡ with_value places o (place.Awaited l) → IsSameNoted places new
-awaits places new o l free is =
-    subst (IsSameNoted places) (sym is) (
-      stay_noted places o (place.Awaited l) free,
+pub awaits : (old room new : List (List Place)) (o : Origin) (l : ℕ) → noted_at old o ≡ None → GrowsBy place.Ahead old room → new ≡ with_value room o (place.Awaited l) → IsSameNoted old new
+awaits old room new o l free grown is =
+    let still : noted_at room o ≡ None = noted_grown old room o grown ∙ free in
+    subst (IsSameNoted old) (sym is) (
+      λ p s e. stay_noted room o (place.Awaited l) still p s (noted_grown old room p grown ∙ e),
       λ p s at.
-          elim (value_cases places o p (place.Awaited l) (place.Stands s) (noted_spot (value_at (with_value places o (place.Awaited l)) p) s at)) [
-            | inl e ↦ ap spot_noted e
+          elim (value_cases room o p (place.Awaited l) (place.Stands s) (noted_spot (value_at (with_value room o (place.Awaited l)) p) s at)) [
+            | inl e ↦ sym (noted_grown old room p grown) ∙ ap spot_noted e
             | inr e ↦ (let f : place.Stands s ≡ place.Awaited l = e.1 in cc)
           ],
     )
 
 -- a spot is noted of an output of which nothing is
-pub notes_one : (places new : List (List Place)) (o : Origin) (spot : Spot) → noted_at places o ≡ None → new ≡ with_value places o (place.Stands spot) → IsNoted o spot places new
-notes_one places new o spot free is =
-    subst (IsNoted o spot places) (sym is)
+pub notes_one : (old room new : List (List Place)) (o : Origin) (spot : Spot) → noted_at old o ≡ None → GrowsBy place.Ahead old room → IsSome (value_at room o)
+    → new ≡ with_value room o (place.Stands spot) → IsNoted o spot old new
+notes_one old room new o spot free grown there is =
+    let still : noted_at room o ≡ None = noted_grown old room o grown ∙ free in
+    subst (IsNoted o spot old) (sym is)
     (record {
-      stay = stay_noted places o (place.Stands spot) free;
+      stay = λ p s e. stay_noted room o (place.Stands spot) still p s (noted_grown old room p grown ∙ e);
       came = λ p s at.
-          elim (value_cases places o p (place.Stands spot) (place.Stands s) (noted_spot (value_at (with_value places o (place.Stands spot)) p) s at)) [
-            | inl e ↦ inl (ap spot_noted e)
+          elim (value_cases room o p (place.Stands spot) (place.Stands s) (noted_spot (value_at (with_value room o (place.Stands spot)) p) s at)) [
+            | inl e ↦ inl (sym (noted_grown old room p grown) ∙ ap spot_noted e)
             | inr e ↦ inr (e.0, (let f : place.Stands s ≡ place.Stands spot = e.1 in cc))
           ];
+      own = subst (λ (x : Option Place). IsSome (spot_noted x)) (sym (value_own room o (place.Stands spot) there)) refl;
     })
 
-pub notes_none : (places new : List (List Place)) (o : Origin) (spot : Spot) → new ≡ places → IsNoted o spot places new
-notes_none places new o spot is = subst (IsNoted o spot places) (sym is) (record { stay = λ p s e. e; came = λ p s e. inl e })
+pub notes_none : (places new : List (List Place)) (o : Origin) (spot : Spot) → new ≡ places → IsSome (noted_at places o) → IsNoted o spot places new
+notes_none places new o spot is there = subst (IsNoted o spot places) (sym is) (record { stay = λ p s e. e; came = λ p s e. inl e; own = there })
 
 -- nothing is sent, and nothing noted
 pub none_noted : (row among : ℕ) (places : List (List Place)) → AreNoted row among [] places places
-none_noted row among places = record { stay = λ o s e. e; came = λ o s e. inl e }
+none_noted row among places = record { stay = λ o s e. e; came = λ o s e. inl e; all = λ k i e. absurd (none-some i e) }
+
+-- all items are noted where the first is, and the others were before
+all_noted : (i : Item) (more : List Item) (between new : List (List Place)) → StayNoted between new → IsSome (noted_at new i.origin)
+    → ((k : ℕ) (j : Item) → slice_get more k ≡ Some j → IsSome (noted_at between j.origin)) → (k : ℕ) (j : Item) → slice_get (i ∷ more) k ≡ Some j → IsSome (noted_at new j.origin)
+all_noted i more between new stay own rest zero j at = subst (λ (x : Item). IsSome (noted_at new x.origin)) (same_Some i j at) own
+all_noted i more between new stay own rest (suc k) j at = some_stays between new j.origin stay (rest k j at)
 
 -- the spot of one item is noted, after those of the others
 pub one_noted : (row among : ℕ) (more : List Item) (i : Item) (old between new : List (List Place)) → AreNoted row (among + 1) more old between
@@ -94,40 +118,8 @@ one_noted row among more i old between new rest one =
               same = sym f.0;
             })
           ];
+      all = all_noted i more between new one.stay one.own rest.all;
     }
-
--- no output is noted of workers of which nothing was said
-pub none_yet : (places : List (List Place)) → places ≡ [] → NoneNoted places
-none_yet places is o = ap (λ (ps : List (List Place)). noted_at ps o) is
-
-same_value : {X : Type 0} (n : ℕ) (y : X) (k : ℕ) (x : X) → slice_get (replicate n y) k ≡ Some x → x ≡ y
-same_value zero y k x h = absurd (none-some x h)
-same_value (suc n) y zero x h = sym (same_Some y x h)
-same_value (suc n) y (suc k) x h = same_value n y k x h
-
-unless_noted : (o : Option Place) → ((s : Spot) → o ≡ Some (place.Stands s) → ⊥) → spot_noted o ≡ None
-unless_noted None h = refl
-unless_noted (Some place.Ahead) h = refl
-unless_noted (Some (place.Awaited l)) h = refl
-unless_noted (Some (place.Stands s)) h = absurd (h s refl)
-
--- nor is one of one worker more
-pub ahead_more : (lists all : List (List Place)) (n : ℕ) → all ≡ lists ++ replicate n place.Ahead ∷ [] → NoneNoted lists → NoneNoted all
-ahead_more lists all n is before o =
-    unless_noted (value_at all o)
-    (λ s h.
-    let found : value_at (lists ++ replicate n place.Ahead ∷ []) o ≡ Some (place.Stands s) = subst (λ (l : List (List Place)). value_at l o ≡ Some (place.Stands s)) is h in
-    option_and_then_some (λ (vs : List Place). slice_get vs o.number) (slice_get (lists ++ replicate n place.Ahead ∷ []) o.worker) (place.Stands s) found
-    (λ vs at got.
-    elim (get_cases lists (replicate n place.Ahead) o.worker vs at) [
-      | inl e ↦
-          let old : value_at lists o ≡ Some (place.Stands s) = ap (option_and_then (λ (xs : List Place). slice_get xs o.number)) e ∙ got in
-          none-some s (sym (before o) ∙ ap spot_noted old)
-      | inr e ↦
-          let here : slice_get (replicate n place.Ahead) o.number ≡ Some (place.Stands s) = subst (λ (xs : List Place). slice_get xs o.number ≡ Some (place.Stands s)) e.1 got in
-          let never : place.Stands s ≡ place.Ahead = same_value n place.Ahead o.number (place.Stands s) here in
-          cc
-    ]))
 
 -- the items of a turn that sent one first
 pub sent_first : (all : List Done) (first : Done) (item : Item) → 1 ≤ length all → first ≡ get_or all 0 first → first ≡ done.Sent item → flat_map sent_by all ≡ item ∷ flat_map sent_by (take (length all - 1) (drop 1 all))

@@ -1,5 +1,6 @@
 -- A list with one element more, and a list with one element changed, read at a place.
-use Rattle.std.proofs.Common.{◌≡◌, ◌⊎◌, ℕ, zero, suc, ◌<◌, List, [], ◌∷◌, ◌++◌, length, set, slice_get, Some, refl, ap, sym, inl, inr, arith}
+use Rattle.std.proofs.Common.{◌≡◌, ◌⊎◌, ℕ, zero, suc, ◌<◌, List, [], ◌∷◌, ◌++◌, length, set, slice_get, Option, None, Some, refl, ap, sym, inl, inr, arith}
+use Rattle.std.specs.Prelude.{IsSome}
 use Rattle.std.proofs.lemmas.Option.{same_Some, none-some}
 
 pub get_kept : {X : Type 0} (xs more : List X) (k : ℕ) (x : X) → slice_get xs k ≡ Some x → slice_get (xs ++ more) k ≡ Some x
@@ -37,3 +38,7 @@ get_set_same (z ∷ zs) zero x zero y e h = refl
 get_set_same (z ∷ zs) zero x (suc k) y e h = absurd (omega (arith, e))
 get_set_same (z ∷ zs) (suc n) x zero y e h = absurd (omega (arith, e))
 get_set_same (z ∷ zs) (suc n) x (suc k) y e h = get_set_same zs n x k y (omega (arith, e)) h
+
+pub some_of : {X : Type 0} (o : Option X) → IsSome o → (x : X) × (o ≡ Some x)
+some_of None h = absurd cc
+some_of (Some x) h = (x, refl)

@@ -70,12 +70,19 @@ AreOutputAbove lists rows places =
 abbrev pub AreWhole : List (List Entry) → List Row → Type 0
 AreWhole lists rows = (l : ℕ) (es : List Entry) → slice_get lists l ≡ Some es → events_of l rows ≡ range_with_len 0 (length es)
 
+-- of each item that is sent in a row it is noted where
+abbrev pub AreNotedIn : List (List Entry) → List Row → List (List Place) → Type 0
+AreNotedIn lists rows places =
+    (n k : ℕ) (r : Row) (e : Entry) (i : Item) → slice_get rows n ≡ Some r → entry_at lists r.list r.number ≡ Some e → slice_get e.sent k ≡ Some i
+    → IsSome (noted_at places i.origin)
+
 -- A page of the lists, as far as it comes.
 pub record IsPageOf (lists : List (List Entry)) (p : Sheet) : Type 0 where
   pub in_order : AreInOrder p.rows
   pub events : AreEvents lists p.rows
   pub output_above : AreOutputAbove lists p.rows p.places
   pub spots : (o : Origin) (s : Spot) → spot_at p o ≡ Some s → IsSpot lists p.rows o s
+  pub noted : AreNotedIn lists p.rows p.places
 
 -- What holds while the page is made: so many events of each list are on it.
 pub record IsUnderWay (lists : List (List Entry)) (rows : List Row) (next : List ℕ) (places : List (List Place)) : Type 0 where
@@ -85,10 +92,26 @@ pub record IsUnderWay (lists : List (List Entry)) (rows : List Row) (next : List
   pub events : AreEvents lists rows
   pub output_above : AreOutputAbove lists rows places
   pub spots : (o : Origin) (s : Spot) → noted_at places o ≡ Some s → IsSpot lists rows o s
+  pub noted : AreNotedIn lists rows places
 
 -- no event of a list is ahead
 abbrev pub HasAll : List (List Entry) → List ℕ → Type 0
 HasAll lists next = (l : ℕ) (es : List Entry) → slice_get lists l ≡ Some es → length es ≤ slice_index_or next l 0
+
+-- the next event of a list is ahead
+abbrev pub HasMore : List (List Entry) → List ℕ → Type 0
+HasMore lists next = (l : ℕ) × (e : Entry) × (entry_at lists l (slice_index_or next l 0) ≡ Some e)
+
+-- the item that arrives in the event, if one does, is output
+abbrev pub HasCome : Entry → List (List Place) → Type 0
+HasCome e places = (i : Item) → e.arrived ≡ i ∷ [] → IsSome (noted_at places i.origin)
+
+-- the list can't go on
+abbrev pub IsStuck : List (List Entry) → List ℕ → List (List Place) → ℕ → Type 0
+IsStuck lists next places l = (e : Entry) → entry_at lists l (slice_index_or next l 0) ≡ Some e → HasCome e places → ⊥
+
+abbrev pub AreStuck : List (List Entry) → List ℕ → List (List Place) → Type 0
+AreStuck lists next places = (l : ℕ) → IsStuck lists next places l
 
 -- the spot is that of one of the items, which are sent in this row, the first of them at this place
 pub record IsSpotAmong (row among : ℕ) (items : List Item) (o : Origin) (s : Spot) : Type 0 where
@@ -98,10 +121,6 @@ pub record IsSpotAmong (row among : ℕ) (items : List Item) (o : Origin) (s : S
   pub at_place : s.among ≡ among + index
   pub sends : slice_get items index ≡ Some item
   pub same : item.origin ≡ o
-
--- no output is noted
-abbrev pub NoneNoted : List (List Place) → Type 0
-NoneNoted places = (o : Origin) → noted_at places o ≡ None
 
 -- what is noted stays
 abbrev pub StayNoted : List (List Place) → List (List Place) → Type 0
@@ -120,8 +139,26 @@ IsDue (seen.Put o) places = Unit {0}
 pub record IsNoted (one : Origin) (spot : Spot) (old new : List (List Place)) : Type 0 where
   pub stay : StayNoted old new
   pub came : (o : Origin) (s : Spot) → noted_at new o ≡ Some s → (noted_at old o ≡ Some s) ⊎ ((o ≡ one) × (s ≡ spot))
+  pub own : IsSome (noted_at new one)
 
 -- the items' spots are noted: what was noted stays, and what is new is one of them
 pub record AreNoted (row among : ℕ) (items : List Item) (old new : List (List Place)) : Type 0 where
   pub stay : StayNoted old new
   pub came : (o : Origin) (s : Spot) → noted_at new o ≡ Some s → (noted_at old o ≡ Some s) ⊎ IsSpotAmong row among items o s
+  pub all : (k : ℕ) (i : Item) → slice_get items k ≡ Some i → IsSome (noted_at new i.origin)
+
+-- this item is sent in an event of a list
+pub record IsSentIn (lists : List (List Entry)) (i : Item) : Type 0 where
+  pub list : ℕ
+  pub number : ℕ
+  pub entry : Entry
+  pub index : ℕ
+  pub at : entry_at lists list number ≡ Some entry
+  pub sends : slice_get entry.sent index ≡ Some i
+
+-- Each item that arrives is sent, and it has a lesser stamp than what is sent in its list from there on. So it is with the lists of
+-- each run that has ended.
+pub record AreOrderly (lists : List (List Entry)) : Type 0 where
+  pub output : (l n : ℕ) (e : Entry) (i : Item) → entry_at lists l n ≡ Some e → e.arrived ≡ i ∷ [] → IsSentIn lists i
+  pub later : (l m n k : ℕ) (e f : Entry) (i o : Item) → entry_at lists l m ≡ Some e → e.arrived ≡ i ∷ [] → m ≤ n
+      → entry_at lists l n ≡ Some f → slice_get f.sent k ≡ Some o → i.stamp < o.stamp

@@ -1,6 +1,6 @@
 //! A value for each output of a run.
-ghost use Rattle.std.specs.Prelude.{◌≡◌, [], ◌∷◌, ◌++◌, IfOk, OnOk, length, replicate, slice_get, slice_set};
-ghost use Rattle.sdl_page.specs.Origins.{value_at, with_value};
+ghost use Rattle.std.specs.Prelude.{◌≡◌, ◌<◌, ℕ, [], ◌∷◌, ◌++◌, IfOk, OnOk, IsSome, length, map, replicate, slice_get, slice_set};
+ghost use Rattle.sdl_page.specs.Origins.{value_at, with_value, GrowsBy, IsLonger};
 
 use sdl_signal::Origin;
 use std::alloc::{AllocError, Global};
@@ -9,6 +9,7 @@ use std::marker::Model;
 /// A value for each output of a run, by the output's origin (this project's own). Contracts see a list of values for each worker.
 #[derive(Drop)]
 pub struct ByOrigin<T> {
+    alloc: Global,
     lists: Vec<Vec<T>>,
 }
 
@@ -31,6 +32,32 @@ fn repeated<T: Copy>(alloc: Global, count: usize, value: T) -> Result<Vec<T>, Al
     Ok(list)
 }
 
+/// Adds this value to the list until it has a place of this number.
+fn reach_place<T: Copy>(list: &mut Vec<T>, place: usize, value: T) -> Result<(), AllocError>
+    ensures room { OnOk result (place < length list.new.items) }
+    ensures longer { IsLonger value list.old.items list.new.items }
+{
+    while list.len() <= place {
+        list.push(value)?;
+    }
+    Ok(())
+}
+
+/// Adds workers without outputs until there is one of this number.
+fn reach_worker<T: Copy>(
+    lists: &mut Vec<Vec<T>>,
+    alloc: Global,
+    worker: usize,
+) -> Result<(), AllocError>
+    ensures room { OnOk result (worker < length lists.new.items) }
+    ensures same { (o : Origin) → value_at (map (λ v. v.items) lists.new.items) o ≡ value_at (map (λ v. v.items) lists.old.items) o }
+{
+    while lists.len() <= worker {
+        lists.push(Vec::new(alloc))?;
+    }
+    Ok(())
+}
+
 /// The value at this place, where the list has one.
 fn read<T: Copy>(list: &[T], place: usize) -> Option<T>
     ensures { result ≡ slice_get list.now place }
@@ -48,22 +75,33 @@ fn write<T: Copy>(list: &mut Vec<T>, place: usize, value: T)
 }
 
 impl<T: Copy> ByOrigin<T> {
-    /// No worker, with room for so many.
-    pub fn new(alloc: Global, workers: usize) -> Result<ByOrigin<T>, AllocError>
-        ensures { IfOk result (λ values. values ≡ []) }
+    /// No worker yet.
+    pub fn new(alloc: Global) -> ByOrigin<T>
+        ensures { result ≡ [] }
     {
-        Ok(ByOrigin {
-            lists: Vec::with_capacity(alloc, workers)?,
-        })
+        ByOrigin {
+            alloc,
+            lists: Vec::new(alloc),
+        }
     }
 
     /// Adds the next worker, with this value for each of so many outputs. A refusal changes nothing.
-    pub fn add_worker(&mut self, alloc: Global, outputs: usize, value: T) -> Result<(), AllocError>
+    pub fn add_worker(&mut self, outputs: usize, value: T) -> Result<(), AllocError>
         ensures { OnOk result (self.new ≡ self.old ++ replicate outputs value ∷ []) }
     {
-        let list = repeated(alloc, outputs, value)?;
+        let list = repeated(self.alloc, outputs, value)?;
         self.lists.push(list)?;
         Ok(())
+    }
+
+    /// Makes room for the output of this origin and those before it. Each that had no value has this one.
+    pub fn reach(&mut self, origin: Origin, value: T) -> Result<(), AllocError>
+        ensures room { OnOk result (IsSome (value_at self.new origin)) }
+        ensures grown { GrowsBy value self.old self.new }
+    {
+        let worker = origin.worker as usize;
+        reach_worker(&mut self.lists, self.alloc, worker)?;
+        reach_place(&mut self.lists[worker], origin.number as usize, value)
     }
 
     /// The value of the output of this origin, where there is such an output.
@@ -92,9 +130,9 @@ impl<T: Copy> ByOrigin<T> {
         alloc: Global,
         value: U,
     ) -> Result<ByOrigin<U>, AllocError> {
-        let mut values = ByOrigin::new(alloc, self.lists.len())?;
+        let mut values = ByOrigin::new(alloc);
         for list in &self.lists {
-            values.add_worker(alloc, list.len(), value)?;
+            values.add_worker(list.len(), value)?;
         }
         Ok(values)
     }

@@ -79,25 +79,6 @@ fn output_in(put: &[EnvOut], number: usize) -> Option<Seen<'_>>
     }
 }
 
-/// How many outputs were made in a turn, with or without a route.
-fn outputs_of(done: &[Done]) -> usize {
-    done.iter()
-        .filter(|one| !matches!(one, Done::Made(_)))
-        .count()
-}
-
-/// How many outputs a block made by its log, with or without a route.
-fn outputs_in<K: Shows>(log: &K) -> usize {
-    let mut outputs: usize = 0;
-    for number in 0..log.number() {
-        match event_in(log, number as usize) {
-            Some(Seen::Turn(done)) => outputs = outputs.saturating_add(outputs_of(done)),
-            _ => {}
-        }
-    }
-    outputs
-}
-
 impl<'a, K: Shows> Lists<'a, K> {
     /// How many lists there are, where a number can say it.
     pub(crate) fn count(&self) -> Option<usize>
@@ -113,14 +94,6 @@ impl<'a, K: Shows> Lists<'a, K> {
             events = events.checked_add(log.number() as usize)?;
         }
         Some(events)
-    }
-
-    /// How many outputs the worker of this number made: a block by its log, and else the environment.
-    pub(crate) fn outputs(&self, worker: usize) -> usize {
-        match self.logs.get(worker) {
-            Some(log) => outputs_in(log),
-            None => self.put.len(),
-        }
     }
 
     /// What the page reads of the event of this number of a list. There is none where the list has not so many.

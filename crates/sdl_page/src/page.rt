@@ -1,5 +1,5 @@
 //! The page: its rows, and where each item was output.
-ghost use Rattle.std.specs.Prelude.{◌≡◌, IfOk};
+ghost use Rattle.std.specs.Prelude.{◌≡◌, IfOk, IfErr};
 ghost use Rattle.sdl_page.specs.Entries.{entries_of, AreStored};
 ghost use Rattle.sdl_page.specs.Pages.{spot_noted};
 
@@ -18,7 +18,7 @@ pub enum PageFault {
     /// A growth was refused.
     #[error("memory")]
     Memory,
-    /// An event is left whose item was output nowhere above. No run is known that leaves such lists.
+    /// An event is left whose item was output nowhere above. No run that has ended leaves such lists.
     #[error("not whole")]
     NotWhole,
 }
@@ -77,13 +77,14 @@ impl Model for Page {
 }
 
 impl Page {
-    ghost use Rattle.sdl_page.specs.Pages.{IsPageOf, AreWhole, spot_at};
+    ghost use Rattle.sdl_page.specs.Pages.{IsPageOf, AreWhole, AreOrderly, spot_at};
 
-    /// The page of the lists: all events of logs that are stored. It takes time in proportion to the events, and all memory before
-    /// the first of them is placed.
+    /// The page of the lists: all events of logs that are stored. There is one of all lists that are orderly, where there is memory.
+    /// It takes time in proportion to the events.
     pub fn of<K: Shows>(alloc: Global, lists: &Lists<K>) -> Result<Page, PageFault>
         ensures page { IfOk result (IsPageOf (entries_of K.events lists.now)) }
         ensures whole { IfOk result (λ page. AreStored K.stores lists.now.logs.now → AreWhole (entries_of K.events lists.now) page.rows) }
+        ensures fault { IfErr result (λ f. f ≡ PageFault.NotWhole → AreStored K.stores lists.now.logs.now → AreOrderly (entries_of K.events lists.now) → ⊥) }
     {
         let Ok(placing) = Placing::of(alloc, lists) else {
             return Err(PageFault::Memory);

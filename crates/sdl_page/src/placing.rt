@@ -2,13 +2,11 @@
 //! outputs of the environment. The list on top goes on, up to the arrival of an item that was not output yet, and waits for it. Each
 //! output puts the list that waits for it on top. So a signal is followed to where it goes, and the environment goes on only where
 //! nothing else can.
-ghost use Rattle.std.specs.Prelude.{◌≡◌, ◌+◌, ◌<◌, ◌≤◌, ◌^◌, [], ◌∷◌, ◌++◌, IfOk, OnOk, IsTrue, IsSome, length, flat_map, slice_set, slice_index_or};
+ghost use Rattle.std.specs.Prelude.{◌≡◌, List, ◌+◌, ◌<◌, ◌≤◌, ◌^◌, [], ◌∷◌, ◌++◌, None, Some, IfOk, IfSome, IfNone, OnOk, IsSome, IsTrue, IsFalse, length, flat_map, slice_set, slice_index_or};
 ghost use Rattle.sdl_log.specs.Log.{sent_by};
 ghost use Rattle.sdl_outcome.specs.EnvironmentWork.{sent_of};
-ghost use Rattle.sdl_page.specs.Entries.{entries_of, entry_seen, AreStored};
-ghost use Rattle.sdl_page.specs.Origins.{with_value};
-ghost use Rattle.sdl_page.specs.Pages.{noted_at, IsDue, IsUnderWay, HasAll, NoneNoted, IsSameNoted, IsNoted, AreNoted};
-ghost use Rattle.sdl_page.specs.declared.page.Place.TheVariants as place;
+ghost use Rattle.sdl_page.specs.Entries.{Entry, entries_of, entry_at, entry_seen, AreStored};
+ghost use Rattle.sdl_page.specs.Pages.{noted_at, IsDue, IsUnderWay, HasAll, HasMore, AreStuck, IsStuck, IsSameNoted, IsNoted, AreNoted};
 
 use crate::by_origin::ByOrigin;
 use crate::lists::{Lists, Seen};
@@ -55,19 +53,6 @@ fn downwards(alloc: Global, count: usize) -> Result<Vec<usize>, AllocError> {
     Ok(list)
 }
 
-/// For each output of the lists, that it is not on the page.
-fn all_ahead<K: Shows>(alloc: Global, lists: &Lists<K>) -> Result<ByOrigin<Place>, AllocError>
-    ensures { IfOk result NoneNoted }
-{
-    let blocks = lists.logs.len();
-    let mut places = ByOrigin::new(alloc, blocks.saturating_add(1))?;
-    for block in 0..blocks {
-        places.add_worker(alloc, lists.outputs(block), Place::Ahead)?;
-    }
-    places.add_worker(alloc, lists.outputs(blocks), Place::Ahead)?;
-    Ok(places)
-}
-
 impl Placing {
     /// An empty page, with room for all events.
     fn new<K: Shows>(alloc: Global, lists: &Lists<K>) -> Result<Placing, AllocError>
@@ -80,12 +65,11 @@ impl Placing {
             return Err(AllocError);
         };
         let rows = Vec::with_capacity(alloc, events)?;
-        let places = all_ahead(alloc, lists)?;
         let next = noughts(alloc, count)?;
         let stack = downwards(alloc, count)?;
         Ok(Placing {
             rows,
-            places,
+            places: ByOrigin::new(alloc),
             next,
             stack,
             steps: events.saturating_mul(2).saturating_add(count),
@@ -94,7 +78,8 @@ impl Placing {
 
     /// The events of the lists on a page, as far as it comes.
     pub(crate) fn of<K: Shows>(alloc: Global, lists: &Lists<K>) -> Result<Placing, AllocError>
-        ensures { IfOk result (λ p. IsUnderWay (entries_of K.events lists.now) p.rows.items p.next.items p.places) }
+        ensures way { IfOk result (λ p. IsUnderWay (entries_of K.events lists.now) p.rows.items p.next.items p.places) }
+        ensures stuck { IfOk result (λ p. AreStored K.stores lists.now.logs.now → AreStuck (entries_of K.events lists.now) p.next.items p.places) }
     {
         let mut placing = Placing::new(alloc, lists)?;
         placing.place_all(lists)?;
@@ -119,6 +104,16 @@ impl Placing {
     /// Puts the events of the lists on the page, as far as that goes.
     fn place_all<K: Shows>(&mut self, lists: &Lists<K>) -> Result<(), AllocError>
         requires { IsUnderWay (entries_of K.events lists.now) self.old.rows.items self.old.next.items self.old.places }
+        ensures way { OnOk result (IsUnderWay (entries_of K.events lists.now) self.new.rows.items self.new.next.items self.new.places) }
+        ensures stuck { OnOk result (AreStored K.stores lists.now.logs.now → AreStuck (entries_of K.events lists.now) self.new.next.items self.new.places) }
+    {
+        self.place_by_stack(lists)?;
+        self.place_rest(lists)
+    }
+
+    /// Goes on with the lists by the stack.
+    fn place_by_stack<K: Shows>(&mut self, lists: &Lists<K>) -> Result<(), AllocError>
+        requires { IsUnderWay (entries_of K.events lists.now) self.old.rows.items self.old.next.items self.old.places }
         ensures { OnOk result (IsUnderWay (entries_of K.events lists.now) self.new.rows.items self.new.next.items self.new.places) }
     {
         for _step in 0..self.steps {
@@ -130,15 +125,74 @@ impl Placing {
         Ok(())
     }
 
+    /// Goes on with the lists as long as one can. The stack leaves none that can where each item arrives once.
+    fn place_rest<K: Shows>(&mut self, lists: &Lists<K>) -> Result<(), AllocError>
+        requires { IsUnderWay (entries_of K.events lists.now) self.old.rows.items self.old.next.items self.old.places }
+        ensures way { OnOk result (IsUnderWay (entries_of K.events lists.now) self.new.rows.items self.new.next.items self.new.places) }
+        ensures stuck { OnOk result (AreStored K.stores lists.now.logs.now → AreStuck (entries_of K.events lists.now) self.new.next.items self.new.places) }
+    {
+        while let Some((list, seen)) = self.first_due(lists) {
+            self.put_on(list, &seen)?;
+        }
+        Ok(())
+    }
+
+    /// The first list that can go on, and its next event.
+    fn first_due<'a, K: Shows>(&self, lists: &Lists<'a, K>) -> Option<(usize, Seen<'a>)>
+        requires { length self.now.next.items ≡ length (entries_of K.events lists.now) }
+        ensures next { IfSome result (λ r. entry_at (entries_of K.events lists.now) r.0 (slice_index_or self.now.next.items r.0 0) ≡ Some (entry_seen r.1)) }
+        ensures due { IfSome result (λ r. IsDue r.1 self.now.places) }
+        ensures stuck { IfNone result (AreStored K.stores lists.now.logs.now → AreStuck (entries_of K.events lists.now) self.now.next.items self.now.places) }
+    {
+        for list in 0..self.next.len() {
+            match self.due_in(lists, list) {
+                Some(seen) => return Some((list, seen)),
+                None => {}
+            }
+        }
+        None
+    }
+
+    /// The next event of the list, where the list can go on with it.
+    fn due_in<'a, K: Shows>(&self, lists: &Lists<'a, K>, list: usize) -> Option<Seen<'a>>
+        ensures next { IfSome result (λ seen. entry_at (entries_of K.events lists.now) list (slice_index_or self.now.next.items list 0) ≡ Some (entry_seen seen)) }
+        ensures due { IfSome result (λ seen. IsDue seen self.now.places) }
+        ensures stuck { IfNone result (AreStored K.stores lists.now.logs.now → IsStuck (entries_of K.events lists.now) self.now.next.items self.now.places list) }
+    {
+        match lists.seen(list, self.placed(list)) {
+            Some(seen) => {
+                if self.is_output(&seen) {
+                    Some(seen)
+                } else {
+                    None
+                }
+            }
+            None => None,
+        }
+    }
+
+    /// Whether the item that arrives in this event, if one does, was output.
+    fn is_output(&self, seen: &Seen) -> bool
+        ensures yes { IsTrue result → IsDue seen.now self.now.places }
+        ensures no { IsFalse result → IsDue seen.now self.now.places → ⊥ }
+    {
+        match seen {
+            Seen::Arrival(item) => self.noted(item.origin).is_some(),
+            Seen::Turn(_) => true,
+            Seen::Put(_) => true,
+        }
+    }
+
     /// Whether no event of a list is ahead.
     pub(crate) fn is_whole<K: Shows>(&self, lists: &Lists<K>) -> bool
         requires { length self.now.next.items ≡ length (entries_of K.events lists.now) }
-        ensures { IsTrue result → AreStored K.stores lists.now.logs.now → HasAll (entries_of K.events lists.now) self.now.next.items }
+        ensures all { IsTrue result → AreStored K.stores lists.now.logs.now → HasAll (entries_of K.events lists.now) self.now.next.items }
+        ensures more { IsFalse result → HasMore (entries_of K.events lists.now) self.now.next.items }
     {
         for list in 0..self.next.len() {
-            let number = self.placed(list);
-            if lists.seen(list, number).is_some() {
-                return false;
+            match lists.seen(list, self.placed(list)) {
+                Some(_) => return false,
+                None => {}
             }
         }
         true
@@ -156,45 +210,63 @@ impl Placing {
         requires { IsUnderWay (entries_of K.events lists.now) self.old.rows.items self.old.next.items self.old.places }
         ensures { OnOk result (IsUnderWay (entries_of K.events lists.now) self.new.rows.items self.new.next.items self.new.places) }
     {
-        let number = self.placed(list);
-        let Some(seen) = lists.seen(list, number) else {
+        let Some(seen) = lists.seen(list, self.placed(list)) else {
             return Ok(());
         };
-        if !self.is_due(&seen, list) {
-            return Ok(());
+        let due = self.is_due(&seen, list)?;
+        if due {
+            self.put_on(list, &seen)
+        } else {
+            Ok(())
         }
-        let row = self.go_on(list, number)?;
-        self.note_seen(&seen, row)
     }
 
     /// Whether the list can go on with this event. It waits for an item that is to arrive and is not output yet.
-    fn is_due(&mut self, seen: &Seen, list: usize) -> bool
-        ensures due { IsTrue result → (self.new.places ≡ self.old.places) × IsDue seen.now self.old.places }
+    fn is_due(&mut self, seen: &Seen, list: usize) -> Result<bool, AllocError>
+        ensures due { IfOk result (λ is. IsTrue is → (self.new.places ≡ self.old.places) × IsDue seen.now self.old.places) }
         ensures rows { self.new.rows ≡ self.old.rows }
         ensures next { self.new.next ≡ self.old.next }
         ensures same { IsSameNoted self.old.places self.new.places }
     {
         match seen {
             Seen::Arrival(item) => self.has_come(item.origin, list),
-            Seen::Turn(_) => true,
-            Seen::Put(_) => true,
+            Seen::Turn(_) => Ok(true),
+            Seen::Put(_) => Ok(true),
         }
     }
 
     /// Whether the item of this origin was output. If not, the list waits for it.
-    fn has_come(&mut self, origin: Origin, list: usize) -> bool
-        ensures come { IsTrue result → (self.new.places ≡ self.old.places) × IsSome (noted_at self.old.places origin) }
+    fn has_come(&mut self, origin: Origin, list: usize) -> Result<bool, AllocError>
+        ensures come { IfOk result (λ is. IsTrue is → (self.new.places ≡ self.old.places) × IsSome (noted_at self.old.places origin)) }
         ensures rows { self.new.rows ≡ self.old.rows }
         ensures next { self.new.next ≡ self.old.next }
         ensures same { IsSameNoted self.old.places self.new.places }
     {
         match self.noted(origin) {
-            Some(_) => true,
+            Some(_) => Ok(true),
             None => {
+                self.places.reach(origin, Place::Ahead)?;
                 self.places.put(origin, Place::Awaited(list));
-                false
+                Ok(false)
             }
         }
+    }
+
+    /// Puts the next event of the list on the page, which is this one. The list goes on top of the stack, and then the lists that
+    /// wait for what is sent in the event.
+    fn put_on(&mut self, list: usize, seen: &Seen) -> Result<(), AllocError>
+        requires list { list < length self.old.next.items }
+        requires few { slice_index_or self.old.next.items list 0 ≤ length self.old.rows.items }
+        requires due { IsDue seen.now self.old.places }
+        ensures way { OnOk result ((lists : List (List Entry))
+            → IsUnderWay lists self.old.rows.items self.old.next.items self.old.places
+            → entry_at lists list (slice_index_or self.old.next.items list 0) ≡ Some (entry_seen seen.now)
+            → IsUnderWay lists self.new.rows.items self.new.next.items self.new.places) }
+        ensures next { OnOk result (self.new.next.items ≡ slice_set self.old.next.items list (slice_index_or self.old.next.items list 0 + 1)) }
+    {
+        let number = self.placed(list);
+        let row = self.go_on(list, number)?;
+        self.note_seen(seen, row)
     }
 
     /// Puts the event of this number of the list on the page, its next one. The list goes on top of the stack.
@@ -235,7 +307,7 @@ impl Placing {
 
     /// Notes where the item of this origin was output, where nothing is noted of it yet.
     fn note(&mut self, origin: Origin, spot: Spot) -> Result<(), AllocError>
-        ensures noted { IsNoted origin spot self.old.places self.new.places }
+        ensures noted { OnOk result (IsNoted origin spot self.old.places self.new.places) }
         ensures rows { self.new.rows ≡ self.old.rows }
         ensures next { self.new.next ≡ self.old.next }
     {
@@ -247,12 +319,23 @@ impl Placing {
 
     /// The same where nothing is noted of it. A list that waits for it goes on top of the stack.
     fn note_first(&mut self, origin: Origin, spot: Spot) -> Result<(), AllocError>
-        ensures places { self.new.places ≡ with_value self.old.places origin (place.Stands spot) }
+        requires { noted_at self.old.places origin ≡ None }
+        ensures noted { OnOk result (IsNoted origin spot self.old.places self.new.places) }
         ensures rows { self.new.rows ≡ self.old.rows }
         ensures next { self.new.next ≡ self.old.next }
     {
+        self.places.reach(origin, Place::Ahead)?;
         let before = self.places.at(origin);
         self.places.put(origin, Place::Stands(spot));
+        self.wake(before)
+    }
+
+    /// Puts the list on top of the stack that waited for an output of which this was noted, if one did.
+    fn wake(&mut self, before: Option<Place>) -> Result<(), AllocError>
+        ensures rows { self.new.rows ≡ self.old.rows }
+        ensures next { self.new.next ≡ self.old.next }
+        ensures places { self.new.places ≡ self.old.places }
+    {
         match before {
             Some(Place::Awaited(list)) => {
                 self.stack.push(list)?;

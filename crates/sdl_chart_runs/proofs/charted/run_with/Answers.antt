@@ -6,6 +6,7 @@ use Rattle.sdl_transition.specs.Bound.{structure_of, routes_of, blocks_of}
 use Rattle.sdl_driver.specs.Closings.{outcome_in}
 use Rattle.sdl_audit.proofs.Callers.{complete_again, routes_again}
 use Rattle.sdl_chart_runs.specs.Charts.{HasToldChart}
+use Rattle.sdl_chart_runs.proofs.Orderly.{orderly}
 use Rattle.sdl_chart_runs.proofs.Told.{was_charted, not_one}
 use Rattle.sdl_chart_runs.proofs.charted.run_with.Goals as goal
 
@@ -18,6 +19,9 @@ report_charted-requires-clause-complete g c =
 
 pub report_charted-requires-clause-stored : goal.report_charted-requires-clause-stored
 report_charted-requires-clause-stored g c = λ k d less. c.requires.stores _
+
+pub report_charted-requires-clause-orderly : goal.report_charted-requires-clause-orderly
+report_charted-requires-clause-orderly g c = orderly g.S.Agents.may _ (outcome_in g.K.Keeps.events c.in-Ok.closing) c.in-Ok.closing.end c.in-Ok.closing.ledger c.in-Ok.ensures.ended
 
 pub returns-in-Ok-clause-made : goal.returns-in-Ok-clause-made
 returns-in-Ok-clause-made g c =
