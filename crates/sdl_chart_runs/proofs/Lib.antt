@@ -1,2 +1,3 @@
 mod Told
 mod Written
+pub mod Orderly
