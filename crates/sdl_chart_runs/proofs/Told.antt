@@ -1,5 +1,5 @@
 -- From what a run left, and how its chart was written, to what is told of both.
-use Rattle.std.proofs.Common.{◌≡◌, ℕ, ◌⊎◌, List, Option, Vec, Global, map, inl, inr, refl, ap, ◌∙◌, subst, arith}
+use Rattle.std.proofs.Common.{◌≡◌, ℕ, List, Option, Vec, Global, map, inl, inr, refl, ap, ◌∙◌, subst, arith}
 use Rattle.std.specs.Io.KnownBytes.{Keeps}
 use Rattle.std.proofs.KnownBytes.{Appends-kept}
 use Rattle.sdl_signal.specs.declared.ends.InputEnd.{InputEnd}

@@ -1,5 +1,5 @@
 -- The text that was written is that of a chart.
-use Rattle.std.proofs.Common.{◌≡◌, ℕ, List, Option, Some, None, Result, Ok, Err, OnOk, IsOk, map, length, sym, ◌∙◌, subst}
+use Rattle.std.proofs.Common.{◌≡◌, ℕ, List, Option, Some, None, Result, Ok, Err, OnOk, IsOk, map, length, sym, subst}
 use Rattle.std.proofs.lemmas.Bool.{false≢true}
 use Rattle.sdl_signal.specs.declared.values.Item.{Item}
 use Rattle.sdl_parts.specs.Structure.{Structure}
@@ -12,11 +12,10 @@ use Rattle.sdl_page.specs.Entries.{entries, entries_of}
 use Rattle.sdl_page.specs.Pages.{IsPageOf, AreWhole, AreOrderly}
 use Rattle.sdl_page.specs.Pages.{Sheet}
 use Rattle.sdl_chart_words.specs.declared.asked.ChartForm.{ChartForm}
-use Rattle.sdl_chart_words.specs.declared.asked.ChartForm.TheVariants as form
 use Rattle.sdl_chart_words.specs.declared.sets.Charting.{Charting}
 use Rattle.sdl_chart_runs.specs.declared.drawn.ChartFault.{ChartFault}
 use Rattle.sdl_chart_runs.specs.declared.drawn.ChartFault.TheVariants as fault
-use Rattle.sdl_chart_runs.specs.Charts.{Drawn, IsInForm, IsChartOf, IsWhyNoText, IsWhyNone, IsOver, entries_left, first_of, past_of}
+use Rattle.sdl_chart_runs.specs.Charts.{Drawn, IsInForm, IsChartOf, IsWhyNoText, IsWhyNone, entries_left, first_of, past_of}
 
 -- what holds of the lists of a page holds of those that a run left
 moved : (P : List (List Event) → List Item → List EnvOut → Type 0) (logs logged : List (List Event)) (received taken : List Item) (put given : List EnvOut)

@@ -1,5 +1,4 @@
-use Rattle.std.proofs.Common.{Option, List, ℕ, rules, ap, sym, subst}
-use Rattle.std.specs.Io.KnownBytes.{Keeps}
+use Rattle.std.proofs.Common.{rules}
 use Rattle.sdl_transition.specs.Bound.{structure_of, routes_of}
 use Rattle.sdl_driver.specs.Closings.{outcome_in}
 use Rattle.sdl_chart_runs.proofs.Told.{told_chart, told_refused}
