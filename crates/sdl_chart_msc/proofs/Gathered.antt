@@ -1,13 +1,14 @@
 -- What is gathered row by row, and place by place.
-use Rattle.std.proofs.Common.{◌≡◌, ℕ, zero, suc, ◌+◌, ◌<◌, List, [], ◌∷◌, ◌++◌, Option, None, Some, length, take, get_or, refl, ap, sym, subst, ◌∙◌, append_assoc, append-nil, add-zero, add-one, arith}
+use Rattle.std.proofs.Common.{◌≡◌, ℕ, zero, suc, ◌+◌, ◌<◌, List, [], ◌∷◌, ◌++◌, Option, None, Some, length, take, get_or, refl, ap, sym, subst, ◌∙◌, append_assoc, append-nil, add-one, arith}
 use Rattle.std.specs.Io.KnownBytes.{Appends}
 use Rattle.std.proofs.KnownBytes.{Appends-trans}
 use Rattle.sdl_signal.specs.declared.values.Origin.{Origin}
 use Rattle.sdl_page.specs.declared.page.Row.{Row}
+use Rattle.sdl_chart_text.specs.Rows.{gathered_from}
+use Rattle.sdl_chart_text.proofs.Written.{gathered_more}
 use Rattle.sdl_chart_msc.specs.declared.messages.Fate.{Fate}
 use Rattle.sdl_chart_msc.specs.declared.places.Place.{Place}
 use Rattle.sdl_chart_msc.specs.Messages.{sent_above, sent_after, settled, fates_after}
-use Rattle.sdl_chart_msc.specs.Places.{places_from}
 use Rattle.sdl_chart_msc.specs.Lines.{lines_after, last_of}
 
 module _ (sends : Row → ℕ) where
@@ -49,25 +50,13 @@ module _ (tells : Row → Option (Origin × Fate)) (number : Origin → ℕ) whe
   fates_more fates n rows r less = ap (λ (m : ℕ). fates_after tells number fates (take m rows)) (add-one n) ∙ fates_take fates n rows r less
 
 module _ (places : ℕ → Row → List Place) where
-  places_take : (start n : ℕ) (rows : List Row) (r : Row) → n < length rows → places_from places start (take (suc n) rows) ≡ places_from places start (take n rows) ++ places (start + n) (get_or rows n r)
-  places_take start n [] r less = absurd (omega arith)
-  places_take start zero (x ∷ xs) r less = append-nil (places start x) ∙ ap (λ (m : ℕ). places m x) (sym (add-zero start))
-  places_take start (suc n) (x ∷ xs) r less =
-      let number : (start + 1) + n ≡ start + suc n = omega arith in
-      ap (λ (l : List Place). places start x ++ l) (places_take (start + 1) n xs r (omega arith))
-      ∙ (sym (append_assoc (places start x) (places_from places (start + 1) (take n xs)) (places ((start + 1) + n) (get_or xs n r)))
-      ∙ ap (λ (m : ℕ). (places start x ++ places_from places (start + 1) (take n xs)) ++ places m (get_or xs n r)) number)
-
-  places_more : (n : ℕ) (rows : List Row) (r : Row) → n < length rows → places_from places 0 (take (n + 1) rows) ≡ places_from places 0 (take n rows) ++ places n (get_or rows n r)
-  places_more n rows r less =
-      let number : 0 + n ≡ n = omega arith in
-      ap (λ (m : ℕ). places_from places 0 (take m rows)) (add-one n)
-      ∙ (places_take 0 n rows r less ∙ ap (λ (m : ℕ). places_from places 0 (take n rows) ++ places m (get_or rows n r)) number)
-
   -- the places of the rows so far, and of one more
-  pub places_step : (n : ℕ) (rows : List Row) (r : Row) (old new : List Place) → n < length rows → old ≡ places_from places 0 (take n rows) → new ≡ old ++ places n (get_or rows n r)
-      → new ≡ places_from places 0 (take (n + 1) rows)
-  places_step n rows r old new less so at = at ∙ (ap (λ (ps : List Place). ps ++ places n (get_or rows n r)) so ∙ sym (places_more n rows r less))
+  pub places_step : (n : ℕ) (rows : List Row) (r : Row) (old new : List Place) → n < length rows → old ≡ gathered_from places 0 (take n rows) → new ≡ old ++ places n (get_or rows n r)
+      → new ≡ gathered_from places 0 (take (n + 1) rows)
+  places_step n rows r old new less so at =
+      let number : n ≡ 0 + n = omega arith in
+      at ∙ (ap (λ (ps : List Place). ps ++ places n (get_or rows n r)) so
+      ∙ (ap (λ (m : ℕ). gathered_from places 0 (take n rows) ++ places m (get_or rows n r)) number ∙ sym (gathered_more places 0 n rows r less)))
 
 module _ (line : Option Place → Place → List ℕ) where
   lines_take : (before : Option Place) (n : ℕ) (ps : List Place) (p : Place) → n < length ps → lines_after line before (take (suc n) ps) ≡ lines_after line before (take n ps) ++ line (last_of before (take n ps)) (get_or ps n p)

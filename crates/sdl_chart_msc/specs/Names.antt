@@ -1,14 +1,11 @@
 -- Names, Pids and values in the textual form of Z.120. (What is done to keywords is this project's own.)
-use Rattle.std.specs.Prelude.{ℕ, ◌==◌, ◌&&◌, Bool, true, false, List, [], ◌∷◌, ◌++◌, if◌then◌else◌, flat_map, codes, decimal}
-use Rattle.std.specs.Fmt.{signed_decimal}
+use Rattle.std.specs.Prelude.{ℕ, ◌==◌, ◌&&◌, Bool, true, false, List, [], ◌∷◌, ◌++◌, if◌then◌else◌, codes}
 use Rattle.std.specs.Char.{to_ascii_lowercase}
 use Rattle.std.specs.List.{list_any, slice_split}
 use Rattle.sdl_signal.specs.declared.values.Pid.{Pid}
-use Rattle.sdl_signal.specs.declared.values.Pid.TheVariants as pid
 use Rattle.sdl_signal.specs.declared.values.Value.{Value}
-use Rattle.sdl_signal.specs.declared.values.Value.TheVariants as value
 use Rattle.sdl_parts.specs.Structure.{Structure}
-use Rattle.sdl_file_commands.specs.Texts.{set_text}
+use Rattle.sdl_chart_text.specs.Signals.{marked_pid_text, marked_values_text}
 use Rattle.sdl_chart_msc.specs.declared.names.TheConstants.{KEYWORDS}
 
 abbrev pub space : ℕ
@@ -38,27 +35,13 @@ sign_text name = if is_keyword name then codes "_" else []
 abbrev pub name_text : List ℕ → List ℕ
 name_text name = name ++ sign_text name
 
--- `null`, `env`, or the set's name, an underscore and the serial number
+-- in this form the mark is an underscore
 abbrev pub pid_text : Structure → Pid → List ℕ
-pid_text s pid.Null = codes "null"
-pid_text s pid.Env = codes "env"
-pid_text s (pid.Inst set serial) = set_text s set ++ codes "_" ++ decimal serial
+pid_text s p = marked_pid_text s (codes "_") p
+
+abbrev pub values_text : Structure → List Value → List ℕ
+values_text s vs = marked_values_text s (codes "_") vs
 
 -- a Pid behind a text, at the end of a line
 abbrev pub pid_line : Structure → List ℕ → Pid → List ℕ
 pid_line s before p = before ++ pid_text s p ++ codes ";\n"
-
--- a number with its sign, `true`, `false`, or a Pid
-abbrev pub value_text : Structure → Value → List ℕ
-value_text s (value.Integer n) = signed_decimal n
-value_text s (value.Boolean b) = if b then codes "true" else codes "false"
-value_text s (value.Pid p) = pid_text s p
-
--- a value behind a comma and a space
-abbrev pub next_value_text : Structure → Value → List ℕ
-next_value_text s v = codes ", " ++ value_text s v
-
--- the values of a signal in brackets; nothing where it has none
-abbrev pub values_text : Structure → List Value → List ℕ
-values_text s [] = []
-values_text s (v ∷ vs) = codes "(" ++ value_text s v ++ flat_map (next_value_text s) vs ++ codes ")"

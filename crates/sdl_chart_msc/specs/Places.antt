@@ -1,5 +1,5 @@
 -- The rows of each instance. (This project's own.)
-use Rattle.std.specs.Prelude.{ℕ, ◌+◌, ◌==◌, ◌&&◌, Bool, true, false, List, [], ◌∷◌, ◌++◌, flat_map, option_map, unwrap_or}
+use Rattle.std.specs.Prelude.{ℕ, ◌==◌, ◌&&◌, Bool, true, false, List, [], ◌∷◌, ◌++◌, flat_map, option_map, unwrap_or}
 use Rattle.std.specs.List.Sorted.{IsPermutation, IsSorted}
 use Rattle.std.specs.declared.cmp.Ordering.{Ordering}
 use Rattle.std.specs.Ordering.{ordering_then, nat_cmp, bool_cmp}
@@ -10,6 +10,7 @@ use Rattle.sdl_log.specs.declared.event.Done.TheVariants as done
 use Rattle.sdl_log.specs.declared.event.Event.{Event}
 use Rattle.sdl_log.specs.declared.event.Event.TheVariants as event
 use Rattle.sdl_page.specs.declared.page.Row.{Row}
+use Rattle.sdl_chart_text.specs.Rows.{gathered_from}
 use Rattle.sdl_chart_msc.specs.declared.places.Place.{Place}
 use Rattle.sdl_chart_msc.specs.Messages.{logged_at}
 
@@ -31,13 +32,9 @@ places_of_event row (event.Entered i p) = place_of false row p
 places_of_event row (event.Discarded i c) = []
 places_of_event row (event.Turn p t f step did stopped) = place_of true row p ++ flat_map (made_in row) did.items
 
--- the places of a row, which has this number, and of rows that are numbered from this number on
+-- the places of a row, which has this number
 abbrev pub places_at : List (List Event) → ℕ → Row → List Place
 places_at logs n r = unwrap_or (option_map (places_of_event n) (logged_at logs r)) []
-
-abbrev pub places_from : (ℕ → Row → List Place) → ℕ → List Row → List Place
-places_from places n [] = []
-places_from places n (r ∷ rows) = places n r ++ places_from places (n + 1) rows
 
 -- the places are of one instance
 abbrev pub is_same : Place → Place → Bool
@@ -49,5 +46,5 @@ place_cmp x y = ordering_then (nat_cmp x.set y.set) (ordering_then (nat_cmp x.se
 
 -- They are the places of all rows, each once: instances by set and number, and of each its rows from the top.
 pub record ArePlacesOf (logs : List (List Event)) (rows : List Row) (places : List Place) : Type 0 where
-  pub each : IsPermutation (places_from (places_at logs) 0 rows) places
+  pub each : IsPermutation (gathered_from (places_at logs) 0 rows) places
   pub sorted : IsSorted place_cmp places

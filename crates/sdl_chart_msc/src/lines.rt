@@ -2,7 +2,7 @@
 ghost use Rattle.std.specs.Prelude.{◌≡◌, ◌++◌, OnOk, codes, decimal, flat_map};
 ghost use Rattle.std.specs.Io.KnownBytes.{Appends};
 ghost use Rattle.sdl_packed_log.specs.Packed.{event_shown, step_shown};
-ghost use Rattle.sdl_chart_text.specs.Legends.{start_text, end_gate_text, state_of};
+ghost use Rattle.sdl_chart_text.specs.Legends.{end_gate_text};
 ghost use Rattle.sdl_file_commands.specs.Texts.{signal_text};
 ghost use Rattle.sdl_chart_msc.specs.Names.{name_text};
 ghost use Rattle.sdl_chart_msc.specs.Lines.{script_of, message_text, source_text, in_text, address_text, out_text, done_text, trigger_text, is_at, condition_text, end_text, turn_text, event_text, remark_text, is_consumed, sent_note, note_text};
@@ -11,7 +11,7 @@ use crate::messages::{Fate, Messages, fate_at, number_of};
 use crate::names::{write_between, write_name};
 use crate::signals::{write_params, write_pid_line, write_signal_name};
 use sdl_behaviour::{Frame, Next};
-use sdl_chart_text::States;
+use sdl_chart_text::{States, end_name, start_name};
 use sdl_file_commands::names::{gate_name, signal_name};
 use sdl_log::{Done, Trigger};
 use sdl_outcome::EnvOut;
@@ -62,7 +62,7 @@ fn write_unrouted<W: Write>(output: &mut W, structure: &Structure, signal: Signa
     write!(output, "    action 'no route for {name}';\n")
 }
 
-impl<'a> Scene<'a> {
+impl Scene<'_> {
     /// The number of the message of this origin.
     fn number(&self, origin: Origin) -> u128
         ensures { result ≡ (script_of self.now).number origin }
@@ -75,40 +75,6 @@ impl<'a> Scene<'a> {
         ensures { result ≡ (script_of self.now).fate origin }
     {
         fate_at(self.messages.fates.as_slice(), self.number(origin))
-    }
-
-    /// The name of the gate at which a route starts.
-    fn start(&self, route: RouteId) -> &'a str
-        ensures { result.now ≡ start_text self.now.structure.now self.now.routes.now route }
-    {
-        let structure = self.structure;
-        match self.routes.get(route) {
-            Some(found) => gate_name(structure, found.start),
-            None => "",
-        }
-    }
-
-    /// The name of the gate at which a route ends.
-    fn end_gate(&self, route: RouteId) -> &'a str
-        ensures { result.now ≡ end_gate_text self.now.structure.now self.now.routes.now route }
-    {
-        let structure = self.structure;
-        match self.routes.get(route) {
-            Some(found) => gate_name(structure, found.end_gate),
-            None => "",
-        }
-    }
-
-    /// The name of a state of an instance.
-    fn state(&self, pid: Pid, state: StateId) -> &'a str
-        ensures { result.now ≡ state_of self.now.states.now pid state }
-    {
-        let states = self.states;
-        match pid {
-            Pid::Inst(set, _) => states.name(set, state),
-            Pid::Env => "",
-            Pid::Null => "",
-        }
     }
 
     /// Writes the number of an item's message behind its signal.
@@ -133,7 +99,10 @@ impl<'a> Scene<'a> {
         ensures { OnOk result (Appends (W.contents output.old) (W.contents output.new) (source_text (script_of self.now) item.now)) }
     {
         match item.sender {
-            Pid::Env => write_between(output, " from env via ", self.start(item.route), ";\n"),
+            Pid::Env => {
+                let gate = start_name(self.structure, self.routes, item.route);
+                write_between(output, " from env via ", gate, ";\n")
+            }
             Pid::Null => write_pid_line(output, self.structure, " from ", item.sender),
             Pid::Inst(_, _) => write_pid_line(output, self.structure, " from ", item.sender),
         }
@@ -151,7 +120,8 @@ impl<'a> Scene<'a> {
     fn write_outward<W: Write>(&self, output: &mut W, route: RouteId) -> Result<()>
         ensures { OnOk result (Appends (W.contents output.old) (W.contents output.new) (codes " to env via " ++ name_text (end_gate_text self.now.structure.now self.now.routes.now route) ++ codes ";\n")) }
     {
-        write_between(output, " to env via ", self.end_gate(route), ";\n")
+        let gate = end_name(self.structure, self.routes, route);
+        write_between(output, " to env via ", gate, ";\n")
     }
 
     /// Writes to whom an item went that was output.
@@ -222,7 +192,7 @@ impl<'a> Scene<'a> {
         if is_at(frame.state, next) {
             Ok(())
         } else {
-            let name = self.state(frame.self_pid, next);
+            let name = self.states.name_of(frame.self_pid, next);
             write_between(output, "    condition ", name, ";\n")
         }
     }
@@ -302,7 +272,7 @@ impl<'a> Scene<'a> {
         if is_consumed(self.fate(item.origin)) {
             Ok(())
         } else {
-            let gate = self.start(item.route);
+            let gate = start_name(self.structure, self.routes, item.route);
             self.write_remark(output, gate, &item.signal, ", not consumed */\n")
         }
     }

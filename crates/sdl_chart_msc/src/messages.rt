@@ -1,19 +1,18 @@
 //! The items of a run as messages: their numbers, and what became of them.
-ghost use Rattle.std.specs.Prelude.{◌≡◌, ◌+◌, ◌<◌, ◌≤◌, List, Some, IfOk, length, map, flat_map, replicate, option_map, option_and_then, slice_get, slice_set, slice_index_or};
-ghost use Rattle.sdl_log.specs.Log.{sent_by};
+ghost use Rattle.std.specs.Prelude.{◌≡◌, ◌+◌, List, Some, IfOk, map, replicate, option_map, option_and_then, slice_get, slice_set, slice_index_or};
 ghost use Rattle.sdl_packed_log.specs.Packed.{event_shown};
 ghost use Rattle.sdl_signal.specs.declared.values.Origin.{Origin};
 ghost use Rattle.sdl_page.specs.declared.page.Spot.{Spot};
-ghost use Rattle.sdl_page.specs.Entries.{Entry, AreStored, entries_of, entry_seen};
+ghost use Rattle.sdl_page.specs.Entries.{Entry, AreStored, entries_of};
 ghost use Rattle.sdl_page.specs.Pages.{Sheet, IsPageOf, spot_at};
 ghost use Rattle.sdl_chart_msc.specs.Messages.{logged_at, row_sends, sent_above, sent_after, number_by, told_by_event, told_by_receipt, told_at, settled, fates_after, above_in, fates_in, IsSentAs};
 ghost use Rattle.sdl_chart_msc.specs.declared.messages.Fate.TheVariants as fate;
 
 use crate::rows::event_of;
-use sdl_log::{Done, Trigger};
-use sdl_outcome::EnvOut;
+use sdl_chart_text::sent_in;
+use sdl_log::Trigger;
 use sdl_packed_log::{Shown, Shows};
-use sdl_page::{Lists, Page, Row, Seen};
+use sdl_page::{Lists, Page, Row};
 use sdl_signal::{Item, Origin, Pid};
 use std::alloc::{AllocError, Global};
 
@@ -37,35 +36,6 @@ pub struct Messages {
     pub(crate) above: Vec<usize>,
     /// What became of each message, by its number. The first is that of no message.
     pub(crate) fates: Vec<Fate>,
-}
-
-/// How many items were sent in a turn.
-fn sent_among(done: &[Done]) -> usize
-    ensures count { result ≡ length (flat_map sent_by done.now) }
-    ensures few { result ≤ length done.now }
-{
-    match done {
-        [] => 0,
-        [first, rest @ ..] => match first {
-            Done::Sent(_) => sent_among(rest) + 1,
-            Done::NoRoute(_, _) => sent_among(rest),
-            Done::Made(_) => sent_among(rest),
-        },
-    }
-}
-
-/// How many items were sent in an event.
-fn sent_in(seen: &Seen) -> usize
-    ensures { result ≡ length (entry_seen seen.now).sent }
-{
-    match seen {
-        Seen::Arrival(_) => 0,
-        Seen::Turn(done) => sent_among(done),
-        Seen::Put(output) => match output {
-            EnvOut::Sent(_) => 1,
-            EnvOut::NoRoute(_, _) => 0,
-        },
-    }
 }
 
 /// How many items were sent in the event of a row.

@@ -1,5 +1,5 @@
 //! The chart: notes of the environment's outputs, and then one instance behind the other.
-ghost use Rattle.std.specs.Prelude.{◌≡◌, ◌++◌, ℕ, List, map, Some, None, OnOk, codes};
+ghost use Rattle.std.specs.Prelude.{◌≡◌, ◌++◌, ℕ, List, map, None, OnOk, codes};
 ghost use Rattle.std.specs.Io.KnownBytes.{Appends};
 ghost use Rattle.sdl_page.specs.Entries.{AreStored};
 ghost use Rattle.sdl_chart_msc.specs.Lines.{script_of, row_text, acts_text, head_text, foot_text, joint_text, place_text, lines_after, last_of, msc_text, IsMscOf};

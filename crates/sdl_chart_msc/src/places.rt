@@ -2,7 +2,8 @@
 ghost use Rattle.std.specs.Prelude.{◌≡◌, ◌++◌, true, IfOk, OnOk, map, flat_map};
 ghost use Rattle.sdl_packed_log.specs.Packed.{event_shown};
 ghost use Rattle.sdl_page.specs.Entries.{AreStored};
-ghost use Rattle.sdl_chart_msc.specs.Places.{place_of, made_in, places_of_event, places_at, places_from, ArePlacesOf, is_same};
+ghost use Rattle.sdl_chart_text.specs.Rows.{gathered_from};
+ghost use Rattle.sdl_chart_msc.specs.Places.{place_of, made_in, places_of_event, places_at, ArePlacesOf, is_same};
 
 use crate::rows::event_of;
 use sdl_log::Done;
@@ -114,7 +115,7 @@ fn add_row<K: Shows>(
 /// The places of all rows.
 fn all_places<K: Shows>(alloc: Global, logs: &[K], rows: &[Row]) -> Result<Vec<Place>, AllocError>
     requires { AreStored K.stores logs.now }
-    ensures { IfOk result (λ places. places.items ≡ places_from (places_at (map K.events logs.now)) 0 rows.now) }
+    ensures { IfOk result (λ places. places.items ≡ gathered_from (places_at (map K.events logs.now)) 0 rows.now) }
 {
     let mut places = Vec::with_capacity(alloc, rows.len())?;
     for index in 0..rows.len() {

@@ -118,11 +118,11 @@ row_text g logs received put r =
 abbrev pub line_text : Legend → List (List Event) → List Item → List EnvOut → ℕ → Row → List ℕ
 line_text g logs received put n r = (decimal (n + 1) ++ codes " ") ++ row_text g logs received put r ++ codes "\n"
 
--- the lines of the rows that are numbered from this number on
-abbrev pub lines_from : (ℕ → Row → List ℕ) → ℕ → List Row → List ℕ
-lines_from line n [] = []
-lines_from line n (r ∷ rows) = line n r ++ lines_from line (n + 1) rows
+-- what rows give one behind the other, as their lines; they are numbered from this number on
+abbrev pub gathered_from : {X : Type 0} → (ℕ → Row → List X) → ℕ → List Row → List X
+gathered_from give n [] = []
+gathered_from give n (r ∷ rows) = give n r ++ gathered_from give (n + 1) rows
 
 -- the text of a chart from one row to before another: line N is the text of row N
 abbrev pub chart_text : Legend → List (List Event) → List Item → List EnvOut → ℕ → ℕ → List Row → List ℕ
-chart_text g logs received put first past rows = lines_from (line_text g logs received put) first (take (past - first) (drop first rows))
+chart_text g logs received put first past rows = gathered_from (line_text g logs received put) first (take (past - first) (drop first rows))

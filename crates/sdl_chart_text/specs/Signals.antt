@@ -9,27 +9,30 @@ use Rattle.sdl_signal.specs.declared.values.Signal.{Signal}
 use Rattle.sdl_parts.specs.Structure.{Structure}
 use Rattle.sdl_file_commands.specs.Texts.{signal_text, set_text}
 
--- `null`, `env`, or the set's name, a colon and the serial number
-abbrev pub pid_text : Structure → Pid → List ℕ
-pid_text s pid.Null = codes "null"
-pid_text s pid.Env = codes "env"
-pid_text s (pid.Inst set serial) = set_text s set ++ codes ":" ++ decimal serial
+-- `null`, `env`, or the set's name, a mark and the serial number
+abbrev pub marked_pid_text : Structure → List ℕ → Pid → List ℕ
+marked_pid_text s mark pid.Null = codes "null"
+marked_pid_text s mark pid.Env = codes "env"
+marked_pid_text s mark (pid.Inst set serial) = set_text s set ++ mark ++ decimal serial
 
 -- a number with its sign, `true`, `false`, or a Pid
-abbrev pub value_text : Structure → Value → List ℕ
-value_text s (value.Integer n) = signed_decimal n
-value_text s (value.Boolean b) = if b then codes "true" else codes "false"
-value_text s (value.Pid p) = pid_text s p
+abbrev pub marked_value_text : Structure → List ℕ → Value → List ℕ
+marked_value_text s mark (value.Integer n) = signed_decimal n
+marked_value_text s mark (value.Boolean b) = if b then codes "true" else codes "false"
+marked_value_text s mark (value.Pid p) = marked_pid_text s mark p
 
 -- a value behind a comma and a space
-abbrev pub next_value_text : Structure → Value → List ℕ
-next_value_text s v = codes ", " ++ value_text s v
+abbrev pub next_value_text : Structure → List ℕ → Value → List ℕ
+next_value_text s mark v = codes ", " ++ marked_value_text s mark v
 
 -- the values of a signal in brackets; nothing where it has none
-abbrev pub values_text : Structure → List Value → List ℕ
-values_text s [] = []
-values_text s (v ∷ vs) = codes "(" ++ value_text s v ++ flat_map (next_value_text s) vs ++ codes ")"
+abbrev pub marked_values_text : Structure → List ℕ → List Value → List ℕ
+marked_values_text s mark [] = []
+marked_values_text s mark (v ∷ vs) = codes "(" ++ marked_value_text s mark v ++ flat_map (next_value_text s mark) vs ++ codes ")"
 
--- a signal: its name, and its values
+-- In the lines of a chart the mark is a colon: a Pid, and a signal, which is its name and its values.
+abbrev pub pid_text : Structure → Pid → List ℕ
+pid_text s p = marked_pid_text s (codes ":") p
+
 abbrev pub signal_with_values : Structure → Signal → List ℕ
-signal_with_values s x = signal_text s x.id ++ values_text s x.params.items
+signal_with_values s x = signal_text s x.id ++ marked_values_text s (codes ":") x.params.items

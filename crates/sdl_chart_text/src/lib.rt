@@ -2,12 +2,19 @@
 #![tactic(auto)]
 
 pub mod chart;
+mod environment;
+mod events;
+pub mod items;
 pub mod left;
+pub mod names;
 pub mod rows;
 pub mod signals;
 pub mod states;
 
 pub use chart::Chart;
+pub use items::sent_in;
 pub use left::{Left, lefts_of};
+pub use names::{end_name, start_name};
 pub use rows::write_chart;
+pub use signals::{write_marked_params, write_marked_pid};
 pub use states::States;

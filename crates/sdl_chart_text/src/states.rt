@@ -1,8 +1,8 @@
 //! The names of the states of each set.
 ghost use Rattle.std.specs.Prelude.{◌≡◌};
-ghost use Rattle.sdl_chart_text.specs.Legends.{state_text};
+ghost use Rattle.sdl_chart_text.specs.Legends.{state_text, state_of};
 
-use sdl_signal::{SetId, StateId};
+use sdl_signal::{Pid, SetId, StateId};
 use std::alloc::{AllocError, Global};
 use std::marker::Model;
 
@@ -55,6 +55,17 @@ impl States {
                 None => "",
             },
             None => "",
+        }
+    }
+
+    /// The name of the state of an instance. It is empty where there is none.
+    pub fn name_of(&self, pid: Pid, state: StateId) -> &str
+        ensures { result.now ≡ state_of self.now pid state }
+    {
+        match pid {
+            Pid::Inst(set, _) => self.name(set, state),
+            Pid::Env => "",
+            Pid::Null => "",
         }
     }
 }

@@ -1,0 +1,9 @@
+use Rattle.std.proofs.KnownBytes.{Appends-trans}
+use Rattle.sdl_chart_text.proofs.Written.{on_ok}
+use Rattle.sdl_chart_text.proofs.events.write_discarded.Goals as goal
+
+pub returns : goal.returns
+returns g c =
+    let part_1 = Appends-trans _ _ _ _ _ c.in_ok-write_discards.ensures c.in_ok-write_known.ensures in
+    let part_2 = Appends-trans _ _ _ _ _ part_1 c.in_ok-write_whom.ensures in
+    on_ok c.write_cause.result _ _ (λ last. Appends-trans _ _ _ _ _ part_2 last) c.write_cause.ensures

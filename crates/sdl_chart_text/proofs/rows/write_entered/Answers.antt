@@ -1,8 +1,0 @@
-use Rattle.std.proofs.KnownBytes.{Appends-trans}
-use Rattle.sdl_chart_text.proofs.Written.{on_ok}
-use Rattle.sdl_chart_text.proofs.rows.write_entered.Goals as goal
-
-pub returns : goal.returns
-returns g c =
-    let part_1 = Appends-trans _ _ _ _ _ c.in_ok-write_pid.ensures c.in_ok-write.ensures.bytes in
-    on_ok c.write_known.result _ _ (λ last. Appends-trans _ _ _ _ _ part_1 last) c.write_known.ensures

@@ -1,9 +1,0 @@
-use Rattle.std.proofs.KnownBytes.{Appends-trans}
-use Rattle.sdl_chart_text.proofs.Written.{on_ok}
-use Rattle.sdl_chart_text.proofs.rows.write_turn.Goals as goal
-
-pub returns : goal.returns
-returns g c =
-    let part_1 = Appends-trans _ _ _ _ _ c.in_ok-write_pid.ensures c.in_ok-write_trigger.ensures in
-    let part_2 = Appends-trans _ _ _ _ _ part_1 c.in_ok-write_all_done.ensures in
-    on_ok c.write_end.result _ _ (λ last. Appends-trans _ _ _ _ _ part_2 last) c.write_end.ensures
