@@ -3,9 +3,10 @@ ghost use Rattle.std.specs.Prelude.{◌≤◌, IfOk, length};
 ghost use Rattle.sdl_page.specs.Entries.{AreStored};
 ghost use Rattle.sdl_chart_drawing.specs.Charts.{IsChartOf, part_of};
 
-use crate::laying::{Laying, point};
-use crate::lines::{lines_of, x_of};
+use crate::laying::Laying;
+use crate::lines::lines_of;
 use crate::scene::{Key, Scene, Told, told_of};
+use crate::texts::point;
 use sdl_chart_drawing::{Arrival, Drawing, Tip, Wanted, arrivals_of, is_whole};
 use sdl_chart_text::Chart;
 use sdl_log::Cause;
@@ -157,7 +158,7 @@ impl<'a> Laying<'a> {
                 self.lay_arrival(row, list, item, place, Tip::Arrow, label)
             }
             Told::Put(EnvOut::Sent(item)) => {
-                let at = point(x_of(place), self.item_row(item));
+                let at = point(self.x_of(place), self.item_row(item));
                 self.take_line(place, at.y, None);
                 self.add_event(row, list, at)?;
                 self.lay_output(row, item, at)
@@ -182,7 +183,7 @@ impl<'a> Laying<'a> {
             self.y
         };
         self.take_line(place, y, None);
-        self.add_event_with(row, list, point(x_of(place), y), shapes)
+        self.add_event_with(row, list, point(self.x_of(place), y), shapes)
     }
 
     /// Lays an event of a block.

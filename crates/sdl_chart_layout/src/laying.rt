@@ -1,10 +1,10 @@
 //! Events are laid in the order of the page, each in a new row or in one above. The heights of a list's events follow its order.
 use crate::labels::{PidText, SignalText};
-use crate::lines::{Line, NOWHERE, find, shape_of, x_of};
+use crate::lines::{Line, NOWHERE, find, shape_of};
 use crate::scene::{Key, Scene, Told};
-use sdl_chart_drawing::{
-    Arrival, Drawing, Event, Message, Point, SIGNAL_LETTERS, Shape, Style, Text, Tip,
-};
+use crate::texts::{BESIDE, STUB, arrow_text, end_of, end_texts, point, width_of};
+use sdl_chart_drawing::{Arrival, Drawing, Event, Message, Point, Shape, Text, Tip};
+use sdl_chart_text::write_reason;
 use sdl_page::ByOrigin;
 use sdl_signal::{Item, Origin, Pid, Signal};
 use std::alloc::{AllocError, Global};
@@ -18,20 +18,8 @@ pub(crate) const ROW: usize = 24;
 /// From a row to states or names below it.
 const STATE_ROW: usize = 30;
 
-/// The length of a line that goes nowhere.
-const STUB: usize = 40;
-
 /// Where lines begin that come from above the part.
 const FRAME: usize = 12;
-
-/// From a line to a text over it, and from its middle to a text behind it.
-const FALL: usize = 4;
-
-/// From a lifeline to a text beside it.
-const BESIDE: usize = 10;
-
-/// From a lifeline to the middle of the label of a level arrow.
-const MIDDLE: usize = 75;
 
 /// After so much height the names of the lifelines stand once more.
 const REMIND: usize = 720;
@@ -41,7 +29,9 @@ const FOOT: usize = 26;
 
 const LEGEND: usize = 60;
 
-/// From the last lifeline to the right border.
+/// From the last lifeline to the right border at least, and from the last text.
+const RIGHT: usize = 170;
+
 const MARGIN: usize = 20;
 
 /// The least width.
@@ -58,6 +48,8 @@ pub(crate) struct Laying<'a> {
     /// The last row of states, and the last row of names.
     states_row: usize,
     names_row: usize,
+    /// The right end of all texts that stand behind a line.
+    right: usize,
     /// For each list of the page the height of its last event.
     tops: Vec<usize>,
     /// For each output the row of its arrival.
@@ -65,52 +57,6 @@ pub(crate) struct Laying<'a> {
     /// For each output the place of its message.
     places: ByOrigin<usize>,
     pub drawing: Drawing,
-}
-
-pub(crate) fn point(x: usize, y: usize) -> Point {
-    Point { x, y }
-}
-
-/// A text that begins so far behind a point.
-pub(crate) fn text_behind(at: Point, by: usize, style: Style, text: String) -> Text {
-    Text {
-        at: point(at.x.saturating_add(by), at.y.saturating_add(FALL)),
-        style,
-        text,
-    }
-}
-
-/// A label and a remark behind the head of a line that ends there.
-fn end_texts(head: Point, label: String, remark: String) -> (Text, Text) {
-    let width = label.len().min(SIGNAL_LETTERS).saturating_mul(63) / 10;
-    let behind = width.saturating_add(BESIDE).saturating_add(BESIDE);
-    (
-        text_behind(head, BESIDE, Style::Begin, label),
-        text_behind(head, behind, Style::Remark, remark),
-    )
-}
-
-/// The label of an arrow: over its first step where it is level, and else beside its tail. It stands before the head where the arrow comes
-/// from above the part, and behind a head that is at no lifeline.
-fn arrow_text(tail: Option<Point>, head: Point, text: String) -> Text {
-    let (x, y, style) = match tail {
-        None => (head.x.saturating_sub(BESIDE), head.y, Style::End),
-        Some(tail) if head.x == tail.x.saturating_add(STUB) => {
-            let y = head.y.saturating_add(FALL).saturating_add(FALL);
-            (head.x.saturating_add(BESIDE), y, Style::Begin)
-        }
-        Some(tail) if tail.x < head.x && tail.y == head.y => {
-            (tail.x.saturating_add(MIDDLE), tail.y, Style::Middle)
-        }
-        Some(tail) if tail.x <= head.x => (tail.x.saturating_add(BESIDE), tail.y, Style::Begin),
-        Some(tail) if tail.y == head.y => (tail.x.saturating_sub(MIDDLE), tail.y, Style::Middle),
-        Some(tail) => (tail.x.saturating_sub(BESIDE), tail.y, Style::End),
-    };
-    Text {
-        at: point(x, y.saturating_sub(FALL)),
-        style,
-        text,
-    }
 }
 
 /// A drawing without a shape.
@@ -147,6 +93,7 @@ impl<'a> Laying<'a> {
             y: BEGIN,
             states_row: 0,
             names_row: BEGIN,
+            right: 0,
             tops: vec![in alloc; 0; lists]?,
             rows,
             places: scene.page.by_output(alloc, NOWHERE)?,
@@ -172,6 +119,19 @@ impl<'a> Laying<'a> {
     /// The place of the lifeline on which an event stands.
     pub(crate) fn place_of(&self, told: &Told) -> usize {
         find(self.lines.as_slice(), self.scene.key_at(told))
+    }
+
+    /// Where a lifeline stands.
+    pub(crate) fn x_of(&self, place: usize) -> usize {
+        match self.lines.get(place) {
+            Some(line) => line.x,
+            None => 0,
+        }
+    }
+
+    /// Makes room for a text.
+    pub(crate) fn reach(&mut self, text: &Text) {
+        self.right = self.right.max(end_of(text));
     }
 
     /// Whether a lifeline is that of a single instance.
@@ -276,7 +236,7 @@ impl<'a> Laying<'a> {
         self.states_row = y;
         self.take_line(place, y, None);
         Shape::State {
-            at: point(x_of(place), y),
+            at: point(self.x_of(place), y),
             half: name.len().saturating_mul(3).saturating_add(BESIDE),
             name,
         }
@@ -289,11 +249,12 @@ impl<'a> Laying<'a> {
         label: String,
         shapes: &mut Vec<Shape>,
     ) -> Result<usize, AllocError> {
-        let tail = point(x_of(place), self.next_row(ROW));
+        let tail = point(self.x_of(place), self.next_row(ROW));
         let head = point(tail.x.saturating_add(STUB), tail.y);
         shapes.push(Shape::NoRoute { tail, head })?;
         let remark = String::from_str(self.alloc, "no route")?;
         let (label, remark) = end_texts(head, label, remark);
+        self.reach(&remark);
         shapes.push(Shape::Text(label))?;
         shapes.push(Shape::Text(remark))?;
         Ok(tail.y)
@@ -330,23 +291,44 @@ impl<'a> Laying<'a> {
 
     /// Ends a message whose item arrives in this row below the part, or nowhere.
     fn end_at_once(
-        &self,
+        &mut self,
         message: &mut Message,
         item: &Item,
         arrival: usize,
     ) -> Result<(), AllocError> {
         message.head.x = message.tail.x.saturating_add(STUB);
-        let remark = if arrival == NOWHERE {
-            String::from_str(self.alloc, "left")?
-        } else {
-            message.tip = Tip::Later;
-            let number = arrival as u128 + 1;
-            format!(in self.alloc; "arrives at {number}")?
-        };
-        let (label, remark) = end_texts(message.head, self.label(&item.signal)?, remark);
+        let label = self.label(&item.signal)?;
+        if arrival == NOWHERE {
+            return self.end_left(message, label);
+        }
+        message.tip = Tip::Later;
+        let number = arrival as u128 + 1;
+        let remark = format!(in self.alloc; "arrives at {number}")?;
+        let (label, remark) = end_texts(message.head, label, remark);
+        self.reach(&remark);
         message.texts.push(label)?;
         message.texts.push(remark)?;
         Ok(())
+    }
+
+    /// Ends a message whose item never arrives. Its label stands over its line, since behind its end is written where the item was left.
+    fn end_left(&mut self, message: &mut Message, label: String) -> Result<(), AllocError> {
+        let label = arrow_text(Some(message.tail), message.tail, label);
+        self.reach(&label);
+        let reason = width_of(self.reason_letters(message.origin)?);
+        let end = message.head.x.saturating_add(BESIDE);
+        self.right = self.right.max(end.saturating_add(reason));
+        message.texts.push(label)?;
+        Ok(())
+    }
+
+    /// How many letters tell where an item was left.
+    fn reason_letters(&self, origin: Origin) -> Result<usize, AllocError> {
+        let mut words: Vec<u8> = Vec::new(self.alloc);
+        match write_reason(&mut words, self.scene.structure, self.scene.left, origin) {
+            Ok(()) => Ok(words.len()),
+            Err(_) => Err(AllocError),
+        }
     }
 
     /// Where the message of an output begins, where it is one of this part.
@@ -361,7 +343,7 @@ impl<'a> Laying<'a> {
     /// Where an item arrives: in the row of its output, where that is free, and else in a new one.
     fn head_of(&mut self, list: usize, item: &Item, place: usize, tail: Option<Point>) -> Point {
         let x = if place < self.lines.len() {
-            x_of(place)
+            self.x_of(place)
         } else {
             tail.unwrap_or(point(FRAME, 0)).x.saturating_add(STUB)
         };
@@ -469,15 +451,20 @@ impl<'a> Laying<'a> {
             y: _,
             states_row: _,
             names_row: _,
+            right,
             tops: _,
             rows: _,
             places: _,
             mut drawing,
         } = laying;
-        drawing.width = x_of(lines.len()).saturating_add(MARGIN).max(LEAST_WIDTH);
+        let last = match lines.as_slice().last() {
+            Some(line) => line.x.saturating_add(RIGHT),
+            None => 0,
+        };
+        drawing.width = last.max(right.saturating_add(MARGIN)).max(LEAST_WIDTH);
         drawing.height = bottom.saturating_add(LEGEND);
-        for (place, line) in lines.as_slice().iter().enumerate() {
-            let shape = shape_of(alloc, scene.structure, place, line, bottom)?;
+        for line in lines.as_slice() {
+            let shape = shape_of(alloc, scene.structure, line, bottom)?;
             drawing.lifelines.push(shape)?;
         }
         Ok(drawing)

@@ -6,6 +6,7 @@ mod labels;
 mod laying;
 mod lines;
 mod scene;
+mod texts;
 mod turns;
 
 pub use drawing::{DrawFault, MOST_LIFELINES, draw};

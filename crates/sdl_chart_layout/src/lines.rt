@@ -10,13 +10,16 @@ use sdl_parts::Structure;
 use sdl_signal::{BlockId, Origin, Pid, SetId, StateId};
 use std::alloc::{AllocError, Global};
 
-/// From the left border to the first lifeline, and from one to the next.
-const FIRST: usize = 80;
+/// From the left border to the first head, and from one head to the next.
+const BORDER: usize = 16;
 
-const STEP: usize = 150;
+const GAP: usize = 22;
 
-/// Half the width of a head.
-pub(crate) const HALF: usize = 64;
+/// Half the width of a head at least.
+const HALF: usize = 64;
+
+/// From a head's names to its borders.
+const BRIM: usize = 7;
 
 /// The middle of the heads at the top.
 pub(crate) const TOP: usize = 88;
@@ -38,6 +41,9 @@ struct Rank {
 pub(crate) struct Line {
     pub key: Key,
     rank: Rank,
+    /// Where it stands, and half the width of its head.
+    pub x: usize,
+    pub half: usize,
     /// The middle of its head.
     pub top: usize,
     /// The lowest height that is taken.
@@ -82,11 +88,6 @@ pub(crate) fn find(lines: &[Line], key: Option<Key>) -> usize {
         .unwrap_or(NOWHERE)
 }
 
-/// Where the lifeline of a place stands.
-pub(crate) fn x_of(place: usize) -> usize {
-    place.saturating_mul(STEP).saturating_add(FIRST)
-}
-
 /// Adds a lifeline at its place, where it is not there yet.
 fn add(
     lines: &mut Vec<Line>,
@@ -105,6 +106,8 @@ fn add(
     let line = Line {
         key,
         rank,
+        x: 0,
+        half: HALF,
         top: TOP,
         last: TOP,
         arrived: None,
@@ -154,6 +157,7 @@ pub(crate) fn lines_of(
             add_told(&mut lines, scene, told)?;
         }
     }
+    spread(alloc, scene.structure, &mut lines)?;
     Ok(lines)
 }
 
@@ -181,11 +185,31 @@ fn over(structure: &Structure, key: Key) -> &str {
     }
 }
 
+/// Half the width of a lifeline's head, in which its name has room. What stands over it is written smaller.
+fn half_of(alloc: Global, structure: &Structure, key: Key) -> Result<usize, AllocError> {
+    let name = name_of(alloc, structure, key)?;
+    let names = name.len().saturating_mul(15) / 4;
+    let above = over(structure, key).len().saturating_mul(3);
+    Ok(names.max(above).saturating_add(BRIM).max(HALF))
+}
+
+/// Sets the lifelines side by side, farther apart where their heads need it.
+fn spread(alloc: Global, structure: &Structure, lines: &mut Vec<Line>) -> Result<(), AllocError> {
+    let mut left = BORDER;
+    for place in 0..lines.len() {
+        if let Some(line) = lines.get_mut(place) {
+            line.half = half_of(alloc, structure, line.key)?;
+            line.x = left.saturating_add(line.half);
+            left = line.x.saturating_add(line.half).saturating_add(GAP);
+        }
+    }
+    Ok(())
+}
+
 /// The shape of a lifeline, which ends at this height unless it stopped.
 pub(crate) fn shape_of(
     alloc: Global,
     structure: &Structure,
-    place: usize,
     line: &Line,
     bottom: usize,
 ) -> Result<Lifeline, AllocError> {
@@ -193,8 +217,8 @@ pub(crate) fn shape_of(
     Ok(Lifeline {
         name: name_of(alloc, structure, line.key)?,
         over: String::from_str(alloc, over(structure, line.key))?,
-        x: x_of(place),
-        half: HALF,
+        x: line.x,
+        half: line.half,
         top: line.top,
         bottom: line.stop.unwrap_or(bottom),
         dotted: !is_single,

@@ -1,9 +1,9 @@
 //! What is drawn of a run, and on whose lifeline.
 use sdl_chart_drawing::Wanted;
-use sdl_chart_text::{Chart, States};
+use sdl_chart_text::{Chart, Left, States};
 use sdl_outcome::EnvOut;
 use sdl_packed_log::{Shown, Shows};
-use sdl_page::{Lists, Page, Row};
+use sdl_page::{ByOrigin, Lists, Page, Row};
 use sdl_parts::Structure;
 use sdl_routes::{EndPoint, Routes};
 use sdl_signal::{GateId, Item, Pid, RouteId, SetId};
@@ -51,6 +51,7 @@ pub(crate) struct Scene<'a> {
     pub routes: &'a Routes,
     pub states: &'a States,
     pub page: &'a Page,
+    pub left: &'a ByOrigin<Left>,
     pub wanted: Wanted<'a>,
 }
 
@@ -61,6 +62,7 @@ impl<'a> Scene<'a> {
             routes: chart.routes,
             states: chart.states,
             page: chart.page,
+            left: chart.left,
             wanted: *wanted,
         }
     }

@@ -1,7 +1,8 @@
 //! Turns of instances, which are laid.
-use crate::laying::{Laying, ROW, point, text_behind};
-use crate::lines::{HALF, find, x_of};
+use crate::laying::{Laying, ROW};
+use crate::lines::find;
 use crate::scene::{Key, Told};
+use crate::texts::{point, text_behind};
 use sdl_behaviour::{Frame, Next};
 use sdl_chart_drawing::{Shape, Style};
 use sdl_file_commands::names::signal_name;
@@ -27,23 +28,11 @@ struct Turning {
     row: usize,
     list: usize,
     pid: Pid,
-    /// The place of the lifeline.
+    /// The place of the lifeline, and where it stands.
     place: usize,
+    x: usize,
     /// Whether the instance's set is kept.
     shown: bool,
-}
-
-/// Adds a text beside a lifeline.
-fn add_text(
-    shapes: &mut Vec<Shape>,
-    place: usize,
-    y: usize,
-    style: Style,
-    text: String,
-) -> Result<(), AllocError> {
-    let text = text_behind(point(x_of(place), y), LEAST_BAR, style, text);
-    shapes.push(Shape::Text(text))?;
-    Ok(())
 }
 
 impl Laying<'_> {
@@ -71,6 +60,7 @@ impl Laying<'_> {
             list,
             pid: *pid,
             place,
+            x: self.x_of(place),
             shown: self.scene.key_of(*pid) != Some(Key::Others),
         };
         let mut shapes = Vec::new(self.alloc);
@@ -90,14 +80,29 @@ impl Laying<'_> {
             }
             if !starts {
                 shapes.push(Shape::Bar {
-                    x: x_of(place),
+                    x: turn.x,
                     top,
                     bottom: last.max(top.saturating_add(LEAST_BAR)),
                 })?;
             }
             self.lay_next(turn, frame, step, &mut shapes)?;
         }
-        self.add_event_with(row, list, point(x_of(place), top), shapes)
+        self.add_event_with(row, list, point(turn.x, top), shapes)
+    }
+
+    /// Adds a text beside the lifeline of a turn.
+    fn add_text(
+        &mut self,
+        shapes: &mut Vec<Shape>,
+        turn: Turning,
+        y: usize,
+        style: Style,
+        text: String,
+    ) -> Result<(), AllocError> {
+        let text = text_behind(point(turn.x, y), LEAST_BAR, style, text);
+        self.reach(&text);
+        shapes.push(Shape::Text(text))?;
+        Ok(())
     }
 
     /// Begins a turn: where its bar begins. That is at the arrival of the signal, where the consumption follows it at once. Else the
@@ -125,7 +130,7 @@ impl Laying<'_> {
         let y = self.next_row(BAR_ROW);
         let words = self.words_at(turn.place, " at ", turn.pid)?;
         let text = self.label_with(&item.signal, words)?;
-        add_text(shapes, turn.place, y, Style::Waited, text)?;
+        self.add_text(shapes, turn, y, Style::Waited, text)?;
         Ok(y)
     }
 
@@ -139,7 +144,7 @@ impl Laying<'_> {
         match done {
             Done::Sent(item) => {
                 let y = self.item_row(item);
-                self.lay_output(turn.row, item, point(x_of(turn.place), y))
+                self.lay_output(turn.row, item, point(turn.x, y))
             }
             Done::NoRoute(_, signal) => {
                 if turn.shown {
@@ -169,7 +174,7 @@ impl Laying<'_> {
         }
         let y = self.next_row(ROW);
         let text = self.pid_words("creates ", pid)?;
-        add_text(shapes, turn.place, y, Style::Remark, text)
+        self.add_text(shapes, turn, y, Style::Remark, text)
     }
 
     /// Lays the arrow to the head of a new lifeline.
@@ -179,12 +184,12 @@ impl Laying<'_> {
         made: usize,
         shapes: &mut Vec<Shape>,
     ) -> Result<(), AllocError> {
-        let tail = point(x_of(turn.place), self.next_row(CREATE_ROW));
+        let tail = point(turn.x, self.next_row(CREATE_ROW));
         let bottom = self.next_row(HALF_HEAD);
-        let edge = if turn.place < made {
-            x_of(made).saturating_sub(HALF)
-        } else {
-            x_of(made).saturating_add(HALF)
+        let edge = match self.lines.get(made) {
+            Some(line) if turn.x < line.x => line.x.saturating_sub(line.half),
+            Some(line) => line.x.saturating_add(line.half),
+            None => turn.x,
         };
         shapes.push(Shape::Create {
             tail,
@@ -208,12 +213,12 @@ impl Laying<'_> {
         let is_single = self.is_single(turn.place);
         if !is_single {
             let text = self.pid_words("stop of ", turn.pid)?;
-            add_text(shapes, turn.place, y, Style::Remark, text)?;
+            self.add_text(shapes, turn, y, Style::Remark, text)?;
         }
         if dropped > 0 {
             let y = self.next_row(BAR_ROW);
             let text = format!(in self.alloc; "{dropped} dropped")?;
-            add_text(shapes, turn.place, y, Style::Remark, text)?;
+            self.add_text(shapes, turn, y, Style::Remark, text)?;
         }
         let bottom = self.y;
         if let Some(line) = self.lines.get_mut(turn.place) {
@@ -237,7 +242,7 @@ impl Laying<'_> {
             let y = self.next_row(BAR_ROW);
             self.take_line(turn.place, y, None);
             let text = String::from_str(self.alloc, "no transition")?;
-            return add_text(shapes, turn.place, y, Style::Remark, text);
+            return self.add_text(shapes, turn, y, Style::Remark, text);
         };
         match step.next {
             Next::State(state) if frame.state != Some(state) => {

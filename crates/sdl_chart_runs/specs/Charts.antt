@@ -30,7 +30,7 @@ use Rattle.sdl_page.specs.Origins.{value_at}
 use Rattle.sdl_chart_text.specs.declared.left.Left.{Left}
 use Rattle.sdl_chart_text.specs.declared.left.Left.TheVariants as lefts
 use Rattle.sdl_chart_text.specs.declared.chart.Chart.{Chart}
-use Rattle.sdl_chart_text.specs.Legends.{legend_with}
+use Rattle.sdl_chart_text.specs.Legends.{legend_with, place_text}
 use Rattle.sdl_chart_text.specs.Rows.{chart_text}
 use Rattle.sdl_chart_drawing.specs.declared.shapes.Drawing.{Drawing}
 use Rattle.sdl_chart_drawing.specs.Traffic.{arrivals_from, outputs_from}
@@ -92,16 +92,19 @@ part_with logs received put x only =
       hides = nat_lt 0 (length only);
     }
 
--- the text of these rows in the form that is asked for: lines, a drawing, or the textual form of Z.120, which has all rows
+-- The text of these rows in the form that is asked for: lines, a drawing, or the textual form of Z.120, which has all rows. Lines and a
+-- drawing say the same of each output whose item never arrived: where the item was left.
 abbrev pub IsInForm : Option ChartForm → List (List (List ℕ)) → Charting → Drawn → List ℕ → Structure → List TableRow → List (List Event) → List Item → List EnvOut → Type 0
 IsInForm (Some form.Svg) states c x text s routes logs received put =
-    (h : Heading) × (d : Drawing) × IsHeadingOf s x h × IsDrawingOf (part_with logs received put x c.only.items) d × (text ≡ chart_svg h d)
+    (h : Heading) × (d : Drawing) × IsHeadingOf s x h × IsDrawingOf (part_with logs received put x c.only.items) d
+    × (text ≡ chart_svg h (λ o. place_text s (x.left o)) d)
 IsInForm (Some form.Msc) states c x text s routes logs received put = IsMscOf s routes states logs received put x.page text
 IsInForm _ states c x text s routes logs received put =
     text ≡ chart_text (legend_with s routes states (entries logs received put) x.page x.left) logs received put x.first x.past x.page.rows
 
 -- All events that the run left stand on a page: each once, in the order of its list, and each item is output above its arrival. The text
--- shows each row that is asked for. Where it says that a signal was left is not said here.
+-- shows each row that is asked for. Lines and a drawing say the same of where signals were left; what they say of it is not tied to the run
+-- here.
 pub record IsChartOf (s : Structure) (routes : List TableRow) (states : List (List (List ℕ))) (c : Charting) (o : Outcome) (text : List ℕ) : Type 0 where
   pub drawn : Drawn
   pub is_page : IsPageOf (entries_left o) drawn.page

@@ -6,6 +6,7 @@ ghost use Rattle.sdl_driver.specs.Closings.{outcome_in};
 ghost use Rattle.sdl_page.specs.Entries.{AreStored, entries_of};
 ghost use Rattle.sdl_page.specs.Pages.{IsPageOf, AreWhole, AreOrderly};
 ghost use Rattle.sdl_chart_runs.specs.Charts.{IsChartOf, IsTextOf, IsHeadingOf, IsWhyNone, IsWhyNoText, IsOver, drawn_of, entries_left, first_of, last_of, before_of, past_of};
+ghost use Rattle.sdl_chart_text.specs.Legends.{reason_of};
 ghost use Rattle.sdl_chart_svg.specs.Svg.{chart_svg};
 ghost use Rattle.sdl_chart_svg.specs.declared.svg.Heading.{Heading as AHeading};
 
@@ -189,7 +190,7 @@ fn write_drawn<K, W: Write>(
     past: usize,
 ) -> OutputEnd
     ensures { result ≡ OutputEnd.Whole → (h : AHeading)
-        × IsHeadingOf chart.now.structure.now (drawn_of chart.now first past) h × Appends (W.contents output.old) (W.contents output.new) (chart_svg h drawing.now) }
+        × IsHeadingOf chart.now.structure.now (drawn_of chart.now first past) h × Appends (W.contents output.old) (W.contents output.new) (chart_svg h (reason_of chart.now.structure.now chart.now.left.now) drawing.now) }
 {
     let heading = Heading {
         system: chart.structure.system(),
@@ -197,7 +198,7 @@ fn write_drawn<K, W: Write>(
         first,
         past,
     };
-    let written = write_chart_svg(output, &heading, drawing);
+    let written = write_chart_svg(output, &heading, chart.structure, chart.left, drawing);
     end_of(written)
 }
 

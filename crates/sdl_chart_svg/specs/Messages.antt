@@ -1,10 +1,11 @@
 -- The texts of messages. (This project's own.)
-use Rattle.std.specs.Prelude.{ℕ, ◌+◌, ◌==◌, if◌then◌else◌, List, [], ◌++◌, Option, None, Some, flat_map, codes, decimal}
+use Rattle.std.specs.Prelude.{ℕ, ◌+◌, ◌==◌, Bool, true, false, if◌then◌else◌, List, [], ◌++◌, Option, None, Some, flat_map, codes, decimal}
 use Rattle.sdl_signal.specs.declared.values.Origin.{Origin}
 use Rattle.sdl_chart_drawing.specs.declared.shapes.Point.{Point}
 use Rattle.sdl_chart_drawing.specs.declared.shapes.Tip.{Tip}
 use Rattle.sdl_chart_drawing.specs.declared.shapes.Tip.TheVariants as tip
 use Rattle.sdl_chart_drawing.specs.declared.shapes.Message.{Message}
+use Rattle.sdl_svg.specs.Elements.{text_front}
 use Rattle.sdl_chart_svg.specs.Texts.{texts_text}
 use Rattle.sdl_chart_svg.specs.Shapes.{line_text, disc_text}
 
@@ -55,8 +56,27 @@ unless_hidden _ text = text
 abbrev pub drawn_text : Message → List ℕ
 drawn_text m = unless_hidden m.tip (arrow_text m)
 
-abbrev pub message_text : Message → List ℕ
-message_text m = item_text m.tip m.origin m.from ++ to_text m.to ++ drawn_text m ++ codes "</g>\n"
+-- Behind the end of one whose item never arrives stands the reason: where the item was left. A reason is told by the item's output.
+abbrev pub is_lost : Tip → Bool
+is_lost tip.Lost = true
+is_lost _ = false
 
-abbrev pub messages_text : List Message → List ℕ
-messages_text messages = flat_map message_text messages
+abbrev pub is_left : Tip → Option ℕ → Bool
+is_left t None = is_lost t
+is_left t (Some row) = false
+
+abbrev pub reason_front : Point → List ℕ
+reason_front at = text_front at.x at.y (codes "dx=\"10\" dy=\"8\" font-size=\"9.5\" fill=\"#666\" font-style=\"italic\"")
+
+abbrev pub note_text : Point → List ℕ → List ℕ
+note_text at reason = reason_front at ++ reason ++ codes "</text>\n"
+
+abbrev pub left_note : (Origin → List ℕ) → Message → List ℕ
+left_note reason m = if is_left m.tip m.to then note_text m.head (reason m.origin) else []
+
+-- a message
+abbrev pub message_text : (Origin → List ℕ) → Message → List ℕ
+message_text reason m = item_text m.tip m.origin m.from ++ to_text m.to ++ drawn_text m ++ left_note reason m ++ codes "</g>\n"
+
+abbrev pub messages_text : (Origin → List ℕ) → List Message → List ℕ
+messages_text reason messages = flat_map (message_text reason) messages

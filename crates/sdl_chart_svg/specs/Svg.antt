@@ -1,5 +1,6 @@
 -- The text of a chart as SVG: the texts of its shapes, one after the other. (This project's own.)
 use Rattle.std.specs.Prelude.{ℕ, ◌+◌, ◌-◌, ◌==◌, ◌&&◌, if◌then◌else◌, List, [], ◌++◌, codes, decimal}
+use Rattle.sdl_signal.specs.declared.values.Origin.{Origin}
 use Rattle.sdl_svg.specs.Front.{svg_front}
 use Rattle.sdl_chart_drawing.specs.declared.shapes.Drawing.{Drawing}
 use Rattle.sdl_chart_svg.specs.declared.svg.Heading.{Heading}
@@ -32,10 +33,10 @@ abbrev pub heading_text : Heading → List ℕ
 heading_text h = title_text h.system.now h.events ++ part_text h ++ codes "</text>\n"
 
 -- what is drawn: lifelines, the states above the first event, events, messages, those from above the part, and the names once more
-abbrev pub shapes_text : Drawing → List ℕ
-shapes_text d =
-    lifelines_text d.lifelines.items ++ states_text d.states.items ++ events_text d.events.items ++ messages_text d.messages.items
-    ++ messages_text d.incoming.items ++ names_text d.lifelines.items d.names.items
+abbrev pub shapes_text : (Origin → List ℕ) → Drawing → List ℕ
+shapes_text reason d =
+    lifelines_text d.lifelines.items ++ states_text d.states.items ++ events_text d.events.items ++ messages_text reason d.messages.items
+    ++ messages_text reason d.incoming.items ++ names_text d.lifelines.items d.names.items
 
 -- what the signs mean, and the end
 abbrev pub legend_text : ℕ → List ℕ
@@ -43,5 +44,6 @@ legend_text height =
     codes "<text x=\"18\" y=\"" ++ decimal (height - 18)
     ++ codes "\" font-size=\"9\" fill=\"#888\">arrow head: the signal enters the port &#183; bar: a transition &#183; &#9657; consumed later than it came &#183; &#9679; never arrives or discarded</text>\n</svg>\n"
 
-abbrev pub chart_svg : Heading → Drawing → List ℕ
-chart_svg h d = chart_front d.width d.height ++ heading_text h ++ shapes_text d ++ legend_text d.height
+-- a chart, with the reasons why items never arrive
+abbrev pub chart_svg : Heading → (Origin → List ℕ) → Drawing → List ℕ
+chart_svg h reason d = chart_front d.width d.height ++ heading_text h ++ shapes_text reason d ++ legend_text d.height

@@ -1,32 +1,47 @@
 //! The messages of a chart.
 ghost use Rattle.std.specs.Prelude.{◌≡◌, OnOk};
 ghost use Rattle.std.specs.Io.KnownBytes.{Appends};
-ghost use Rattle.sdl_chart_svg.specs.Messages.{class_text, item_text, to_text, around_text, way_text, look_text, tip_text, arrow_text, drawn_text, message_text, messages_text};
+ghost use Rattle.sdl_chart_text.specs.Legends.{reason_of};
+ghost use Rattle.sdl_chart_svg.specs.Messages.{class_text, item_text, to_text, around_text, way_text, look_text, tip_text, arrow_text, drawn_text, is_lost, is_left, reason_front, note_text, left_note, message_text, messages_text};
 
 use crate::shapes::{write_disc, write_line};
 use crate::texts::write_texts;
 use sdl_chart_drawing::{Message, Point, Tip};
+use sdl_chart_text::{Left, write_reason};
+use sdl_page::ByOrigin;
+use sdl_parts::Structure;
 use sdl_signal::Origin;
-use sdl_svg::write_text;
+use sdl_svg::{close_text, open_text, write_text};
 use std::io::{Result, Write};
 
-/// Writes these messages.
-pub(crate) fn write_messages<W: Write>(output: &mut W, messages: &[Message]) -> Result<()>
-    ensures { OnOk result (Appends (W.contents output.old) (W.contents output.new) (messages_text messages.now)) }
+/// Writes these messages, with the places where signals were left that did not arrive.
+pub(crate) fn write_messages<W: Write>(
+    output: &mut W,
+    structure: &Structure,
+    left: &ByOrigin<Left>,
+    messages: &[Message],
+) -> Result<()>
+    ensures { OnOk result (Appends (W.contents output.old) (W.contents output.new) (messages_text (reason_of structure.now left.now) messages.now)) }
 {
     for message in messages {
-        write_message(output, message)?;
+        write_message(output, structure, left, message)?;
     }
     Ok(())
 }
 
 /// Writes a message as a group with its item and with the numbers of its events, which count from 1. One that is hidden shows nothing.
-fn write_message<W: Write>(output: &mut W, message: &Message) -> Result<()>
-    ensures { OnOk result (Appends (W.contents output.old) (W.contents output.new) (message_text message.now)) }
+fn write_message<W: Write>(
+    output: &mut W,
+    structure: &Structure,
+    left: &ByOrigin<Left>,
+    message: &Message,
+) -> Result<()>
+    ensures { OnOk result (Appends (W.contents output.old) (W.contents output.new) (message_text (reason_of structure.now left.now) message.now)) }
 {
     write_item(output, message.tip, message.origin, message.from)?;
     write_to(output, message.to)?;
     write_drawn(output, message)?;
+    write_left(output, structure, left, message)?;
     write_text(output, "</g>\n")
 }
 
@@ -129,4 +144,67 @@ fn write_tip<W: Write>(output: &mut W, tip: Tip, at: Point) -> Result<()>
         Tip::Arrow => Ok(()),
         Tip::Hidden => Ok(()),
     }
+}
+
+/// Writes where the item of a message was left, if it never arrives.
+fn write_left<W: Write>(
+    output: &mut W,
+    structure: &Structure,
+    left: &ByOrigin<Left>,
+    message: &Message,
+) -> Result<()>
+    ensures { OnOk result (Appends (W.contents output.old) (W.contents output.new) (left_note (reason_of structure.now left.now) message.now)) }
+{
+    if is_left(message.tip, message.to) {
+        write_note(output, structure, left, message.origin, message.head)
+    } else {
+        Ok(())
+    }
+}
+
+/// Whether the item of a message never arrives, and the message is drawn.
+fn is_left(tip: Tip, to: Option<usize>) -> bool
+    ensures { result ≡ is_left tip to }
+{
+    match to {
+        Some(_) => false,
+        None => is_lost(tip),
+    }
+}
+
+fn is_lost(tip: Tip) -> bool
+    ensures { result ≡ is_lost tip }
+{
+    match tip {
+        Tip::Lost => true,
+        Tip::Arrow => false,
+        Tip::Later => false,
+        Tip::Hidden => false,
+    }
+}
+
+/// Writes where the item of an output was left, behind the end of its line. Names have letters, digits and underscores alone.
+fn write_note<W: Write>(
+    output: &mut W,
+    structure: &Structure,
+    left: &ByOrigin<Left>,
+    origin: Origin,
+    at: Point,
+) -> Result<()>
+    ensures { OnOk result (Appends (W.contents output.old) (W.contents output.new) (note_text at (reason_of structure.now left.now origin))) }
+{
+    open_reason(output, at)?;
+    write_reason(output, structure, left, origin)?;
+    close_text(output)
+}
+
+fn open_reason<W: Write>(output: &mut W, at: Point) -> Result<()>
+    ensures { OnOk result (Appends (W.contents output.old) (W.contents output.new) (reason_front at)) }
+{
+    open_text(
+        output,
+        at.x,
+        at.y,
+        "dx=\"10\" dy=\"8\" font-size=\"9.5\" fill=\"#666\" font-style=\"italic\"",
+    )
 }

@@ -1,12 +1,16 @@
 //! The SVG of a chart.
 ghost use Rattle.std.specs.Prelude.{◌-◌, OnOk};
 ghost use Rattle.std.specs.Io.KnownBytes.{Appends};
+ghost use Rattle.sdl_chart_text.specs.Legends.{reason_of};
 ghost use Rattle.sdl_chart_svg.specs.Svg.{frame_text, chart_front, title_text, part_text, range_text, heading_text, shapes_text, legend_text, chart_svg};
 
 use crate::lifelines::{write_lifelines, write_names};
 use crate::messages::write_messages;
 use crate::shapes::{write_events, write_shapes};
 use sdl_chart_drawing::Drawing;
+use sdl_chart_text::Left;
+use sdl_page::ByOrigin;
+use sdl_parts::Structure;
 use sdl_svg::{write_front, write_text};
 use std::io::{Result, Write};
 
@@ -20,13 +24,20 @@ pub struct Heading<'a> {
     pub past: usize,
 }
 
-/// Writes the drawing as SVG: lifelines, states, events, messages, and names. Signs that are special in XML are written by their names.
-pub fn write_chart_svg<W: Write>(output: &mut W, heading: &Heading, drawing: &Drawing) -> Result<()>
-    ensures { OnOk result (Appends (W.contents output.old) (W.contents output.new) (chart_svg heading.now drawing.now)) }
+/// Writes the drawing as SVG: lifelines, states, events, messages, and names. A message whose item never arrives says where it was left,
+/// by the names of the structure. Signs that are special in XML are written by their names.
+pub fn write_chart_svg<W: Write>(
+    output: &mut W,
+    heading: &Heading,
+    structure: &Structure,
+    left: &ByOrigin<Left>,
+    drawing: &Drawing,
+) -> Result<()>
+    ensures { OnOk result (Appends (W.contents output.old) (W.contents output.new) (chart_svg heading.now (reason_of structure.now left.now) drawing.now)) }
 {
     write_begin(output, drawing.width, drawing.height)?;
     write_heading(output, heading)?;
-    write_drawn(output, drawing)?;
+    write_drawn(output, structure, left, drawing)?;
     write_legend(output, drawing.height)
 }
 
@@ -84,14 +95,19 @@ fn write_range<W: Write>(output: &mut W, first: usize, past: usize) -> Result<()
 }
 
 /// Writes all that is drawn.
-fn write_drawn<W: Write>(output: &mut W, drawing: &Drawing) -> Result<()>
-    ensures { OnOk result (Appends (W.contents output.old) (W.contents output.new) (shapes_text drawing.now)) }
+fn write_drawn<W: Write>(
+    output: &mut W,
+    structure: &Structure,
+    left: &ByOrigin<Left>,
+    drawing: &Drawing,
+) -> Result<()>
+    ensures { OnOk result (Appends (W.contents output.old) (W.contents output.new) (shapes_text (reason_of structure.now left.now) drawing.now)) }
 {
     write_lifelines(output, drawing.lifelines.as_slice())?;
     write_shapes(output, drawing.states.as_slice())?;
     write_events(output, drawing.events.as_slice())?;
-    write_messages(output, drawing.messages.as_slice())?;
-    write_messages(output, drawing.incoming.as_slice())?;
+    write_messages(output, structure, left, drawing.messages.as_slice())?;
+    write_messages(output, structure, left, drawing.incoming.as_slice())?;
     write_names(
         output,
         drawing.lifelines.as_slice(),

@@ -89,7 +89,7 @@ among_text several place = if several then codes "." ++ decimal (place + 1) else
 abbrev pub spot_text : Legend → Origin → List ℕ
 spot_text g o = elim (g.spot o) [ None ↦ [] | Some s ↦ codes " @" ++ decimal (s.row + 1) ++ among_text (g.several s.row) s.among ]
 
--- a path of a channel, a worker, a station, and where an item is that did not arrive
+-- a path of a channel, a worker, and a station
 abbrev pub hop_text : Structure → Hop → List ℕ
 hop_text s hop = channel_text s hop.channel ++ (if hop.back then codes "-" else codes "+")
 
@@ -103,8 +103,23 @@ station_text s (station.Line hop) = hop_text s hop
 station_text s (station.Inlet block) = codes "inlet of " ++ block_text s block
 station_text s station.Outlet = codes "outlet"
 
+-- where an item is that did not arrive, and the same behind its output
+abbrev pub place_text : Structure → Left → List ℕ
+place_text s lefts.Nowhere = []
+place_text s (lefts.At at) = codes "left in " ++ station_text s at
+place_text s (lefts.InHand w) = codes "left in hand of " ++ worker_text s w
+place_text s (lefts.KeptBy w) = codes "kept by " ++ worker_text s w
+
+abbrev pub comma_text : Left → List ℕ
+comma_text lefts.Nowhere = []
+comma_text _ = codes ", "
+
 abbrev pub left_text : Structure → Left → List ℕ
-left_text s lefts.Nowhere = []
-left_text s (lefts.At at) = codes ", left in " ++ station_text s at
-left_text s (lefts.InHand w) = codes ", left in hand of " ++ worker_text s w
-left_text s (lefts.KeptBy w) = codes ", kept by " ++ worker_text s w
+left_text s left = comma_text left ++ place_text s left
+
+-- the same of the item of an output, by the places of all items
+abbrev pub left_at : List (List Left) → Origin → Left
+left_at places o = unwrap_or (value_at places o) lefts.Nowhere
+
+abbrev pub reason_of : Structure → List (List Left) → Origin → List ℕ
+reason_of s places o = place_text s (left_at places o)

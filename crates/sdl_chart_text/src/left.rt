@@ -1,7 +1,7 @@
 //! Where the signals are that did not arrive.
-ghost use Rattle.std.specs.Prelude.{◌++◌, OnOk, codes};
+ghost use Rattle.std.specs.Prelude.{◌≡◌, ◌++◌, OnOk, codes};
 ghost use Rattle.std.specs.Io.KnownBytes.{Appends};
-ghost use Rattle.sdl_chart_text.specs.Legends.{hop_text, worker_text, station_text, left_text};
+ghost use Rattle.sdl_chart_text.specs.Legends.{hop_text, worker_text, station_text, place_text, comma_text, left_text, left_at, reason_of};
 
 use sdl_file_commands::names::{block_name, channel_name};
 use sdl_hand::Hand;
@@ -10,6 +10,7 @@ use sdl_page::{ByOrigin, Page};
 use sdl_parts::Structure;
 use sdl_queue::Rest;
 use sdl_routes::{Hop, Station};
+use sdl_signal::Origin;
 use std::alloc::{AllocError, Global};
 use std::io::{Result as IoResult, Write};
 
@@ -118,9 +119,9 @@ fn write_station<W: Write>(output: &mut W, structure: &Structure, station: Stati
 
 /// Writes at which station a signal waits.
 fn write_waiting<W: Write>(output: &mut W, structure: &Structure, station: Station) -> IoResult<()>
-    ensures { OnOk result (Appends (W.contents output.old) (W.contents output.new) (codes ", left in " ++ station_text structure.now station)) }
+    ensures { OnOk result (Appends (W.contents output.old) (W.contents output.new) (codes "left in " ++ station_text structure.now station)) }
 {
-    write!(output, ", left in ")?;
+    write!(output, "left in ")?;
     write_station(output, structure, station)
 }
 
@@ -138,6 +139,30 @@ fn write_held<W: Write>(
 }
 
 /// Writes where a signal is that did not arrive.
+fn write_place<W: Write>(output: &mut W, structure: &Structure, left: Left) -> IoResult<()>
+    ensures { OnOk result (Appends (W.contents output.old) (W.contents output.new) (place_text structure.now left)) }
+{
+    match left {
+        Left::Nowhere => Ok(()),
+        Left::At(station) => write_waiting(output, structure, station),
+        Left::InHand(worker) => write_held(output, structure, "left in hand of ", worker),
+        Left::KeptBy(worker) => write_held(output, structure, "kept by ", worker),
+    }
+}
+
+/// What stands between an output and where its signal is.
+fn comma_of(left: Left) -> &'static str
+    ensures { result.now ≡ comma_text left }
+{
+    match left {
+        Left::Nowhere => "",
+        Left::At(_) => ", ",
+        Left::InHand(_) => ", ",
+        Left::KeptBy(_) => ", ",
+    }
+}
+
+/// Writes where a signal is that did not arrive, behind its output.
 pub(crate) fn write_left<W: Write>(
     output: &mut W,
     structure: &Structure,
@@ -145,10 +170,26 @@ pub(crate) fn write_left<W: Write>(
 ) -> IoResult<()>
     ensures { OnOk result (Appends (W.contents output.old) (W.contents output.new) (left_text structure.now left)) }
 {
-    match left {
-        Left::Nowhere => Ok(()),
-        Left::At(station) => write_waiting(output, structure, station),
-        Left::InHand(worker) => write_held(output, structure, ", left in hand of ", worker),
-        Left::KeptBy(worker) => write_held(output, structure, ", kept by ", worker),
-    }
+    let comma = comma_of(left);
+    write!(output, "{comma}")?;
+    write_place(output, structure, left)
+}
+
+/// Where the item of an output is, if it did not arrive.
+fn left_at(left: &ByOrigin<Left>, origin: Origin) -> Left
+    ensures { result ≡ left_at left.now origin }
+{
+    left.at(origin).unwrap_or(Left::Nowhere)
+}
+
+/// Writes where the item of an output is, if it did not arrive: the reason why it did not, in the words of the lines.
+pub fn write_reason<W: Write>(
+    output: &mut W,
+    structure: &Structure,
+    left: &ByOrigin<Left>,
+    origin: Origin,
+) -> IoResult<()>
+    ensures { OnOk result (Appends (W.contents output.old) (W.contents output.new) (reason_of structure.now left.now origin)) }
+{
+    write_place(output, structure, left_at(left, origin))
 }

@@ -13,7 +13,7 @@ pub mod states;
 
 pub use chart::Chart;
 pub use items::sent_in;
-pub use left::{Left, lefts_of};
+pub use left::{Left, lefts_of, write_reason};
 pub use names::{end_name, start_name};
 pub use rows::write_chart;
 pub use signals::{write_marked_params, write_marked_pid};
