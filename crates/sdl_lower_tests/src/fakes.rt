@@ -5,11 +5,12 @@ use std::alloc::Global;
 use std::io;
 use std::io::{ErrorKind, Read, Write};
 
-/// Gives the bytes before, fails once where it has a failure, and then gives the bytes after.
+/// Gives the bytes before, fails or ends once where it is to, and then gives the bytes after.
 #[derive(Drop)]
 pub struct Reading<'a> {
     pub before: &'a [u8],
     pub failure: Option<ErrorKind>,
+    pub ends: bool,
     pub after: &'a [u8],
     /// How many bytes it gives at once.
     pub most: usize,
@@ -25,6 +26,7 @@ pub fn reader_of(text: &[u8]) -> Reading<'_> {
     Reading {
         before: text,
         failure: None,
+        ends: false,
         after: b"",
         most: usize::MAX,
         waits: 0,
@@ -58,6 +60,10 @@ impl Read for Reading<'_> {
         }
         if let Some(kind) = self.failure.take() {
             return Err(io::Error::from(kind));
+        }
+        if self.ends {
+            self.ends = false;
+            return Ok(0);
         }
         Ok(give(&mut self.after, buffer, most))
     }

@@ -56,11 +56,13 @@ impl Jobber {
         }
     }
 
-    /// How many flushes more it waits for.
-    fn waits(&self) -> Option<u64> {
+    /// How many flushes more it waits for, or how many items it has yet to take.
+    fn left(&self) -> u64 {
         match self.job {
-            Job::Wait(left) => Some(left),
-            Job::Pass(_, _) | Job::Put(_) | Job::Read(_, _, _) | Job::Work(_) => None,
+            Job::Wait(left) => left,
+            Job::Read(_, items, _) => items,
+            Job::Put(left) => left,
+            Job::Pass(_, _) | Job::Work(_) => 0,
         }
     }
 }
@@ -197,43 +199,20 @@ impl Work for Jobber {
     }
 }
 
-/// How often the worker put, where it ran until it was told to stop.
-pub fn put_by(worker: &Returned<Jobber>) -> Option<u64> {
+/// How often the worker put, and how much it has yet to do, where it ran until it was told to stop.
+pub fn done_by(worker: &Returned<Jobber>) -> Option<(u64, u64)> {
     match worker {
-        Returned::Ran(worker) => Some(worker.put),
+        Returned::Ran(worker) => Some((worker.put, worker.left())),
         Returned::Refused(_) => None,
         Returned::NotStarted(_) => None,
     }
 }
 
-/// How many items the worker has yet to take, where it ran until it was told to stop.
-pub fn left_by(worker: &Returned<Jobber>) -> Option<u64> {
+/// The same of one of the list.
+pub fn done_in_list(worker: &Returned<Kind<Jobber, Jobber>>) -> Option<(u64, u64)> {
     match worker {
-        Returned::Ran(
-            Jobber {
-                job: Job::Read(_, items, _),
-                ..
-            },
-        ) => Some(*items),
-        _ => None,
-    }
-}
-
-/// How often one of the list put, where it ran until it was told to stop.
-pub fn put_in_list(worker: &Returned<Kind<Jobber, Jobber>>) -> Option<u64> {
-    match worker {
-        Returned::Ran(Kind::Block(worker)) => Some(worker.put),
-        Returned::Ran(Kind::Forwarder(worker)) => Some(worker.put),
-        Returned::Refused(_) => None,
-        Returned::NotStarted(_) => None,
-    }
-}
-
-/// How many flushes more one of the list waits for, where it ran until it was told to stop.
-pub fn waits_in_list(worker: &Returned<Kind<Jobber, Jobber>>) -> Option<u64> {
-    match worker {
-        Returned::Ran(Kind::Block(worker)) => worker.waits(),
-        Returned::Ran(Kind::Forwarder(worker)) => worker.waits(),
+        Returned::Ran(Kind::Block(worker)) => Some((worker.put, worker.left())),
+        Returned::Ran(Kind::Forwarder(worker)) => Some((worker.put, worker.left())),
         Returned::Refused(_) => None,
         Returned::NotStarted(_) => None,
     }

@@ -72,11 +72,9 @@ fn let_through(rt: &impl Abort, alloc: Global, count: u64) -> Result<(), AllocEr
 }
 
 #[test]
-fn eight_thousand_saved_are_let_through(rt: HostRuntime) -> Result<(), AllocError> {
-    let_through(&rt, rt.alloc(), 8_000)
-}
-
-#[test]
-fn sixteen_thousand_saved_are_let_through(rt: HostRuntime) -> Result<(), AllocError> {
-    let_through(&rt, rt.alloc(), 16_000)
+fn thousands_saved_are_let_through(rt: HostRuntime) -> Result<(), AllocError> {
+    for count in [8_000, 16_000] {
+        let_through(&rt, rt.alloc(), count)?;
+    }
+    Ok(())
 }

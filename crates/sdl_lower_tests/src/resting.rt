@@ -3,14 +3,12 @@ ghost use Rattle.std.specs.Prelude.{◌≡◌, ◌≤◌, [], ⊤, IfOk, vec_cap
 ghost use Rattle.std.specs.List.{All};
 ghost use Rattle.sdl_threads.specs.Kinds.{KeepsOneOf};
 
-use super::jobs::{Job, Jobber, Ring, left_by, put_by, put_in_list, station_at, waits_in_list};
-use sdl_examples::ECHO;
-use sdl_parts::Checked;
+use super::jobs::{Job, Jobber, Ring, done_by, done_in_list, station_at};
+use sdl_parts::{Checked, Lists, Structure, check};
 use sdl_routes::{Routes, Station};
-use sdl_test_systems::{Stop, routes_of};
-use sdl_threads::{Gate, Kind, OpenGate, Returned, Team, run_all};
-use std::alloc::Global;
-use std::process::Abort;
+use sdl_signal::name;
+use sdl_threads::{Gate, Kind, Returned, Team, run_all};
+use std::alloc::{AllocError, Global};
 use std::sync::atomic::AtomicU64;
 use std::sync::atomic::Ordering::SeqCst;
 use std::sync::{Arc, Wait};
@@ -22,7 +20,7 @@ const HOPS: u64 = 400;
 
 const TRIES: u64 = 10_000_000;
 
-fn passer_at(ring: &Arc<Ring, Global>, place: usize) -> Result<Jobber, Stop> {
+fn passer_at(ring: &Arc<Ring, Global>, place: usize) -> Result<Jobber, AllocError> {
     let shared = Arc::try_clone(ring)?;
     Ok(Jobber::new(station_at(place), Job::Pass(shared, place)))
 }
@@ -30,33 +28,46 @@ fn passer_at(ring: &Arc<Ring, Global>, place: usize) -> Result<Jobber, Stop> {
 /// What came of a run: the workers in threads, and the one on this thread.
 type Came = (Vec<Returned<Kind<Jobber, Jobber>>>, Returned<Jobber>);
 
-/// A structure with its routes, and room for so many workers that come back.
-fn setting(
-    alloc: Global,
-    workers: usize,
-) -> Result<((Checked, Routes), Vec<Returned<Kind<Jobber, Jobber>>>), Stop>
-    ensures { IfOk result (λ s. (s.1.items ≡ []) × (workers ≤ vec_capacity s.1)) }
-{
-    let both = routes_of(alloc, ECHO)?;
-    let done = Vec::with_capacity(alloc, workers)?;
-    Ok((both, done))
+/// A structure without parts, which these workers do not look at.
+fn no_parts(alloc: Global) -> Result<Structure, Fail> {
+    let Some(system) = name("Resting") else {
+        return Err("no name".into());
+    };
+    let lists = Lists {
+        signals: Vec::new(alloc),
+        blocks: Vec::new(alloc),
+        sets: Vec::new(alloc),
+        gates: Vec::new(alloc),
+        channels: Vec::new(alloc),
+    };
+    Ok(Structure::new(alloc, system, 1, lists)?)
+}
+
+/// The same with its routes, of which it has none.
+fn no_routes(alloc: Global) -> Result<(Checked, Routes), Fail> {
+    let Ok(checked) = check(no_parts(alloc)?) else {
+        return Err("not well formed".into());
+    };
+    let routes = Routes::build(alloc, &checked)?;
+    Ok((checked, routes))
 }
 
 /// Three workers in threads and one on this thread. They run until all are at rest.
-fn run<G: Gate, R: Threads + Wait + Sync>(
+fn run<R: Threads + Wait + Sync>(
     rt: &R,
     alloc: Global,
     workers: Vec<Kind<Jobber, Jobber>>,
     environment: Jobber,
-    gate: &G,
-) -> Result<Came, Stop>
+    gate: &Meeting,
+) -> Result<Came, Fail>
     requires { All (KeepsOneOf (λ a. ⊤) (λ f. ⊤)) workers.items }
 {
     if workers.len() > 3 {
-        return Err(Stop::Wrong("too many workers"));
+        return Err("too many workers".into());
     }
     let number_of_environment = workers.len() as u32;
-    let ((checked, routes), done) = setting(alloc, workers.len())?;
+    let (checked, routes) = no_routes(alloc)?;
+    let done = Vec::with_capacity(alloc, workers.len())?;
     let team = Team {
         workers,
         environment,
@@ -67,11 +78,7 @@ fn run<G: Gate, R: Threads + Wait + Sync>(
 }
 
 /// Four workers, of which the first has a token.
-fn run_ring<G: Gate, R: Threads + Wait + Sync>(
-    rt: &R,
-    alloc: Global,
-    gate: &G,
-) -> Result<Came, Stop> {
+fn run_ring<R: Threads + Wait + Sync>(rt: &R, alloc: Global, gate: &Meeting) -> Result<Came, Fail> {
     let ring = Arc::new(
         alloc,
         Ring {
@@ -95,37 +102,27 @@ fn run_ring<G: Gate, R: Threads + Wait + Sync>(
     run(rt, alloc, workers, fourth, gate)
 }
 
-/// Each of the four passes the token on as often as the others.
-fn go_round<G: Gate, R: Threads + Wait + Sync + Abort>(
-    rt: &R,
-    alloc: Global,
-    gate: &G,
-) -> Result<(), Stop> {
-    let (workers, fourth) = run_ring(rt, alloc, gate)?;
-    assert!(rt; workers.len() == 3);
-    for worker in workers.as_slice() {
-        assert!(rt; put_in_list(worker) == Some(100));
-    }
-    assert!(rt; put_by(&fourth) == Some(100));
-    Ok(())
-}
-
-#[test]
-fn none_stops_before_all_are_at_rest(rt: HostRuntime) -> Result<(), Fail> {
-    go_round(&rt, rt.alloc(), &OpenGate)?;
-    Ok(())
-}
-
-/// Each worker waits at its first step until all four are at theirs, and gives up after some tries.
+/// Where it meets, each worker waits at its first step until all four are at theirs, and gives up after some tries.
 #[derive(Drop)]
 struct Meeting {
+    meets: bool,
     came: AtomicU64,
     met: AtomicU64,
 }
 
+impl Meeting {
+    fn new(meets: bool) -> Meeting {
+        Meeting {
+            meets,
+            came: AtomicU64::new(0),
+            met: AtomicU64::new(0),
+        }
+    }
+}
+
 impl Gate for Meeting {
     fn before(&self, _worker: u32, step: u64) {
-        if step != 0 {
+        if step != 0 || !self.meets {
             return;
         }
         self.came.fetch_add(1, SeqCst);
@@ -139,85 +136,74 @@ impl Gate for Meeting {
     }
 }
 
+/// Each of the four passed the token on as often as the others.
+fn all_passed(came: &Came) -> bool {
+    came.0.len() == 3
+        && came
+            .0
+            .iter()
+            .all(|worker| done_in_list(worker) == Some((100, 0)))
+        && done_by(&came.1) == Some((100, 0))
+}
+
+/// None stops before all are at rest, also where all make their first step at once.
 #[test]
-fn all_workers_make_their_first_step_at_once(rt: HostRuntime) -> Result<(), Fail> {
-    let meeting = Meeting {
-        came: AtomicU64::new(0),
-        met: AtomicU64::new(0),
-    };
-    go_round(&rt, rt.alloc(), &meeting)?;
-    assert!(rt; meeting.came.load(SeqCst) == 4);
-    assert!(rt; meeting.met.load(SeqCst) == 4);
+fn none_stops_before_all_are_at_rest(rt: HostRuntime) -> Result<(), Fail> {
+    for (meets, met) in [(false, 0), (true, 4)] {
+        let meeting = Meeting::new(meets);
+        let came = run_ring(&rt, rt.alloc(), &meeting)?;
+        assert!(rt; all_passed(&came));
+        assert!(rt; meeting.came.load(SeqCst) == met);
+        assert!(rt; meeting.met.load(SeqCst) == met);
+    }
     Ok(())
 }
 
-/// Runs this job in a thread, beside a worker on this thread.
+/// How often a worker put, and how much it has yet to do.
+type Did = Option<(u64, u64)>;
+
+/// Runs this job in a thread, beside a worker on this thread, and tells what both did.
 fn run_beside<R: Threads + Wait + Sync>(
     rt: &R,
     alloc: Global,
     job: Job,
     environment: Job,
-) -> Result<Came, Stop> {
+) -> Result<(Did, Did), Fail> {
     let workers = vec![in alloc; Kind::Block(Jobber::new(station_at(0), job))]?;
     let environment = Jobber::new(Station::Outlet, environment);
-    run(rt, alloc, workers, environment, &OpenGate)
-}
-
-/// How often the one worker in a thread put.
-fn put_by_one(workers: &[Returned<Kind<Jobber, Jobber>>]) -> Option<u64> {
-    match workers {
-        [worker] => put_in_list(worker),
+    let (workers, environment) = run(rt, alloc, workers, environment, &Meeting::new(false))?;
+    let did = match workers.as_slice() {
+        [worker] => done_in_list(worker),
         _ => None,
-    }
-}
-
-/// How many flushes more the one worker in a thread waits for.
-fn waits_of_one(workers: &[Returned<Kind<Jobber, Jobber>>]) -> Option<u64> {
-    match workers {
-        [worker] => waits_in_list(worker),
-        _ => None,
-    }
+    };
+    Ok((did, done_by(&environment)))
 }
 
 /// At the last of these steps the worker looks how far it is ahead, and finds that it is far: more than 512 items, where it looks
 /// after each 64 steps.
 const STEPS: u64 = 576;
 
-/// The sleep in which it lets others catch up ends by itself, as nobody takes. It comes to rest after that, so that the run ends.
-#[test]
-fn one_that_waited_for_others_in_vain_comes_to_rest(rt: HostRuntime) -> Result<(), Fail> {
-    let (workers, environment) = run_beside(&rt, rt.alloc(), Job::Put(STEPS), Job::Put(0))?;
-    assert!(rt; put_by_one(workers.as_slice()) == Some(STEPS));
-    assert!(rt; put_by(&environment) == Some(0));
-    Ok(())
-}
-
 /// More flushes than the steps that a worker makes before it comes to rest.
 const FLUSHES: u64 = 400;
-
-/// Who has a backlog is not at rest: the run goes on until there is room for it.
-#[test]
-fn none_stops_before_there_was_room_for_a_backlog(rt: HostRuntime) -> Result<(), Fail> {
-    let (workers, environment) = run_beside(&rt, rt.alloc(), Job::Wait(FLUSHES), Job::Put(0))?;
-    assert!(rt; waits_of_one(workers.as_slice()) == Some(0));
-    assert!(rt; put_by(&environment) == Some(0));
-    Ok(())
-}
 
 /// So many lines, and more items than a worker takes before it asks outside the system while others work, where it read no line.
 const LINES: u64 = 100;
 
 const ITEMS: u64 = 8_000;
 
-/// For each line that was read it takes more of what comes before it asks for others.
+/// The sleep in which one lets others catch up ends by itself, as nobody takes; it comes to rest after that, so that the run ends.
+/// Who has a backlog is not at rest: the run goes on until there is room for it. For each line that was read, one takes more of what
+/// comes before it asks for others.
 #[test]
-fn one_that_read_many_lines_takes_all_that_comes_of_them(rt: HostRuntime) -> Result<(), Fail> {
+fn workers_come_to_rest_beside_others(rt: HostRuntime) -> Result<(), Fail> {
     let alloc = rt.alloc();
+    let (ahead, beside) = run_beside(&rt, alloc, Job::Put(STEPS), Job::Put(0))?;
+    assert!(rt; ahead == Some((STEPS, 0)) && beside == Some((0, 0)));
+    let (held, beside) = run_beside(&rt, alloc, Job::Wait(FLUSHES), Job::Put(0))?;
+    assert!(rt; held == Some((0, 0)) && beside == Some((0, 0)));
     let rest = Arc::new(alloc, AtomicU64::new(0))?;
     let work = Job::Work(rest.clone()?);
-    let (workers, environment) = run_beside(&rt, alloc, work, Job::Read(LINES, ITEMS, rest))?;
-    assert!(rt; workers.len() == 1);
-    assert!(rt; put_by(&environment) == Some(LINES));
-    assert!(rt; left_by(&environment) == Some(0));
+    let (working, reading) = run_beside(&rt, alloc, work, Job::Read(LINES, ITEMS, rest))?;
+    assert!(rt; working.is_some() && reading == Some((LINES, 0)));
     Ok(())
 }

@@ -1,70 +1,236 @@
 //! Sinks of lines over writers that take a few bytes at a time, are interrupted, or fail once.
 use crate::fakes::{Writing, writer_of};
 use sdl_signal::{LineSink, Written, write_line};
-use std::alloc::Global;
 use std::io::ErrorKind;
 use std::process::Abort;
 
 /// What a writer answers once: an error that is no interruption, or, where none is given, that it took
 /// nothing.
-const FAILURES: &[Option<ErrorKind>] = &[
+static FAILURES: [Option<ErrorKind>; 4] = [
     None,
     Some(ErrorKind::Other),
     Some(ErrorKind::WouldBlock),
     Some(ErrorKind::BrokenPipe),
 ];
 
+/// A line alone says this, and these bytes went out.
+fn goes_out(rt: &impl Abort, mut output: Writing, line: &[u8], wanted: Written, bytes: &[u8]) {
+    assert!(rt; write_line(&mut output, line) == wanted);
+    assert!(rt; output.taken.as_slice() == bytes);
+}
+
 #[test]
 fn a_line_stops_where_the_writer_fails_once(rt: HostRuntime) {
-    for failure in FAILURES {
+    for failure in FAILURES.iter() {
         for most in [9, 3] {
             for place in 0..5 {
-                let mut output = Writing {
+                let output = Writing {
                     place,
                     failure: *failure,
                     most,
                     ..writer_of(rt.alloc())
                 };
-                assert!(rt; write_line(&mut output, b"line") == Written::Fault(place));
-                assert!(rt; output.taken.as_slice() == &b"line\n"[..place]);
+                goes_out(
+                    &rt,
+                    output,
+                    b"line",
+                    Written::Fault(place),
+                    &b"line\n"[..place],
+                );
             }
         }
     }
 }
 
+/// How many bytes a writer takes at once, its place of a failure, its interruptions before the first write and between others, a
+/// line, and what comes of it.
+static LINES: [(usize, usize, u32, u32, &[u8], Written, &[u8]); 5] = [
+    (3, 64, 0, 0, b"line", Written::Whole, b"line\n"),
+    (3, 5, 0, 0, b"line", Written::Whole, b"line\n"),
+    (3, 64, 1_000, 0, b"line", Written::Whole, b"line\n"),
+    (3, 64, 1_001, 0, b"line", Written::Fault(0), b""),
+    // one interruption too many stops within a line
+    (1, 64, 300, 300, b"nine more", Written::Fault(3), b"nin"),
+];
+
 #[test]
 fn a_sink_says_how_much_went_out(rt: HostRuntime) {
-    for (place, waits, wanted, bytes) in [
-        (64, 0, Written::Whole, b"line\n".as_slice()),
-        (5, 0, Written::Whole, b"line\n".as_slice()),
-        (64, 1_000, Written::Whole, b"line\n".as_slice()),
-        (64, 1_001, Written::Fault(0), b"".as_slice()),
-    ] {
-        let mut output = Writing {
-            place,
-            waits,
-            most: 3,
+    for (most, place, waits, each, line, wanted, bytes) in LINES.iter() {
+        let output = Writing {
+            place: *place,
+            most: *most,
+            waits: *waits,
+            each: *each,
             ..writer_of(rt.alloc())
         };
-        assert!(rt; write_line(&mut output, b"line") == wanted);
-        assert!(rt; output.taken.as_slice() == bytes);
+        goes_out(&rt, output, line, *wanted, bytes);
     }
 }
 
+/// A line that is written so often: the interruptions before the first write and between others, what each writing says, and how many
+/// bytes were taken by then.
+#[derive(Clone, Copy)]
+struct Lines<'a> {
+    times: u32,
+    waits: u32,
+    each: u32,
+    line: &'a [u8],
+    wanted: Written,
+    taken: usize,
+}
+
+const ONE: Lines = Lines {
+    times: 1,
+    waits: 0,
+    each: 0,
+    line: b"one",
+    wanted: Written::Whole,
+    taken: 4,
+};
+
+const NINE: Lines = Lines {
+    line: b"nine more",
+    ..ONE
+};
+
+/// Ten, one and a hundred lines, with as many interruptions as a sink bears, and five without one.
+const TEN: &[Lines] = &[
+    Lines {
+        times: 10,
+        waits: 10,
+        each: 10,
+        taken: 100,
+        ..NINE
+    },
+    Lines {
+        times: 5,
+        taken: 150,
+        ..NINE
+    },
+    Lines {
+        waits: 1,
+        wanted: Written::Fault(0),
+        taken: 150,
+        ..NINE
+    },
+];
+
+const LONE: &[Lines] = &[
+    Lines {
+        waits: 100,
+        each: 100,
+        taken: 10,
+        ..NINE
+    },
+    Lines {
+        times: 5,
+        taken: 60,
+        ..NINE
+    },
+    Lines {
+        waits: 1,
+        wanted: Written::Fault(0),
+        taken: 60,
+        ..NINE
+    },
+];
+
+const HUNDRED: &[Lines] = &[
+    Lines {
+        times: 100,
+        waits: 1,
+        each: 1,
+        taken: 1_000,
+        ..NINE
+    },
+    Lines {
+        times: 5,
+        taken: 1_050,
+        ..NINE
+    },
+    Lines {
+        waits: 1,
+        wanted: Written::Fault(0),
+        taken: 1_050,
+        ..NINE
+    },
+];
+
+/// What was written before a fault stands, and the next line is written behind it.
+const FAILING: &[Lines] = &[
+    ONE,
+    Lines {
+        line: b"two",
+        wanted: Written::Fault(2),
+        taken: 6,
+        ..ONE
+    },
+    Lines {
+        line: b"six",
+        taken: 10,
+        ..ONE
+    },
+];
+
+/// Interruptions are counted before each line.
+const WAITING: &[Lines] = &[
+    Lines { waits: 600, ..ONE },
+    Lines {
+        waits: 400,
+        line: b"two",
+        taken: 8,
+        ..ONE
+    },
+    Lines {
+        waits: 1,
+        line: b"six",
+        wanted: Written::Fault(0),
+        taken: 8,
+        ..ONE
+    },
+];
+
+/// How many bytes a writer takes at once, its place of a failure, lines, and with what begins what it took.
+static RUNS: [(usize, usize, &[Lines], &[u8]); 5] = [
+    (64, 6, FAILING, b"one\ntwsix\n"),
+    (64, 2_000, WAITING, b"one\ntwo\n"),
+    (1, 2_000, TEN, b"nine more\nnine more\n"),
+    (1, 2_000, LONE, b"nine more\nnine more\n"),
+    (1, 2_000, HUNDRED, b"nine more\nnine more\n"),
+];
+
+/// The writing of these lines says what is wanted.
+fn goes_on(rt: &impl Abort, output: &mut Writing, sink: &mut LineSink, lines: &Lines) {
+    output.waits = lines.waits;
+    output.each = lines.each;
+    for _ in 0..lines.times {
+        assert!(rt; sink.write(output, lines.line) == lines.wanted);
+    }
+    assert!(rt; output.taken.len() == lines.taken);
+}
+
+/// A sink writes one after the other. It counts interruptions over its life.
+fn all_go_on(rt: &impl Abort, mut output: Writing, lines: &[Lines], bytes: &[u8]) {
+    let mut sink = LineSink::new();
+    for some in lines {
+        goes_on(rt, &mut output, &mut sink, some);
+    }
+    assert!(rt; output.taken.as_slice().starts_with(bytes));
+    assert!(rt; output.taken.as_slice().last() == Some(&b'\n'));
+}
+
 #[test]
-fn what_was_written_before_a_fault_stands(rt: HostRuntime) {
-    for failure in FAILURES {
-        let mut output = Writing {
-            place: 6,
-            failure: *failure,
-            ..writer_of(rt.alloc())
-        };
-        let mut sink = LineSink::new();
-        assert!(rt; sink.write(&mut output, b"one") == Written::Whole);
-        assert!(rt; sink.write(&mut output, b"two") == Written::Fault(2));
-        assert!(rt; output.taken.as_slice() == b"one\ntw".as_slice());
-        assert!(rt; sink.write(&mut output, b"six") == Written::Whole);
-        assert!(rt; output.taken.as_slice() == b"one\ntwsix\n".as_slice());
+fn a_sink_goes_on_after_faults_and_interruptions(rt: HostRuntime) {
+    for failure in FAILURES.iter() {
+        for (most, place, lines, bytes) in RUNS.iter() {
+            let output = Writing {
+                place: *place,
+                failure: *failure,
+                most: *most,
+                ..writer_of(rt.alloc())
+            };
+            all_go_on(&rt, output, lines, bytes);
+        }
     }
 }
 
@@ -72,69 +238,15 @@ fn what_was_written_before_a_fault_stands(rt: HostRuntime) {
 fn a_sink_takes_lines_of_any_length(rt: HostRuntime) {
     let line = [b'a'; 600];
     for length in [254usize, 255, 256, 257, 600] {
-        let mut output = Writing {
+        let output = Writing {
             most: 100,
             ..writer_of(rt.alloc())
         };
-        let mut sink = LineSink::new();
-        assert!(rt; sink.write(&mut output, &line[..length]) == Written::Whole);
-        assert!(rt; output.taken.len() == length + 1);
-        assert!(rt; output.taken.as_slice().last() == Some(&b'\n'));
-    }
-}
-
-/// Writes as many lines of 10 bytes, with interruptions before each byte.
-fn write_interrupted(rt: &impl Abort, alloc: Global, sink: &mut LineSink, lines: usize, each: u32) {
-    let mut output = Writing {
-        most: 1,
-        waits: each,
-        each,
-        ..writer_of(alloc)
-    };
-    for _ in 0..lines {
-        assert!(rt; sink.write(&mut output, b"nine more") == Written::Whole);
-    }
-    assert!(rt; output.taken.len() / 10 == lines);
-}
-
-#[test]
-fn interrupted_writes_are_counted_over_the_life_of_a_sink(rt: HostRuntime) {
-    for (lines, each) in [(10, 10), (1, 100), (100, 1)] {
-        let mut sink = LineSink::new();
-        write_interrupted(&rt, rt.alloc(), &mut sink, lines, each);
-        write_interrupted(&rt, rt.alloc(), &mut sink, 5, 0);
-        let mut output = Writing {
-            waits: 1,
-            ..writer_of(rt.alloc())
+        let lines = Lines {
+            line: &line[..length],
+            taken: length + 1,
+            ..ONE
         };
-        assert!(rt; sink.write(&mut output, b"nine more") == Written::Fault(0));
-        assert!(rt; output.taken.is_empty());
+        all_go_on(&rt, output, &[lines], &line[..length]);
     }
-}
-
-#[test]
-fn a_sink_counts_interruptions_before_each_line(rt: HostRuntime) {
-    let mut output = Writing {
-        waits: 600,
-        ..writer_of(rt.alloc())
-    };
-    let mut sink = LineSink::new();
-    assert!(rt; sink.write(&mut output, b"one") == Written::Whole);
-    output.waits = 400;
-    assert!(rt; sink.write(&mut output, b"two") == Written::Whole);
-    output.waits = 1;
-    assert!(rt; sink.write(&mut output, b"six") == Written::Fault(0));
-    assert!(rt; output.taken.as_slice() == b"one\ntwo\n".as_slice());
-}
-
-#[test]
-fn one_interruption_too_many_stops_within_a_line(rt: HostRuntime) {
-    let mut output = Writing {
-        most: 1,
-        waits: 300,
-        each: 300,
-        ..writer_of(rt.alloc())
-    };
-    assert!(rt; write_line(&mut output, b"nine more") == Written::Fault(3));
-    assert!(rt; output.taken.len() == 3);
 }

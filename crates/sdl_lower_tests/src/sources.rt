@@ -8,129 +8,214 @@ use std::process::Abort;
 use std::test::Fail;
 
 /// Errors of a reader that are no interruptions.
-const FAILURES: &[ErrorKind] = &[
+static FAILURES: [ErrorKind; 4] = [
     ErrorKind::Other,
     ErrorKind::WouldBlock,
     ErrorKind::TimedOut,
     ErrorKind::UnexpectedEof,
 ];
 
-fn is_line(read: LineRead, want: &[u8]) -> bool {
-    match read {
-        LineRead::Line(line) => line.as_slice() == want,
+/// What a source is to answer.
+#[derive(Clone, Copy)]
+enum Want {
+    Line(&'static [u8]),
+    /// A line of so many letters a.
+    Letters(usize),
+    Over,
+    Done,
+    Fault,
+}
+
+fn is_wanted(read: LineRead, want: Want) -> bool {
+    match (read, want) {
+        (LineRead::Line(line), Want::Line(bytes)) => line.as_slice() == bytes,
+        (LineRead::Line(line), Want::Letters(count)) => {
+            line.len() == count && line.iter().all(|byte| *byte == b'a')
+        }
+        (LineRead::Over, Want::Over) => true,
+        (LineRead::Done, Want::Done) => true,
+        (LineRead::Fault, Want::Fault) => true,
         _ => false,
     }
 }
 
-/// How many lines a source gives, and what it answers then.
-fn lines_of(text: &[u8], waits: u32, failure: Option<ErrorKind>) -> (usize, LineRead) {
+/// How often a source is asked, what it answers each time, and how often the reader was asked by then, where that is looked at.
+type Asked = (u32, Want, Option<u32>);
+
+/// A reader that gives the text, a few bytes at once, and then fails or ends; and what a source over it answers. What the reader would
+/// give behind that is never read.
+#[derive(Clone, Copy)]
+struct Case<'a> {
+    text: &'a [u8],
+    fails: bool,
+    behind: &'a [u8],
+    most: usize,
+    waits: u32,
+    answers: &'static [Asked],
+}
+
+const EMPTY: Case = Case {
+    text: b"",
+    fails: false,
+    behind: b"",
+    most: 7,
+    waits: 0,
+    answers: &[(1, Want::Done, None)],
+};
+
+const THREE: &[Asked] = &[
+    (1, Want::Line(b"one"), None),
+    (1, Want::Line(b""), None),
+    (1, Want::Line(b"two"), None),
+    (1, Want::Done, None),
+];
+
+static CASES: [Case; 10] = [
+    EMPTY,
+    Case {
+        text: b"one\n\ntwo",
+        answers: THREE,
+        ..EMPTY
+    },
+    Case {
+        text: b"one\n\ntwo\n",
+        answers: THREE,
+        ..EMPTY
+    },
+    Case {
+        text: b"one\ntwo",
+        fails: true,
+        answers: &[(1, Want::Line(b"one"), None), (1, Want::Fault, None)],
+        ..EMPTY
+    },
+    // A thousand interrupted reads are tried again.
+    Case {
+        text: b"one\n",
+        waits: 1_000,
+        answers: &[(1, Want::Line(b"one"), None), (1, Want::Done, None)],
+        ..EMPTY
+    },
+    Case {
+        text: b"one\n",
+        waits: 1_001,
+        answers: &[(1, Want::Fault, None)],
+        ..EMPTY
+    },
+    // A source answers its end for ever.
+    Case {
+        text: b"last",
+        behind: b"more\n",
+        most: 100,
+        answers: &[(1, Want::Line(b"last"), None), (2, Want::Done, Some(2))],
+        ..EMPTY
+    },
+    // It stays at a fault where the reader goes on.
+    Case {
+        text: b"one\ntwo\nthr",
+        fails: true,
+        behind: b"ee\nfour\n",
+        most: 100,
+        answers: &[
+            (1, Want::Line(b"one"), None),
+            (1, Want::Line(b"two"), None),
+            (4, Want::Fault, Some(2)),
+        ],
+        ..EMPTY
+    },
+    // It fails where nothing was read.
+    Case {
+        fails: true,
+        behind: b"\nline\n",
+        answers: &[(2, Want::Fault, Some(1))],
+        ..EMPTY
+    },
+    // A reader is asked no more where a line is whole.
+    Case {
+        text: b"one\ntwo\n",
+        fails: true,
+        most: 100,
+        answers: &[
+            (1, Want::Line(b"one"), None),
+            (1, Want::Line(b"two"), Some(1)),
+            (1, Want::Fault, None),
+        ],
+        ..EMPTY
+    },
+];
+
+/// The source answers this.
+fn answers(rt: &impl Abort, source: &mut LineSource, input: &mut Reading, asked: &Asked) {
+    for _ in 0..asked.0 {
+        assert!(rt; is_wanted(source.next(input), asked.1));
+    }
+    if let Some(count) = asked.2 {
+        assert!(rt; input.asked == count);
+    }
+}
+
+/// A source over the reader of the case, which fails so, answers what is wanted.
+fn is_met(rt: &impl Abort, case: &Case, kind: ErrorKind) {
     let mut input = Reading {
-        waits,
-        failure,
-        most: 7,
-        ..reader_of(text)
+        before: case.text,
+        failure: if case.fails { Some(kind) } else { None },
+        ends: !case.fails,
+        after: case.behind,
+        most: case.most,
+        waits: case.waits,
+        each: 0,
+        asked: 0,
     };
     let mut source = LineSource::new();
-    for count in 0..10 {
-        match source.next(&mut input) {
-            LineRead::Line(_) => {}
-            end => return (count, end),
-        }
+    for asked in case.answers {
+        answers(rt, &mut source, &mut input, asked);
     }
-    (10, LineRead::Done)
+    assert!(rt; input.after.len() == case.behind.len());
 }
 
 #[test]
 fn a_source_gives_each_line_and_then_its_end(rt: HostRuntime) {
-    let fails = Some(ErrorKind::Other);
-    for (text, waits, failure, lines, end) in [
-        (b"".as_slice(), 0, None, 0, LineRead::Done),
-        (b"one\n\ntwo", 0, None, 3, LineRead::Done),
-        (b"one\n\ntwo\n", 0, None, 3, LineRead::Done),
-        (b"one\ntwo", 0, fails, 1, LineRead::Fault),
-        (&[b'a'; 320], 0, None, 1, LineRead::Done),
-        (&[b'a'; 321], 0, None, 0, LineRead::Over),
-        (&[b'a'; 321], 0, fails, 0, LineRead::Over),
-        // a thousand interrupted reads are tried again
-        (b"one\n", 1_000, None, 1, LineRead::Done),
-        (b"one\n", 1_001, None, 0, LineRead::Fault),
-    ] {
-        let (count, answer) = lines_of(text, waits, failure);
-        assert!(rt; count == lines);
-        assert!(rt; answer == end);
-    }
-}
-
-#[test]
-fn a_source_answers_its_end_for_ever(rt: HostRuntime) {
-    let mut source = LineSource::new();
-    let mut input = reader_of(b"last");
-    assert!(rt; is_line(source.next(&mut input), b"last"));
-    let mut more = reader_of(b"more\n");
-    assert!(rt; source.next(&mut more) == LineRead::Done);
-    assert!(rt; source.next(&mut more) == LineRead::Done);
-    assert!(rt; more.before.len() == 5);
-}
-
-#[test]
-fn a_source_stays_at_a_fault_where_the_reader_goes_on(rt: HostRuntime) {
-    for kind in FAILURES {
-        let mut input = Reading {
-            failure: Some(*kind),
-            after: b"ee\nfour\n",
-            ..reader_of(b"one\ntwo\nthr")
-        };
-        let mut source = LineSource::new();
-        assert!(rt; is_line(source.next(&mut input), b"one"));
-        assert!(rt; is_line(source.next(&mut input), b"two"));
-        for _ in 0..4 {
-            assert!(rt; source.next(&mut input) == LineRead::Fault);
+    for kind in FAILURES.iter() {
+        for case in CASES.iter() {
+            is_met(&rt, case, *kind);
         }
-        assert!(rt; input.asked == 2);
-        assert!(rt; input.after.len() == 8);
     }
 }
 
-/// A reader that must be asked once answers so twice: it fails or ends, and gives more where it is asked again.
-fn asked_once(rt: &impl Abort, bytes: &[u8], failure: Option<ErrorKind>, end: LineRead) {
-    let mut input = Reading {
-        failure,
-        after: b"\nline\n",
-        ..reader_of(bytes)
+static WHOLE: [Asked; 2] = [(1, Want::Letters(320), None), (1, Want::Done, None)];
+
+static TOO_LONG: [Asked; 1] = [(2, Want::Over, None)];
+
+/// The reader is asked no more.
+static ASKED_ONCE: [Asked; 1] = [(2, Want::Over, Some(1))];
+
+/// A source that reads so many letters a, so many at once, before the reader fails or ends, answers this.
+fn letters_are_met(rt: &impl Abort, letters: &[u8], most: usize, answers: &'static [Asked]) {
+    for fails in [false, true] {
+        let case = Case {
+            text: letters,
+            fails,
+            behind: b"\nline\n",
+            most,
+            waits: 0,
+            answers,
+        };
+        is_met(rt, &case, ErrorKind::Other);
+    }
+}
+
+#[test]
+fn a_source_gives_lines_of_320_bytes_and_no_longer_ones(rt: HostRuntime) {
+    let long = [b'a'; 4_095];
+    letters_are_met(&rt, &long[..321], 7, &TOO_LONG);
+    for length in [321usize, 322, 4_095] {
+        letters_are_met(&rt, &long[..length], 5_000, &ASKED_ONCE);
+    }
+    let whole = Case {
+        text: &long[..320],
+        answers: &WHOLE,
+        ..EMPTY
     };
-    let mut source = LineSource::new();
-    assert!(rt; source.next(&mut input) == end);
-    assert!(rt; source.next(&mut input) == end);
-    assert!(rt; input.asked == 1);
-}
-
-#[test]
-fn a_source_fails_where_nothing_was_read(rt: HostRuntime) {
-    for kind in FAILURES {
-        asked_once(&rt, b"", Some(*kind), LineRead::Fault);
-    }
-}
-
-#[test]
-fn a_reader_is_asked_no_more_where_a_line_is_too_long(rt: HostRuntime) {
-    for failure in [None, Some(ErrorKind::Other)] {
-        asked_once(&rt, &[b'a'; 321], failure, LineRead::Over);
-        asked_once(&rt, &[b'a'; 322], failure, LineRead::Over);
-        asked_once(&rt, &[b'a'; 4_095], failure, LineRead::Over);
-    }
-}
-
-#[test]
-fn a_reader_is_asked_no_more_where_a_line_is_whole(rt: HostRuntime) {
-    let mut input = Reading {
-        failure: Some(ErrorKind::Other),
-        ..reader_of(b"one\ntwo\n")
-    };
-    let mut source = LineSource::new();
-    assert!(rt; is_line(source.next(&mut input), b"one"));
-    assert!(rt; is_line(source.next(&mut input), b"two"));
-    assert!(rt; input.asked == 1);
-    assert!(rt; source.next(&mut input) == LineRead::Fault);
+    is_met(&rt, &whole, ErrorKind::Other);
 }
 
 /// Whether the line carries the integer.
@@ -158,7 +243,7 @@ fn environment_stays(rt: &impl Abort, names: &Names, kind: ErrorKind) {
 #[test]
 fn a_line_that_is_cut_off_by_a_fault_is_not_carried_out(rt: HostRuntime) -> Result<(), Fail> {
     let names = some_names(rt.alloc())?;
-    for kind in FAILURES {
+    for kind in FAILURES.iter() {
         environment_stays(&rt, &names, *kind);
     }
     Ok(())
@@ -180,7 +265,7 @@ fn read_interrupted(
         ..reader_of(text.as_slice())
     };
     for _ in 0..lines {
-        assert!(rt; is_line(source.next(&mut input), b"ok"));
+        assert!(rt; is_wanted(source.next(&mut input), Want::Line(b"ok")));
     }
     Ok(())
 }

@@ -1,7 +1,7 @@
 //! The words that no name can be.
 use sdl_tokens::is_reserved;
 
-const WORDS: [&str; 26] = [
+static WORDS: [&str; 26] = [
     "output",
     "create",
     "next",
@@ -30,14 +30,17 @@ const WORDS: [&str; 26] = [
     "serial",
 ];
 
+/// Names that are near to them.
+static NAMES: [&str; 10] = [
+    "", "Output", "SELF", "outputs", "i", "ifs", "mod ", "modulo", "state", "timer",
+];
+
 #[test]
 fn words_are_reserved_in_small_letters_alone(rt: HostRuntime) {
-    for word in WORDS {
+    for word in WORDS.iter() {
         assert!(rt; is_reserved(word.as_bytes()), "{word}");
     }
-    for name in [
-        "", "Output", "SELF", "outputs", "i", "ifs", "mod ", "modulo", "state", "timer",
-    ] {
+    for name in NAMES.iter() {
         assert!(rt; !is_reserved(name.as_bytes()), "{name}");
     }
 }
