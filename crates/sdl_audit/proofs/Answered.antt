@@ -8,7 +8,7 @@ use Rattle.sdl_routes.specs.declared.route.Station.{Station}
 use Rattle.sdl_queue.specs.declared.rest.Rest.{Rest}
 use Rattle.sdl_queue.specs.Rest.{left_in}
 use Rattle.sdl_forward.specs.Boards.{stations_of, lists_of}
-use Rattle.sdl_forward.proofs.Places.{once_in_order}
+use Rattle.sdl_opening.proofs.Opened.{order_once}
 use Rattle.sdl_outcome.specs.Books.{outs, came, left}
 use Rattle.sdl_outcome.specs.Plan.{Plan, ways_of}
 use Rattle.sdl_outcome.specs.Outcome.{Outcome, IsComplete, books_of}
@@ -36,7 +36,7 @@ module _ (plan : Plan) (o : Outcome) (l : Ledger) (sent found : ℕ → List Ite
 -- each station once
 pub rests_once : (plan : Plan) (o : Outcome) (rests : List (Station × Rest)) → o.rests ≡ lists_of rests → IsComplete plan o → EachOnce (stations_of rests)
 rests_once plan o rests e c =
-    subst EachOnce (ap stations_of e ∙ both (λ (x : Station × List Item). x.0) (λ (r : Station × Rest). (r.0, left_in r.1)) rests) (once_in_order (stations_of o.rests) c.rests.order)
+    subst EachOnce (ap stations_of e ∙ both (λ (x : Station × List Item). x.0) (λ (r : Station × Rest). (r.0, left_in r.1)) rests) (order_once (stations_of o.rests) c.rests.order)
 
 -- the first route at fault, among the routes that are those of the closing
 pub found_there : (rows more : List TableRow) (first : Option RouteId) (sent found : ℕ → List Item) → more ≡ rows

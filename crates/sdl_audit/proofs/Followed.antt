@@ -13,7 +13,7 @@ use Rattle.sdl_log.specs.Log.{sent, arrived}
 use Rattle.sdl_opening.specs.declared.worker.Worker.{Worker}
 use Rattle.sdl_opening.specs.declared.worker.Worker.TheVariants.{Environment, Forwarder}
 use Rattle.sdl_forward.specs.Boards.{stations_of, waiting}
-use Rattle.sdl_forward.proofs.Places.{once_in_order}
+use Rattle.sdl_opening.proofs.Opened.{order_once}
 use Rattle.sdl_outcome.specs.EnvironmentWork.{env_sent}
 use Rattle.sdl_outcome.specs.Stations.{same_worker, taker}
 use Rattle.sdl_outcome.specs.Books.{of_route, outs, came, left, standing}
@@ -76,7 +76,7 @@ module _ (plan : Plan) (o : Outcome) (complete : IsComplete plan o) (shown : All
   -- what stands at one place of a route
   one_place : (r k : ℕ) → of_route r (standing_at plan.routes (workers_of plan) kept o.rests k r) ≡ at_place (λ s. of_route r (standing (books_of plan o) s)) (slice_get (stations_on plan.routes r) k)
   one_place r k =
-      ap (of_route r) (stands (workers_of plan) kept o.rests (workers_once plan) (once_in_order (stations_of o.rests) complete.rests.order) (slice_get (stations_on plan.routes r) k))
+      ap (of_route r) (stands (workers_of plan) kept o.rests (workers_once plan) (order_once (stations_of o.rests) complete.rests.order) (slice_get (stations_on plan.routes r) k))
       ∙ of_place r (λ s. of_worker (taker s) (workers_of plan) kept ++ waiting o.rests s) (slice_get (stations_on plan.routes r) k)
 
   -- at the places below n

@@ -43,31 +43,8 @@ pub fn audit<S, K: Recounts, R: Wait>(
     ensures same { IsSameClosing closing result.0 }
     ensures answer { Answers (plan_of_bound closing.bound 0) (outcome_in K.events closing) closing.ledger result.1 }
 {
-    let Closing {
-        bound,
-        logs,
-        env_put,
-        env_received,
-        hands,
-        rests,
-        ledger,
-        end,
-        input,
-        output,
-    } = closing;
-    let rests = made_serial(rt, rests);
-    let closing = Closing {
-        bound,
-        logs,
-        env_put,
-        env_received,
-        hands,
-        rests,
-        ledger,
-        end,
-        input,
-        output,
-    };
+    let rests = made_serial(rt, closing.rests);
+    let closing = Closing { rests, ..closing };
     let answer = recount(&closing);
     (closing, answer)
 }

@@ -1,5 +1,5 @@
 -- The signals in the ports of a block: each that entered was consumed, or was there when the instance stopped, or still waits.
-use Rattle.std.proofs.Common.{◌≡◌, ℕ, zero, suc, ◌+◌, ◌≤◌, List, [], ◌∷◌, ◌++◌, Option, None, Some, length, length-append, unwrap_or, sum_by, refl, ap, sym, ◌∙◌, arith}
+use Rattle.std.proofs.Common.{◌≡◌, ℕ, ◌+◌, ◌≤◌, List, [], ◌∷◌, ◌++◌, Option, None, Some, length, length-append, unwrap_or, sum_by, ap, sym, ◌∙◌, arith}
 use Rattle.std.proofs.lemmas.List.Sums.{sum_by-cons, sum_by-append, sum_by-set, sum_by-remove}
 use Rattle.std.proofs.lemmas.Option.{slice_get_within, get_or_from_slice_get}
 use Rattle.sdl_signal.specs.declared.ids.BlockId.{BlockId}
@@ -14,8 +14,7 @@ use Rattle.sdl_behaviour.specs.declared.step.Action.{Action}
 use Rattle.sdl_behaviour.specs.declared.step.Action.TheVariants as action
 use Rattle.sdl_behaviour.specs.declared.step.Next.{Next}
 use Rattle.sdl_behaviour.specs.declared.step.Next.TheVariants as next_is
-use Rattle.sdl_transition.specs.Rules.{Rule, Rules, rules_for}
-use Rattle.sdl_instances.specs.declared.process_set.ProcessSet.{ProcessSet}
+use Rattle.sdl_transition.specs.Rules.{Rule}
 use Rattle.sdl_log.specs.declared.event.Cause.TheVariants as cause
 use Rattle.sdl_log.specs.declared.event.Done.{Done}
 use Rattle.sdl_log.specs.declared.event.Done.TheVariants as done
@@ -24,13 +23,13 @@ use Rattle.sdl_log.specs.declared.event.Event.TheVariants as event
 use Rattle.sdl_log.specs.declared.event.Trigger.{Trigger}
 use Rattle.sdl_log.specs.declared.event.Trigger.TheVariants as trigger
 use Rattle.sdl_signal.specs.declared.ids.StateId.{StateId}
-use Rattle.sdl_saves.specs.declared.save.Save.{Save}
 use Rattle.sdl_saves.specs.Saves.{saved_by}
 use Rattle.sdl_processes.specs.Ports.{TakesOut}
 use Rattle.sdl_processes.proofs.Ports.{length_taken}
 use Rattle.sdl_processes.specs.Record.{Record}
 use Rattle.sdl_instances.specs.Machine.{State, System, FitsAt, Becomes, Leaves, Does, DoesAll, Finishes, Transits, Turns, IsCreated, created_record, consumed, next_any}
-use Rattle.sdl_instances.specs.Run.{IsRun, Leads, first_instances, initial_of, initial_in, initial_instances, initial, waiting}
+use Rattle.sdl_instances.specs.Run.{IsRun, Leads, initial, waiting}
+use Rattle.sdl_instances.proofs.Initial.{initial_waiting}
 use Rattle.sdl_ledger.specs.Counts.{entered_in, fired_in, implicit_in, stopped_in, fired_by, implicit_by}
 
 becomes_waits : (p : Pid) (r t : Record) (old new : State) → Becomes p r t old new → waiting new.living + length r.port ≡ waiting old.living + length t.port
@@ -139,31 +138,11 @@ module _ (may : ℕ → Frame → Step → Type 0) (sys : System) where
       let c4 = sum_by-cons stopped_in e log in
       omega (arith, a, b, c1, c2, c3, c4)
 
--- at first nothing waits
-none_of_both : (xs ys : List (Pid × Record)) → waiting xs ≡ 0 → waiting ys ≡ 0 → waiting (xs ++ ys) ≡ 0
-none_of_both xs ys a b = let c = sum_by-append (λ (e : Pid × Record). length e.1.port) xs ys in omega (arith, a, b, c)
-
-first_waits : (set : SetId) (vars : List Value) (saves : List Save) (n : ℕ) → waiting (first_instances set vars saves n) ≡ 0
-first_waits set vars saves zero = refl
-first_waits set vars saves (suc n) =
-    let one = sum_by-cons (λ (e : Pid × Record). length e.1.port) (pid.Inst set (suc n), created_record vars saves pid.Null) [] in
-    none_of_both (first_instances set vars saves n) ((pid.Inst set (suc n), created_record vars saves pid.Null) ∷ []) (first_waits set vars saves n) (omega (arith, one))
-
-of_rules_waits : (block : BlockId) (n : ℕ) (d : ProcessSet) (o : Option Rules)
-    → waiting (elim o as (λ _. List (Pid × Record)) [ None ↦ [] | Some r ↦ first_instances (record { 0 = n }) r.vars r.saves (initial_in block d) ]) ≡ 0
-of_rules_waits block n d None = refl
-of_rules_waits block n d (Some r) = first_waits (record { 0 = n }) r.vars r.saves (initial_in block d)
-
-initial_waits : (block : BlockId) (rules : List Rules) (n : ℕ) (ds : List ProcessSet) → waiting (initial_instances block rules n ds) ≡ 0
-initial_waits block rules n [] = refl
-initial_waits block rules n (d ∷ ds) =
-    none_of_both (initial_of block rules n d) (initial_instances block rules (n + 1) ds) (of_rules_waits block n d (rules_for rules (record { 0 = n }))) (initial_waits block rules (n + 1) ds)
-
 pub ports_balance : (may : ℕ → Frame → Step → Type 0) (sys : System) (block : BlockId) (log : List Event) (final : State) → IsRun may sys block log final
     → sum_by entered_in log ≡ sum_by fired_in log + sum_by implicit_in log + sum_by stopped_in log + waiting final.living
 ports_balance may sys block log final run =
     let a = leads_waits may sys (initial sys.rules sys.sets block) log final run.leads in
-    let b = initial_waits block sys.rules 0 sys.sets in
+    let b = initial_waiting block sys.rules 0 sys.sets in
     omega (arith, a, b)
 
 pub entered_few : (log : List Event) → sum_by entered_in log ≤ length log

@@ -1,30 +1,23 @@
 -- What all workers have, and what rests at all stations, added up; and what stands on the routes.
-use Rattle.std.proofs.Common.{ℕ, ◌+◌, ◌≤◌, false, List, [], ◌∷◌, ◌++◌, length, map, ◌≡◌, ◌≢◌, inl, inr, refl, ap, sym, ◌∙◌, subst, arith, sum_by}
+use Rattle.std.proofs.Common.{ℕ, ◌+◌, ◌≤◌, List, [], ◌∷◌, ◌++◌, length, map, ◌≡◌, ◌≢◌, inl, inr, refl, ap, sym, ◌∙◌, subst, arith, sum_by}
 use Rattle.std.specs.List.{AllByRecursion}
-use Rattle.std.proofs.lemmas.Bool.{cond_both, cond-true, cond-false, cases_Bool}
+use Rattle.std.proofs.lemmas.Bool.{cond_both, cond-true, cond-false}
 use Rattle.std.proofs.lemmas.List.Sums.{sum_by-cons}
 use Rattle.sdl_signal.specs.declared.values.Item.{Item}
 use Rattle.sdl_routes.specs.declared.route.Hop.{Hop}
 use Rattle.sdl_routes.specs.declared.route.Station.{Station}
-use Rattle.sdl_routes.specs.declared.route.Station.TheVariants.{Line, Inlet, Outlet}
 use Rattle.sdl_routes.specs.Routes.{EachOnce}
-use Rattle.sdl_forward.specs.Boards.{same_station, stations_of, waiting, IsStationBefore, AreStationsInOrder}
+use Rattle.sdl_forward.specs.Boards.{same_station, stations_of, waiting}
 use Rattle.sdl_opening.specs.declared.worker.Worker.{Worker}
 use Rattle.sdl_opening.specs.declared.worker.Worker.TheVariants.{Block, Environment, Forwarder}
 use Rattle.sdl_outcome.specs.Stations.{Among, Once, place, taker, same_worker}
 use Rattle.sdl_outcome.specs.Plan.{blocks_from}
 use Rattle.sdl_outcome.specs.Outcome.{of_worker}
 use Rattle.sdl_outcome.proofs.Lists.{all_weaker, all_map}
-use Rattle.sdl_outcome.proofs.Comparisons.{same_station_is, same_station_itself, same_worker_is, same_worker_itself}
+use Rattle.sdl_outcome.proofs.Comparisons.{same_station_is, same_station_itself, other_station, same_worker_is, same_worker_itself, other_worker}
 use Rattle.sdl_outcome.proofs.Workers.{place_apart, taker_place}
 use Rattle.sdl_outcome.proofs.Sums.{sum_same, sum_none}
 use Rattle.sdl_balance.proofs.Spread.{all_apart}
-
-other_worker : (v w : Worker) → v ≢ w → same_worker v w ≡ false
-other_worker v w n = elim (cases_Bool (same_worker v w)) as (λ _. same_worker v w ≡ false) [ inl t ↦ absurd (n (same_worker_is v w t)) | inr e ↦ e ]
-
-other_station : (s t : Station) → s ≢ t → same_station s t ≡ false
-other_station s t n = elim (cases_Bool (same_station s t)) as (λ _. same_station s t ≡ false) [ inl e ↦ absurd (n (same_station_is s t e)) | inr e ↦ e ]
 
 apart_from : {X : Type 0} (x : X) (ys : List X) → AllByRecursion (λ y. x ≢ y) ys → (y : X) → Among y ys → x ≢ y
 apart_from x [] h y m = absurd m
@@ -71,18 +64,6 @@ over_stations (r ∷ rests) once =
     let d = over_stations rests once.1 in
     let e = sum_by-cons (λ (x : Station × List Item). length x.1) r rests in
     omega (arith, a, b, c, d, e)
-
-not_before : (s : Station) → IsStationBefore s s → ⊥
-not_before (Line h) b = omega (arith, b)
-not_before (Inlet b) c = omega (arith, c)
-not_before Outlet b = b
-
-pub order_once : (ss : List Station) → AreStationsInOrder ss → EachOnce ss
-order_once [] h = tt
-order_once (s ∷ ss) h = (
-  all_weaker (IsStationBefore s) (λ t. s ≢ t) (λ t b e. not_before s (subst (IsStationBefore s) (sym e) b)) ss h.0,
-  order_once ss h.1,
-)
 
 pub once_each : (ss : List Station) → Once ss → EachOnce ss
 once_each [] h = tt

@@ -1,24 +1,21 @@
 -- Along all routes: what was sent is what arrived, what is kept, what rests, and what is yet to be put.
-use Rattle.std.proofs.Common.{ℕ, ◌+◌, ◌<◌, ◌≤◌, eqb, All, List, [], ◌∷◌, ◌++◌, length, length-append, map, reverse, ◌≡◌, ◌≢◌, Option, Some, None, option_map, slice_get, inl, inr, refl, ap, sym, ◌∙◌, subst, arith, sum_by}
+use Rattle.std.proofs.Common.{ℕ, ◌+◌, ◌<◌, ◌≤◌, eqb, All, List, [], ◌∷◌, ◌++◌, length, length-append, map, reverse, ◌≡◌, ◌≢◌, Option, Some, None, slice_get, inl, inr, refl, ap, sym, ◌∙◌, subst, arith, sum_by}
 use Rattle.std.specs.Option.{option_to_list}
 use Rattle.std.specs.List.{flat_map, AllByRecursion}
-use Rattle.std.proofs.lemmas.Option.{none-some, same_Some, slice_get-map, slice_get_cases, slice_get_within}
+use Rattle.std.proofs.lemmas.Option.{slice_get-map, slice_get_cases, slice_get_within}
 use Rattle.std.proofs.lemmas.List.{length-map}
 use Rattle.std.proofs.lemmas.List.Concat.{flat_map-append, length-flat_map}
 use Rattle.std.proofs.lemmas.List.Elements.{filter-append, recursion_from_All}
 use Rattle.std.proofs.lemmas.List.Sums.{sum_by-cons}
 use Rattle.sdl_signal.specs.declared.ids.BlockId.{BlockId}
-use Rattle.sdl_signal.specs.declared.ids.SetId.{SetId}
 use Rattle.sdl_signal.specs.declared.values.Item.{Item}
-use Rattle.sdl_parts.specs.Structure.{Structure, set_at}
-use Rattle.sdl_parts.specs.declared.parts.Set.{Set}
+use Rattle.sdl_parts.specs.Structure.{set_at}
 use Rattle.sdl_routes.specs.declared.route.Hop.{Hop}
 use Rattle.sdl_routes.specs.declared.route.TableRow.{TableRow}
 use Rattle.sdl_routes.specs.declared.route.Station.{Station}
 use Rattle.sdl_routes.specs.Routes.{EachOnce}
 use Rattle.sdl_behaviour.specs.declared.step.Frame.{Frame}
 use Rattle.sdl_behaviour.specs.declared.step.Step.{Step}
-use Rattle.sdl_instances.specs.declared.process_set.ProcessSet.{ProcessSet}
 use Rattle.sdl_log.specs.declared.event.Event.{Event}
 use Rattle.sdl_instances.specs.Machine.{State}
 use Rattle.sdl_instances.specs.Run.{Leads as LeadsTo, IsRun, done_in, sent_by, sent, arrived, all_done, initial}
@@ -27,36 +24,27 @@ use Rattle.sdl_instances.proofs.Home.{IsHome, IsFromBlock, next_home, run_home}
 use Rattle.sdl_forward.specs.Boards.{same_station, stations_of}
 use Rattle.sdl_opening.specs.declared.worker.Worker.{Worker}
 use Rattle.sdl_opening.specs.declared.worker.Worker.TheVariants.{Block, Environment, Forwarder}
+use Rattle.sdl_opening.proofs.Opened.{order_once}
 use Rattle.sdl_outcome.specs.EnvironmentWork.{ComesIn, env_sent}
 use Rattle.sdl_outcome.specs.Stations.{Ways, IsAgent, Leads, Among, Once, place, taker, same_worker}
 use Rattle.sdl_outcome.specs.Books.{Books, of_route, standing, left}
-use Rattle.sdl_outcome.specs.Plan.{Plan, blocks_in, blocks_from, lines_of, workers_of, ways_of, system_at, starter, worker_of_set}
+use Rattle.sdl_outcome.specs.Plan.{Plan, blocks_in, blocks_from, lines_of, workers_of, ways_of, system_at, starter}
 use Rattle.sdl_outcome.specs.Outcome.{WorkerHand, Outcome, AreRunsFrom, of_worker, books_of}
 use Rattle.sdl_ledger.specs.Counts.{IsTraced}
 use Rattle.sdl_outcome.proofs.Lists.{all_front, all_end, all_append, all_weaker, all_every, all_both}
 use Rattle.sdl_outcome.proofs.Comparisons.{same_station_is, same_station_itself, same_worker_is, same_worker_itself}
-use Rattle.sdl_outcome.proofs.AlongStations.{place_taker}
+use Rattle.sdl_outcome.proofs.AlongStations.{among_some, place_taker}
 use Rattle.sdl_outcome.proofs.Along.{no_other}
-use Rattle.sdl_outcome.proofs.Ways.{ways_are, leads_within, row_of}
+use Rattle.sdl_outcome.proofs.Ways.{set_worker, ways_are, leads_within, row_of}
 use Rattle.sdl_outcome.proofs.Workers.{count_blocks}
 use Rattle.sdl_outcome.proofs.Workers.{workers_once}
 use Rattle.sdl_outcome.proofs.Sums.{sum_same, sum_both}
 use Rattle.sdl_ledger.proofs.Adding.{sum_map}
 use Rattle.sdl_balance.proofs.Spread.{below, below_less, number, number_all, number_none, sum_over, sum_swap, sum_reverse}
-use Rattle.sdl_balance.proofs.Shares.{AreAt, at_none, at_next, all_workers, no_worker, over_workers, no_station, over_stations, order_once, once_each, places_once, among_places}
-
--- the worker of a set of a block
-set_worker : (s : Structure) (set : SetId) (d : ProcessSet) (o : Option Set) → set_at s set ≡ o → option_map numbers_of o ≡ Some d → worker_of_set s set ≡ Block d.block
-set_worker s set d None at e = absurd (none-some d e)
-set_worker s set d (Some x) at e =
-    ap (λ (o : Option Set). elim o as (λ _. Worker) [ None ↦ Environment | Some y ↦ Block y.block ]) at ∙ ap (λ (y : ProcessSet). Block y.block) (same_Some (numbers_of x) d e)
+use Rattle.sdl_balance.proofs.Shares.{AreAt, at_none, at_next, all_workers, no_worker, over_workers, no_station, over_stations, once_each, places_once, among_places}
 
 number_append : (r : ℕ) (xs ys : List Item) → number r (xs ++ ys) ≡ number r xs + number r ys
 number_append r xs ys = ap length (filter-append (λ (i : Item). eqb i.route.0 r) xs ys) ∙ length-append (of_route r xs) (of_route r ys)
-
-some_among : (s : Station) (ss : List Station) → Among s ss → ss ≢ []
-some_among s [] m e = m
-some_among s (x ∷ xs) m e = cc
 
 at_every : (P : Worker → Item → Type 0) → ((b : BlockId) (i : Item) → P (Block b) i) → (n : ℕ) (xss : List (List Item)) → AreAt P n xss
 at_every P f n [] = at_none P n
@@ -218,7 +206,7 @@ module _ (may : ℕ → Frame → Step → Type 0) (plan : Plan) (o : Outcome) (
   rest_at s = all_end (Passes s) (b.kept (taker s)) (b.rest s) (h.order.in_place s)
 
   passes_less : (s : Station) (i : Item) → Passes s i → i.route.0 < many
-  passes_less s i m = leads_less i.route.0 (some_among s (t.stations i.route.0) m)
+  passes_less s i m = leads_less i.route.0 (among_some s (t.stations i.route.0) m)
 
   not_through : (r : ℕ) (s : Station) (xs : List Item) → AllByRecursion (Passes s) xs → (Among s (t.stations r) → ⊥) → number r xs ≡ 0
   not_through r s xs pass away =

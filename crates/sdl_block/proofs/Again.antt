@@ -1,6 +1,6 @@
 -- After a step the next one can be made.
-use Rattle.std.proofs.Common.{◌≡◌, ℕ, List, [], ◌∷◌, ◌++◌, All, sym, ◌∙◌, subst}
-use Rattle.std.proofs.lemmas.List.Elements.{All-append, All-tail}
+use Rattle.std.proofs.Common.{◌≡◌, ℕ, List, All, sym, ◌∙◌, subst}
+use Rattle.std.proofs.lemmas.List.Elements.{All-append}
 use Rattle.sdl_signal.specs.declared.values.Item.{Item}
 use Rattle.sdl_routes.specs.declared.route.TableRow.{TableRow}
 use Rattle.sdl_routes.specs.declared.route.Station.{Station}
@@ -14,12 +14,9 @@ use Rattle.sdl_forward.specs.Boards.{IsBoardOf, AreAllStations}
 use Rattle.sdl_hand.specs.declared.hand.Stepped.{Stepped}
 use Rattle.sdl_hand.specs.declared.hand.Stepped.TheVariants.{Did, Idle, Memory}
 use Rattle.sdl_hand.specs.Work.{Working, Works, StepsAs}
+use Rattle.sdl_hand.proofs.Through.{all_behind}
 use Rattle.sdl_block.proofs.OnBoard.{works_none}
 use Rattle.sdl_block.proofs.Systems.{same_system}
-
-pub all_behind : {X : Type 0} (P : X → Type 0) (xs ys : List X) → All P (xs ++ ys) → All P ys
-all_behind P [] ys h = h
-all_behind P (x ∷ xs) ys h = all_behind P xs ys (All-tail P x (xs ++ ys) h)
 
 module _ (may : ℕ → Frame → Step → Type 0) (sys : System) (old : Working) (before : List (Station × List Item)) (new : Working) (after : List (Station × List Item)) where
   works_so : (answer : Stepped) → StepsAs may sys old before answer new after → IsSound may sys old.core → Works may sys old before new after

@@ -21,6 +21,7 @@ use Rattle.sdl_forward.specs.Queues.{Relations, Fills}
 use Rattle.sdl_hand.specs.declared.hand.Refused.{Refused}
 use Rattle.sdl_hand.specs.Work.{Working, beginning_at}
 use Rattle.sdl_hand.specs.PutsBy.{PutsOutBy}
+use Rattle.sdl_hand.proofs.Through.{nil_left}
 use Rattle.sdl_block.specs.Phases.{IsSpent, ArrivesOrStays, MakesTurn}
 use Rattle.sdl_block.specs.Around.{Queues, TakesBy, PutsBy, LetsBy, around}
 use Rattle.sdl_hand.specs.Puts.{AreRouted}
@@ -29,10 +30,6 @@ use Rattle.sdl_block.proofs.Parts.{Part, part_then, keeps-same}
 abbrev is_cons : {X : Type 0} → List X → Bool
 is_cons [] = false
 is_cons (x ∷ xs) = true
-
-nil_left : {X : Type 0} (xs ys : List X) → xs ++ ys ≡ [] → xs ≡ []
-nil_left [] ys e = refl
-nil_left (x ∷ xs) ys e = absurd (true≢false (ap is_cons e))
 
 nil_right : {X : Type 0} (xs ys : List X) → xs ++ ys ≡ [] → ys ≡ []
 nil_right [] ys e = e

@@ -3,7 +3,7 @@ use Rattle.std.proofs.Common.{◌≡◌, ℕ, Bool, true, false, Ok, Some, List,
 use Rattle.std.specs.Option.{option_to_list}
 use Rattle.std.specs.List.{flat_map}
 use Rattle.std.proofs.lemmas.List.Concat.{flat_map-append}
-use Rattle.std.proofs.lemmas.List.Elements.{All-nil, All-cons, All-head, All-tail, All-append}
+use Rattle.std.proofs.lemmas.List.Elements.{All-nil, All-append, All-weaker}
 use Rattle.sdl_signal.specs.declared.ids.BlockId.{BlockId}
 use Rattle.sdl_signal.specs.declared.values.Item.{Item}
 use Rattle.sdl_routes.specs.declared.route.TableRow.{TableRow}
@@ -17,21 +17,20 @@ use Rattle.sdl_instances.specs.Machine.{State, System}
 use Rattle.sdl_instances.specs.Run.{Leads, arrived, sent, sent_by, done_in, all_done, initial}
 use Rattle.sdl_instances.specs.Core.{Core, IsSound, IsBoundIn, IsLegalIn, system_of}
 use Rattle.sdl_instances.proofs.Home.{IsHome, IsFromBlock, next_home, run_home}
-use Rattle.sdl_ends.specs.Ends.{WorkerEnds, IsSameEnds, put_at, taken_by}
+use Rattle.sdl_ends.specs.Ends.{WorkerEnds, IsSameEnds, HasFeed, put_at, taken_by}
 use Rattle.sdl_forward.specs.Queues.{Relations}
 use Rattle.sdl_forward.specs.ByEnds.{by_ends, has_feed_still}
 use Rattle.sdl_hand.specs.declared.hand.Stepped.{Stepped}
 use Rattle.sdl_hand.specs.declared.hand.Stepped.TheVariants.{Did, Idle, Memory}
 use Rattle.sdl_hand.specs.Work.{Working, beginning_at, first_station, with_core}
 use Rattle.sdl_hand.specs.Apart.{WorksApart, IsIdleApart, StepsApart, HasOwnWays, IsPuttingOut, AreFresh, HasPutOut}
-use Rattle.sdl_hand.specs.PutsApart.{HasWayOut, HaveWaysOut}
 use Rattle.sdl_hand.specs.PutsBy.{CanPutOut}
 use Rattle.sdl_hand.proofs.Fronts.{beginning-append}
+use Rattle.sdl_hand.proofs.Through.{sent-append, arrived-append, all_behind}
 use Rattle.sdl_block.specs.Phases.{TriesTurn}
 use Rattle.sdl_block.specs.Around.{HasWays, around}
-use Rattle.sdl_block.proofs.Again.{all_behind}
 use Rattle.sdl_block.proofs.Going.{Going}
-use Rattle.sdl_block.proofs.Parts.{sent-append, arrived-append, keeps-same}
+use Rattle.sdl_block.proofs.Parts.{keeps-same}
 use Rattle.sdl_block.proofs.Systems.{same_system}
 
 -- what a sound core has sent starts at a set of its block
@@ -52,15 +51,11 @@ sent_from may sys c sound =
     let home = run_home may sys c.block sound.bound [] first (record { leads = refl; numbered = tt; stamped = tt }) in
     leads_from may sys c.block sound.bound first c.log c.state home sound.run.leads
 
-all_weaker : {X : Type 0} (P Q : X → Type 0) → ((x : X) → P x → Q x) → (xs : List X) → All P xs → All Q xs
-all_weaker P Q f [] h = All-nil Q
-all_weaker P Q f (x ∷ xs) h = All-cons Q x xs (f x (All-head P x xs h)) (all_weaker P Q f xs (All-tail P x xs h))
-
 -- so it can be put where it goes
 module _ {B : Type 0} (q : Relations B) (may : ℕ → Frame → Step → Type 0) (sys : System) where
   sent_ways : (c : Core) (queues : B) → IsSound may sys c → HasWays q sys c.block queues → CanPutOut q sys.routes queues (sent c.log)
   sent_ways c queues sound ways =
-      all_weaker (IsFromBlock sys.sets sys.routes c.block) (λ i. (s : Station) → first_station sys.routes i ≡ Some s → q.CanPut queues s)
+      All-weaker (IsFromBlock sys.sets sys.routes c.block) (λ i. (s : Station) → first_station sys.routes i ≡ Some s → q.CanPut queues s)
       (λ i (set, serial, d, row, sender, found, here, at, from). λ s first.
       ways i.route.0 row s at (set, d, from, found, here) (sym (ap (λ (o : Option TableRow). option_and_then (λ r. slice_get r.route.stations.items 0) o) at) ∙ first))
       (sent c.log) (sent_from may sys c sound)
@@ -85,8 +80,8 @@ module _ (may : ℕ → Frame → Step → Type 0) (sys : System) where
   pub hand_legal : (w : Working) (ends : WorkerEnds) → IsPuttingOut may sys w ends → All (IsLegalIn sys) w.outgoing
   hand_legal w ends k = all_behind (IsLegalIn sys) k.put w.outgoing (subst (All (IsLegalIn sys)) (sym k.whole) k.legal)
 
-  pub hand_ways : (w : Working) (ends : WorkerEnds) → IsPuttingOut may sys w ends → HaveWaysOut sys.routes ends w.outgoing
-  hand_ways w ends k = all_behind (HasWayOut sys.routes ends) k.put w.outgoing (subst (HaveWaysOut sys.routes ends) (sym k.whole) (sent_ways by_ends may sys w.core ends k.sound k.ways))
+  pub hand_ways : (w : Working) (ends : WorkerEnds) → IsPuttingOut may sys w ends → CanPutOut by_ends sys.routes ends w.outgoing
+  hand_ways w ends k = all_behind (λ i. (s : Station) → first_station sys.routes i ≡ Some s → HasFeed ends s) k.put w.outgoing (subst (CanPutOut by_ends sys.routes ends) (sym k.whole) (sent_ways by_ends may sys w.core ends k.sound k.ways))
 
   -- a step keeps it
   pub keeps_on : (old : Working) (before : WorkerEnds) (new : Working) (after : WorkerEnds) → IsPuttingOut may sys old before → WorksApart may sys old before new after → IsSameEnds before after → IsPuttingOut may sys new after

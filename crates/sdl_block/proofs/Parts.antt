@@ -1,8 +1,6 @@
 -- A step is made of parts: what each part does to a block and to the queues around it, and that parts follow one another.
 use Rattle.std.proofs.Common.{◌≡◌, ℕ, ◌+◌, ◌*◌, ◌≤◌, List, [], ◌++◌, length, All, refl, ap, sym, ◌∙◌, subst, append_assoc, append-nil, length-append, arith}
 use Rattle.std.specs.Option.{option_to_list}
-use Rattle.std.specs.List.{flat_map}
-use Rattle.std.proofs.lemmas.List.Concat.{flat_map-append}
 use Rattle.std.proofs.lemmas.List.Elements.{All-append, All-nil}
 use Rattle.std.proofs.lemmas.List.Sums.{sum_by-append}
 use Rattle.sdl_signal.specs.declared.values.Item.{Item}
@@ -10,17 +8,12 @@ use Rattle.sdl_behaviour.specs.declared.step.Frame.{Frame}
 use Rattle.sdl_behaviour.specs.declared.step.Step.{Step}
 use Rattle.sdl_log.specs.declared.event.Event.{Event}
 use Rattle.sdl_instances.specs.Machine.{System}
-use Rattle.sdl_instances.specs.Run.{arrived, arrived_in, done_in, sent, sent_by, all_done, turns, turn_in}
+use Rattle.sdl_instances.specs.Run.{arrived, sent, turns, turn_in}
 use Rattle.sdl_instances.specs.Core.{Core, IsSound, IsLegalIn}
 use Rattle.sdl_instances.specs.Calls.{KeepsRest}
 use Rattle.sdl_hand.specs.Work.{Working}
+use Rattle.sdl_hand.proofs.Through.{sent-append, arrived-append, through}
 use Rattle.sdl_block.specs.Around.{Queues}
-
-pub sent-append : (xs ys : List Event) → sent (xs ++ ys) ≡ sent xs ++ sent ys
-sent-append xs ys = ap (flat_map sent_by) (flat_map-append done_in xs ys) ∙ flat_map-append sent_by (all_done xs) (all_done ys)
-
-pub arrived-append : (xs ys : List Event) → arrived (xs ++ ys) ≡ arrived xs ++ arrived ys
-arrived-append xs ys = flat_map-append arrived_in xs ys
 
 pub turns-append : (xs ys : List Event) → turns (xs ++ ys) ≡ turns xs + turns ys
 turns-append xs ys = sum_by-append turn_in xs ys
@@ -30,11 +23,6 @@ keeps-then a b c h k = (k.0 ∙ h.0, k.1 ∙ h.1, k.2 ∙ h.2, k.3 ∙ h.3)
 
 pub keeps-same : (a : Core) → KeepsRest a a
 keeps-same a = (refl, refl, refl, refl)
-
--- two parts of what goes through, one behind the other: what was, with what came in, is what went out, with what is
-pub through : {X : Type 0} (was in1 out1 mid in2 out2 is : List X) → was ++ in1 ≡ out1 ++ mid → mid ++ in2 ≡ out2 ++ is → was ++ (in1 ++ in2) ≡ (out1 ++ out2) ++ is
-through was in1 out1 mid in2 out2 is h k =
-    sym (append_assoc was in1 in2) ∙ ap (λ l. l ++ in2) h ∙ append_assoc out1 mid in2 ∙ ap (λ l. out1 ++ l) k ∙ sym (append_assoc out1 out2 is)
 
 module _ (may : ℕ → Frame → Step → Type 0) (sys : System) {B : Type 0} (q : Queues B) where
   -- a part of a step, with what it put, what it took, and the new events

@@ -20,7 +20,8 @@ use Rattle.sdl_hand.specs.Puts.{answer_of}
 use Rattle.sdl_block.specs.Phases.{IsSpent, TriesTurn}
 use Rattle.sdl_block.specs.Rounds.{new_events, arrivals, turns_made}
 use Rattle.sdl_block.specs.Around.{Queues, TakesBy, LetsBy, PutsBy}
-use Rattle.sdl_block.proofs.Parts.{arrived-append, turns-append}
+use Rattle.sdl_hand.proofs.Through.{arrived-append}
+use Rattle.sdl_block.proofs.Parts.{turns-append}
 use Rattle.sdl_block.proofs.Going.{arrived_one, arrived_none}
 use Rattle.sdl_block.proofs.Stepping.{holding}
 

@@ -110,10 +110,10 @@ impl<S: Agents, K: Keeps> BlockWorker<S, K> {
         ensures phases { GoesThrough S.may (system_around self.old routes.now) (around Q.relations routes.now (worker_of self.old).core) pick (worker_of self.old) queues.old result (worker_of self.new) queues.new }
         ensures parts { behaviours_of self.new ≡ behaviours_of self.old }
     {
-        let put = self.hand.put_out_over(rt, routes, queues)?;
+        let put = self.hand.put_out(rt, routes, queues)?;
         let arrived = self.let_one_arrive(rt, routes, queues, pick)?;
         let turned = self.make_turn(routes, pick)?;
-        self.hand.put_out_over(rt, routes, queues)?;
+        self.hand.put_out(rt, routes, queues)?;
         Ok(put | arrived | turned)
     }
 

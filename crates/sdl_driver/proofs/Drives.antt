@@ -1,12 +1,8 @@
 -- A step of a worker keeps what holds of a driver, and lowers what is left to do, or the worker could do nothing.
-use Rattle.std.proofs.Common.{ℕ, zero, suc, ◌+◌, ◌*◌, ◌≤◌, Bool, true, false, cond, List, [], ◌∷◌, ◌++◌, map, length, get_or, slice_get, set, ◌≡◌, Option, Some, All, refl, ap, sym, ◌∙◌, subst, arith}
-use Rattle.std.proofs.lemmas.Bool.{cond_both}
+use Rattle.std.proofs.Common.{ℕ, zero, suc, ◌+◌, ◌≤◌, List, [], ◌∷◌, map, length, get_or, slice_get, set, ◌≡◌, Option, Some, All, refl, ap, sym, ◌∙◌, subst, arith}
 use Rattle.std.proofs.lemmas.Option.{same_Some, slice_get_within}
 use Rattle.std.proofs.lemmas.List.{length-map, length-append}
-use Rattle.sdl_signal.specs.declared.ids.SignalId.{SignalId}
-use Rattle.sdl_parts.specs.declared.parts.Channel.{Channel}
 use Rattle.sdl_parts.specs.Structure.{Structure}
-use Rattle.sdl_routes.specs.declared.route.Hop.{Hop}
 use Rattle.sdl_routes.specs.declared.route.TableRow.{TableRow}
 use Rattle.sdl_behaviour.specs.declared.step.Frame.{Frame}
 use Rattle.sdl_behaviour.specs.declared.step.Step.{Step}
@@ -24,32 +20,20 @@ use Rattle.sdl_hand.specs.Work.{Working, StepsAs, IsAtRest}
 use Rattle.sdl_block.specs.Workers.{behaviours_of}
 use Rattle.sdl_opening.specs.declared.worker.Worker.TheVariants.{Environment, Forwarder}
 use Rattle.sdl_driver.specs.declared.driver.Driver.{Driver}
-use Rattle.sdl_outcome.specs.Plan.{Plan, IsPlan, blocks_in, blocks_from, path_line, lines_from, lines_of, workers_of, system_at}
+use Rattle.sdl_driver.specs.declared.system.System.{System}
+use Rattle.sdl_outcome.specs.Plan.{Plan, IsPlan, blocks_in, blocks_from, lines_of, workers_of, system_at}
 use Rattle.sdl_order.specs.Driver.{Site, IsAtWork, BlockSteps, EnvironmentSteps, ForwarderSteps}
 use Rattle.sdl_outcome.specs.EnvironmentWork.{EnvWorking, EnvStepsAs, HasReadSoFar, HasWrittenSoFar}
-use Rattle.sdl_driver.specs.Drivers.{site_of, plan_of, IsDriving, IsSameSystem, ReadsOver, WritesOver, StepAnswers, stepped_by}
+use Rattle.sdl_driver.specs.Drivers.{site_of, IsDriving, ReadsOver, WritesOver, StepAnswers, stepped_by}
+use Rattle.sdl_driver.specs.Systems.{plan_of, IsSameSystem}
 use Rattle.sdl_order.specs.Measure.{work_left}
+use Rattle.sdl_opening.proofs.Counted as counted
 use Rattle.sdl_outcome.proofs.Lists.{set_same}
 use Rattle.sdl_order.proofs.Between.{site_is, block_steps, environment_steps, forwarder_steps}
 use Rattle.sdl_outcome.proofs.Workers.{count_blocks}
 use Rattle.sdl_order.proofs.Measure.{moves_lower}
 use Rattle.sdl_order.proofs.Lowers.{works_lower}
-use Rattle.sdl_order.proofs.LowersEnvironment.{env_lowers}
-
--- there are at most two lines a channel
-path_few : (n : ℕ) (back : Bool) (xs : List SignalId) → length (path_line n back xs) ≤ 1
-path_few n back [] = omega arith
-path_few n back (x ∷ xs) = omega arith
-
-lines_few : (n : ℕ) (cs : List Channel) → length (lines_from n cs) ≤ 2 * length cs
-lines_few n [] = omega arith
-lines_few n (c ∷ cs) =
-    let here : length (cond c.nodelay [] (path_line n false c.forth.items ++ path_line n true c.back.items)) ≤ 2 =
-    cond_both c.nodelay [] (path_line n false c.forth.items ++ path_line n true c.back.items) (λ (hs : List Hop). length hs ≤ 2) (λ e. omega arith)
-    (λ e. let a = length-append (path_line n false c.forth.items) (path_line n true c.back.items) in let b = path_few n false c.forth.items in let d = path_few n true c.back.items in omega arith) in
-    let all = length-append (cond c.nodelay [] (path_line n false c.forth.items ++ path_line n true c.back.items)) (lines_from (n + 1) cs) in
-    let more = lines_few (n + 1) cs in
-    omega arith
+use Rattle.sdl_order.proofs.LowersEnvironment.{something, env_lowers}
 
 -- the workers are the blocks, the environment and the forwarders
 pub workers_count : (may : ℕ → Frame → Step → Type 0) (plan : Plan) (site : Site) → IsAtWork may plan site → length (workers_of plan) ≡ length site.blocks + 1 + length site.forwarders
@@ -63,22 +47,10 @@ workers_count may plan site work =
     omega arith
 
 pub workers_few : (plan : Plan) → IsPlan plan → length (workers_of plan) ≤ 193
-workers_few plan ok =
-    let a = length-append (blocks_from 0 (blocks_in plan)) (Environment ∷ map Forwarder (lines_of plan)) in
-    let b = count_blocks 0 (blocks_in plan) in
-    let c = length-map (lines_of plan) Forwarder in
-    let d = lines_few 0 plan.structure.channels in
-    let e = ok.structure.few_blocks in
-    let f = ok.structure.few_channels in
-    omega arith
+workers_few plan ok = counted.workers_few plan.structure (workers_of plan) ok.structure refl
 
 -- of sites alone
 module _ (may : ℕ → Frame → Step → Type 0) (plan : Plan) (ok : IsPlan plan) (old new : Site) (work : IsAtWork may plan old) where
-  something : {X Y : Type 0} (xs : List X) (ys : List Y) → ((xs ≡ []) × (ys ≡ []) → ⊥) → 1 ≤ length xs + length ys
-  something [] [] h = absurd (h (refl, refl))
-  something [] (y ∷ ys) h = omega arith
-  something (x ∷ xs) ys h = omega arith
-
   block_answer : (n : ℕ) (answer : Stepped) (was is : Working) → slice_get old.blocks n ≡ Some was → new.blocks ≡ set old.blocks n is → new.environment ≡ old.environment → new.forwarders ≡ old.forwarders
       → StepsAs may (system_at plan n) was old.board answer is new.board → StepAnswers plan n answer old new
   block_answer n stepped.Did was is before after env same step =
@@ -176,7 +148,7 @@ get_map f (x ∷ xs) zero d = refl
 get_map f (x ∷ xs) (suc k) d = get_map f xs k d
 
 module _ {S K I : Type 0} {F : I → Type 0} {g : _} where
-  pub same_plan : (old new : Driver S K I F g) → IsSameSystem old new → plan_of new ≡ plan_of old
+  pub same_plan : (old new : System (BlockWorker S K I F g)) → IsSameSystem old new → plan_of new ≡ plan_of old
   unfolding plan_by
   same_plan old new same =
       let rules : map (λ w. block_rules (behaviours_of w)) new.blocks.items ≡ map (λ w. block_rules (behaviours_of w)) old.blocks.items =
@@ -192,28 +164,28 @@ module _ {S K I : Type 0} {F : I → Type 0} {g : _} where
       sym (get_map behaviours_of old k d) ∙ (ap (λ ps. get_or ps k (behaviours_of d)) (sym same) ∙ get_map behaviours_of new k d) in
       subst (CanFire may) at (fire k d (omega arith))
 
-  module _ (may : ℕ → Frame → Step → Type 0) (old new : Driver S K I F g) (driving : IsDriving may old) (same : IsSameSystem old new) where
-    drives : IsAtWork may (plan_of old) (site_of new) → IsDriving may new
+  module _ (may : ℕ → Frame → Step → Type 0) (old new : Driver S K I F g) (driving : IsDriving may old) (same : IsSameSystem old.system new.system) where
+    drives : IsAtWork may (plan_of old.system) (site_of new) → IsDriving may new
     drives work =
         record {
-          plan = subst IsPlan (sym (same_plan old new same)) driving.plan;
-          work = subst (λ (p : Plan). IsAtWork may p (site_of new)) (sym (same_plan old new same)) work;
-          fire = fire_same may old.blocks.items new.blocks.items same.behaviours driving.fire;
+          plan = subst IsPlan (sym (same_plan old.system new.system same)) driving.plan;
+          work = subst (λ (p : Plan). IsAtWork may p (site_of new)) (sym (same_plan old.system new.system same)) work;
+          fire = fire_same may old.system.blocks.items new.system.blocks.items same.behaviours driving.fire;
         }
 
-    pub block_drives : (n : ℕ) (answer : Stepped) → BlockSteps may (plan_of old) n answer (site_of old) (site_of new) → IsDriving may new
-    block_drives n answer steps = drives (block_steps may (plan_of old) driving.plan n answer (site_of old) (site_of new) driving.work steps)
+    pub block_drives : (n : ℕ) (answer : Stepped) → BlockSteps may (plan_of old.system) n answer (site_of old) (site_of new) → IsDriving may new
+    block_drives n answer steps = drives (block_steps may (plan_of old.system) driving.plan n answer (site_of old) (site_of new) driving.work steps)
 
-    pub forwarder_drives : (k : ℕ) (answer : Forwarded) → ForwarderSteps (plan_of old) k answer (site_of old) (site_of new) → IsDriving may new
-    forwarder_drives k answer steps = drives (forwarder_steps may (plan_of old) driving.plan k answer (site_of old) (site_of new) driving.work steps)
+    pub forwarder_drives : (k : ℕ) (answer : Forwarded) → ForwarderSteps (plan_of old.system) k answer (site_of old) (site_of new) → IsDriving may new
+    forwarder_drives k answer steps = drives (forwarder_steps may (plan_of old.system) driving.plan k answer (site_of old) (site_of new) driving.work steps)
 
-    pub environment_drives : (answer : Stepped) → EnvironmentSteps (plan_of old) answer (site_of old) (site_of new) → IsDriving may new
-    environment_drives answer steps = drives (environment_steps may (plan_of old) driving.plan answer (site_of old) (site_of new) driving.work steps)
+    pub environment_drives : (answer : Stepped) → EnvironmentSteps (plan_of old.system) answer (site_of old) (site_of new) → IsDriving may new
+    environment_drives answer steps = drives (environment_steps may (plan_of old.system) driving.plan answer (site_of old) (site_of new) driving.work steps)
 
   -- and one step follows another
-  module _ (first now next : Driver S K I F g) (same : IsSameSystem first now) (x y z : Option (List ℕ)) where
-    pub reads_on : ReadsOver (plan_of first) first.environment x now.environment y → ReadsOver (plan_of now) now.environment y next.environment z → ReadsOver (plan_of first) first.environment x next.environment z
-    reads_on before after = λ start h. (subst (λ (p : Plan). ReadsOver p now.environment y next.environment z) (same_plan first now same) after) start (before start h)
+  module _ (first now next : Driver S K I F g) (same : IsSameSystem first.system now.system) (x y z : Option (List ℕ)) where
+    pub reads_on : ReadsOver (plan_of first.system) first.environment x now.environment y → ReadsOver (plan_of now.system) now.environment y next.environment z → ReadsOver (plan_of first.system) first.environment x next.environment z
+    reads_on before after = λ start h. (subst (λ (p : Plan). ReadsOver p now.environment y next.environment z) (same_plan first.system now.system same) after) start (before start h)
 
-    pub writes_on : WritesOver (plan_of first) first.environment x now.environment y → WritesOver (plan_of now) now.environment y next.environment z → WritesOver (plan_of first) first.environment x next.environment z
-    writes_on before after = λ start h. (subst (λ (p : Plan). WritesOver p now.environment y next.environment z) (same_plan first now same) after) start (before start h)
+    pub writes_on : WritesOver (plan_of first.system) first.environment x now.environment y → WritesOver (plan_of now.system) now.environment y next.environment z → WritesOver (plan_of first.system) first.environment x next.environment z
+    writes_on before after = λ start h. (subst (λ (p : Plan). WritesOver p now.environment y next.environment z) (same_plan first.system now.system same) after) start (before start h)

@@ -1,3 +1,4 @@
+pub mod Systems
 pub mod Driving
 pub mod Drives
 pub mod Rounds

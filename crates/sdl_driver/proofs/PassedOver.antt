@@ -20,7 +20,8 @@ use Rattle.sdl_outcome.proofs.Lists.{get_set, get_set_other, set_same}
 use Rattle.sdl_outcome.proofs.Lines.{lines_rise, rise_by_channel}
 use Rattle.sdl_order.specs.Driver.{Site, IsAtWork, ForwarderSteps}
 use Rattle.sdl_driver.specs.declared.driver.Driver.{Driver}
-use Rattle.sdl_driver.specs.Drivers.{site_of, plan_of, IsSameSystem, AllFree, AreByChannel, IsIdleAt, HasGone, stepped_by}
+use Rattle.sdl_driver.specs.Drivers.{site_of, AllFree, AreByChannel, IsIdleAt, HasGone, stepped_by}
+use Rattle.sdl_driver.specs.Systems.{plan_of, IsSameSystem}
 use Rattle.sdl_driver.specs.Runs.{workers_below, WorkerSteps, StepsThrough}
 use Rattle.sdl_driver.proofs.Running.{round_on, worker_by}
 
@@ -125,13 +126,13 @@ passed_over may plan site work free first from next is within empty n lower belo
     )
 
 -- a step of a round, and then workers that are passed over
-module _ {S K I : Type 0} {F : I → Type 0} {g : _} (may : ℕ → Frame → Step → Type 0) (start next : Driver S K I F g) (same : IsSameSystem start next) (a b : ℕ) (from : a ≤ b)
-    (each : (n : ℕ) → a ≤ n → n < b → WorkerSteps may (plan_of next) n 0 Idle (site_of next) (site_of next) × IsIdleAt (site_of next) n) where
-  pub steps_past : StepsThrough may (plan_of start) (workers_below a) None (site_of start) (site_of next) → StepsThrough may (plan_of start) (workers_below b) None (site_of start) (site_of next)
-  steps_past = pass_steps may (plan_of start) (site_of start) (site_of next) a b from (λ n lower below. worker_by may start next same n 0 Idle (site_of next) (site_of next) (each n lower below).0)
+module _ {S K I : Type 0} {F : I → Type 0} {g : _} (may : ℕ → Frame → Step → Type 0) (start next : Driver S K I F g) (same : IsSameSystem start.system next.system) (a b : ℕ) (from : a ≤ b)
+    (each : (n : ℕ) → a ≤ n → n < b → WorkerSteps may (plan_of next.system) n 0 Idle (site_of next) (site_of next) × IsIdleAt (site_of next) n) where
+  pub steps_past : StepsThrough may (plan_of start.system) (workers_below a) None (site_of start) (site_of next) → StepsThrough may (plan_of start.system) (workers_below b) None (site_of start) (site_of next)
+  steps_past = pass_steps may (plan_of start.system) (site_of start) (site_of next) a b from (λ n lower below. worker_by may start next same n 0 Idle (site_of next) (site_of next) (each n lower below).0)
 
-  pub gone_past : (did : Bool) → HasGone (plan_of start) (site_of start) (site_of next) did a → HasGone (plan_of start) (site_of start) (site_of next) did b
-  gone_past did = pass_gone may (plan_of start) (site_of start) (site_of next) a b from did (λ n lower below. (each n lower below).1)
+  pub gone_past : (did : Bool) → HasGone (plan_of start.system) (site_of start) (site_of next) did a → HasGone (plan_of start.system) (site_of start) (site_of next) did b
+  gone_past did = pass_gone may (plan_of start.system) (site_of start) (site_of next) a b from did (λ n lower below. (each n lower below).1)
 
 pub free_of : (answer : Bool) (A : Type 0) → MatchBool answer A ⊤ → answer ≡ true → A
 free_of true A h e = h

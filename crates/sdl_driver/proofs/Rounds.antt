@@ -3,13 +3,16 @@ use Rattle.std.proofs.Common.{ℕ, ◌+◌, ◌<◌, Bool, true, false, length, 
 use Rattle.std.proofs.lemmas.Bool.{cases_lt, false≢true}
 use Rattle.std.proofs.lemmas.Option.{slice_get_within}
 use Rattle.sdl_hand.specs.declared.hand.Stepped.{Stepped}
+use Rattle.sdl_block.specs.declared.worker.BlockWorker.{BlockWorker}
 use Rattle.sdl_driver.specs.declared.driver.Driver.{Driver}
+use Rattle.sdl_driver.specs.declared.system.System.{System}
 use Rattle.sdl_behaviour.specs.declared.step.Frame.{Frame}
 use Rattle.sdl_behaviour.specs.declared.step.Step.{Step}
 use Rattle.sdl_hand.specs.declared.hand.Stepped.TheVariants as stepped
 use Rattle.sdl_outcome.specs.Plan.{Plan, workers_of}
 use Rattle.sdl_order.specs.Driver.{Site, IsAtWork, IsIdle}
-use Rattle.sdl_driver.specs.Drivers.{site_of, plan_of, IsDriving, IsSameSystem, IsIdleAt, StepAnswers, HasGone}
+use Rattle.sdl_driver.specs.Drivers.{site_of, IsDriving, IsIdleAt, StepAnswers, HasGone}
+use Rattle.sdl_driver.specs.Systems.{plan_of, IsSameSystem}
 use Rattle.sdl_order.specs.Measure.{work_left}
 use Rattle.sdl_driver.proofs.Drives.{workers_count, same_plan}
 
@@ -59,29 +62,29 @@ gone_all may plan start now work gone =
     }
 
 module _ {S K I : Type 0} {F : I → Type 0} {g : _} where
-  pub same_itself : (d : Driver S K I F g) → IsSameSystem d d
-  same_itself d = record { checked = refl; routes = refl; budget = refl; behaviours = refl }
+  pub same_itself : (x : System (BlockWorker S K I F g)) → IsSameSystem x x
+  same_itself x = record { checked = refl; routes = refl; budget = refl; behaviours = refl }
 
-  pub same_still : (a b c : Driver S K I F g) → IsSameSystem a b → IsSameSystem b c → IsSameSystem a c
+  pub same_still : (a b c : System (BlockWorker S K I F g)) → IsSameSystem a b → IsSameSystem b c → IsSameSystem a c
   same_still a b c x y = record { checked = y.checked ∙ x.checked; routes = y.routes ∙ x.routes; budget = y.budget ∙ x.budget; behaviours = y.behaviours ∙ x.behaviours }
 
-  module _ (start now next : Driver S K I F g) (same : IsSameSystem start now) (n : ℕ) (answer : Stepped) (did : Bool) (gone : HasGone (plan_of start) (site_of start) (site_of now) did n)
-      (step : StepAnswers (plan_of now) n answer (site_of now) (site_of next)) where
-    answered : (expected : Stepped) → answer ≡ expected → StepAnswers (plan_of start) n expected (site_of now) (site_of next)
-    answered expected e = subst (λ (p : Plan). StepAnswers p n expected (site_of now) (site_of next)) (same_plan start now same) (subst (λ (a : Stepped). StepAnswers (plan_of now) n a (site_of now) (site_of next)) e step)
+  module _ (start now next : Driver S K I F g) (same : IsSameSystem start.system now.system) (n : ℕ) (answer : Stepped) (did : Bool) (gone : HasGone (plan_of start.system) (site_of start) (site_of now) did n)
+      (step : StepAnswers (plan_of now.system) n answer (site_of now) (site_of next)) where
+    answered : (expected : Stepped) → answer ≡ expected → StepAnswers (plan_of start.system) n expected (site_of now) (site_of next)
+    answered expected e = subst (λ (p : Plan). StepAnswers p n expected (site_of now) (site_of next)) (same_plan start.system now.system same) (subst (λ (a : Stepped). StepAnswers (plan_of now.system) n a (site_of now) (site_of next)) e step)
 
-    pub on_did : answer ≡ stepped.Did → (d : Bool) → d ≡ true → HasGone (plan_of start) (site_of start) (site_of next) d (n + 1)
-    on_did e d is = subst (λ (b : Bool). HasGone (plan_of start) (site_of start) (site_of next) b (n + 1)) (sym is) (gone_did (plan_of start) (site_of start) (site_of now) (site_of next) n did gone (answered stepped.Did e))
+    pub on_did : answer ≡ stepped.Did → (d : Bool) → d ≡ true → HasGone (plan_of start.system) (site_of start) (site_of next) d (n + 1)
+    on_did e d is = subst (λ (b : Bool). HasGone (plan_of start.system) (site_of start) (site_of next) b (n + 1)) (sym is) (gone_did (plan_of start.system) (site_of start) (site_of now) (site_of next) n did gone (answered stepped.Did e))
 
-    pub on_idle : answer ≡ stepped.Idle → (d : Bool) → d ≡ did → HasGone (plan_of start) (site_of start) (site_of next) d (n + 1)
-    on_idle e d is = subst (λ (b : Bool). HasGone (plan_of start) (site_of start) (site_of next) b (n + 1)) (sym is) (gone_idle (plan_of start) (site_of start) (site_of now) (site_of next) n did gone (answered stepped.Idle e))
+    pub on_idle : answer ≡ stepped.Idle → (d : Bool) → d ≡ did → HasGone (plan_of start.system) (site_of start) (site_of next) d (n + 1)
+    on_idle e d is = subst (λ (b : Bool). HasGone (plan_of start.system) (site_of start) (site_of next) b (n + 1)) (sym is) (gone_idle (plan_of start.system) (site_of start) (site_of now) (site_of next) n did gone (answered stepped.Idle e))
 
-  pub at_end : (may : ℕ → Frame → Step → Type 0) (start now : Driver S K I F g) (did : Bool) (n : ℕ) → IsDriving may now → IsSameSystem start now
-      → HasGone (plan_of start) (site_of start) (site_of now) did n → did ≡ false → n ≡ length (workers_of (plan_of start)) → IsIdle (site_of now)
+  pub at_end : (may : ℕ → Frame → Step → Type 0) (start now : Driver S K I F g) (did : Bool) (n : ℕ) → IsDriving may now → IsSameSystem start.system now.system
+      → HasGone (plan_of start.system) (site_of start) (site_of now) did n → did ≡ false → n ≡ length (workers_of (plan_of start.system)) → IsIdle (site_of now)
   at_end may start now did n driving same gone none all =
-      gone_all may (plan_of start) (site_of start) (site_of now) (subst (λ (p : Plan). IsAtWork may p (site_of now)) (same_plan start now same) driving.work)
-      (subst (λ (k : ℕ). HasGone (plan_of start) (site_of start) (site_of now) false k) all (subst (λ (b : Bool). HasGone (plan_of start) (site_of start) (site_of now) b n) none gone))
+      gone_all may (plan_of start.system) (site_of start) (site_of now) (subst (λ (p : Plan). IsAtWork may p (site_of now)) (same_plan start.system now.system same) driving.work)
+      (subst (λ (k : ℕ). HasGone (plan_of start.system) (site_of start) (site_of now) false k) all (subst (λ (b : Bool). HasGone (plan_of start.system) (site_of start) (site_of now) b n) none gone))
 
   -- less of what is left, in terms of the first plan
-  pub less_by : (first now next : Driver S K I F g) → IsSameSystem first now → work_left (plan_of now) (site_of next) < work_left (plan_of now) (site_of now) → work_left (plan_of first) (site_of next) < work_left (plan_of first) (site_of now)
-  less_by first now next same less = subst (λ (p : Plan). work_left p (site_of next) < work_left p (site_of now)) (same_plan first now same) less
+  pub less_by : (first now next : Driver S K I F g) → IsSameSystem first.system now.system → work_left (plan_of now.system) (site_of next) < work_left (plan_of now.system) (site_of now) → work_left (plan_of first.system) (site_of next) < work_left (plan_of first.system) (site_of now)
+  less_by first now next same less = subst (λ (p : Plan). work_left p (site_of next) < work_left p (site_of now)) (same_plan first.system now.system same) less

@@ -8,7 +8,8 @@ use Rattle.sdl_outcome.specs.Plan.{Plan, workers_of}
 use Rattle.sdl_order.specs.Driver.{Site, IsIdle}
 use Rattle.sdl_driver.specs.declared.driver.Driver.{Driver}
 use Rattle.sdl_driver.specs.declared.driver.Round.{Round}
-use Rattle.sdl_driver.specs.Drivers.{plan_of, site_of, IsSameSystem}
+use Rattle.sdl_driver.specs.Drivers.{site_of}
+use Rattle.sdl_driver.specs.Systems.{plan_of, IsSameSystem}
 use Rattle.sdl_driver.specs.Runs.{workers_below, rounds_of, refused_in, WorkerSteps, StepsThrough, Settles, Runs, scheduled}
 use Rattle.sdl_driver.proofs.Drives.{same_plan}
 use Rattle.sdl_driver.proofs.Rounds.{last}
@@ -102,54 +103,54 @@ module _ (may : ℕ → Frame → Step → Type 0) (plan : Plan) where
       record { rounds = rounds; steps = through_then (scheduled plan schedule) (rounds_of (length (workers_of plan)) rounds) refused a b c before after; idle = idle }
 
 -- in terms of the first plan
-module _ {S K I : Type 0} {F : I → Type 0} {g : _} (may : ℕ → Frame → Step → Type 0) (first now : Driver S K I F g) (same : IsSameSystem first now) where
-  pub worker_by : (n pick : ℕ) (answer : Stepped) (old new : Site) → WorkerSteps may (plan_of now) n pick answer old new → WorkerSteps may (plan_of first) n pick answer old new
-  worker_by n pick answer old new h = subst (λ (p : Plan). WorkerSteps may p n pick answer old new) (same_plan first now same) h
+module _ {S K I : Type 0} {F : I → Type 0} {g : _} (may : ℕ → Frame → Step → Type 0) (first now : Driver S K I F g) (same : IsSameSystem first.system now.system) where
+  pub worker_by : (n pick : ℕ) (answer : Stepped) (old new : Site) → WorkerSteps may (plan_of now.system) n pick answer old new → WorkerSteps may (plan_of first.system) n pick answer old new
+  worker_by n pick answer old new h = subst (λ (p : Plan). WorkerSteps may p n pick answer old new) (same_plan first.system now.system same) h
 
-  pub round_by : (refused : Option ℕ) (old new : Site) → StepsThrough may (plan_of now) (workers_below (length (workers_of (plan_of now)))) refused old new
-      → StepsThrough may (plan_of first) (workers_below (length (workers_of (plan_of first)))) refused old new
-  round_by refused old new h = subst (λ (p : Plan). StepsThrough may p (workers_below (length (workers_of p))) refused old new) (same_plan first now same) h
+  pub round_by : (refused : Option ℕ) (old new : Site) → StepsThrough may (plan_of now.system) (workers_below (length (workers_of (plan_of now.system)))) refused old new
+      → StepsThrough may (plan_of first.system) (workers_below (length (workers_of (plan_of first.system)))) refused old new
+  round_by refused old new h = subst (λ (p : Plan). StepsThrough may p (workers_below (length (workers_of p))) refused old new) (same_plan first.system now.system same) h
 
-  pub settles_by : (refused : Option ℕ) (old new : Site) → Settles may (plan_of now) refused old new → Settles may (plan_of first) refused old new
-  settles_by refused old new h = subst (λ (p : Plan). Settles may p refused old new) (same_plan first now same) h
+  pub settles_by : (refused : Option ℕ) (old new : Site) → Settles may (plan_of now.system) refused old new → Settles may (plan_of first.system) refused old new
+  settles_by refused old new h = subst (λ (p : Plan). Settles may p refused old new) (same_plan first.system now.system same) h
 
-module _ {S K I : Type 0} {F : I → Type 0} {g : _} (may : ℕ → Frame → Step → Type 0) (first now next : Driver S K I F g) (same : IsSameSystem first now) where
+module _ {S K I : Type 0} {F : I → Type 0} {g : _} (may : ℕ → Frame → Step → Type 0) (first now next : Driver S K I F g) (same : IsSameSystem first.system now.system) where
   -- one round more
-  pub round_after : (is answer : Round) → answer ≡ is → Settles may (plan_of first) None (site_of first) (site_of now)
-      → StepsThrough may (plan_of now) (workers_below (length (workers_of (plan_of now)))) (refused_in answer) (site_of now) (site_of next) → Settles may (plan_of first) (refused_in is) (site_of first) (site_of next)
+  pub round_after : (is answer : Round) → answer ≡ is → Settles may (plan_of first.system) None (site_of first) (site_of now)
+      → StepsThrough may (plan_of now.system) (workers_below (length (workers_of (plan_of now.system)))) (refused_in answer) (site_of now) (site_of next) → Settles may (plan_of first.system) (refused_in is) (site_of first) (site_of next)
   round_after is answer e before round =
-      settles_on may (plan_of first) (refused_in is) (site_of first) (site_of now) (site_of next) before
-      (subst (λ (a : Round). StepsThrough may (plan_of first) (workers_below (length (workers_of (plan_of first)))) (refused_in a) (site_of now) (site_of next)) e
+      settles_on may (plan_of first.system) (refused_in is) (site_of first) (site_of now) (site_of next) before
+      (subst (λ (a : Round). StepsThrough may (plan_of first.system) (workers_below (length (workers_of (plan_of first.system)))) (refused_in a) (site_of now) (site_of next)) e
       (round_by may first now same (refused_in answer) (site_of now) (site_of next) round))
 
   -- a number of the schedule more, or a refusal there
-  module _ (schedule : List ℕ) (i count : ℕ) (is : count ≡ length (workers_of (plan_of first))) (less : i < length schedule)
-      (before : StepsThrough may (plan_of first) (scheduled (plan_of first) (take i schedule)) None (site_of first) (site_of now)) where
-    counted : (answer : Stepped) → WorkerSteps may (plan_of now) (get_or schedule i 0 % count) (get_or schedule i 0 / count) answer (site_of now) (site_of next)
-        → WorkerSteps may (plan_of first) (get_or schedule i 0 % length (workers_of (plan_of first))) (get_or schedule i 0 / length (workers_of (plan_of first))) answer (site_of now) (site_of next)
+  module _ (schedule : List ℕ) (i count : ℕ) (is : count ≡ length (workers_of (plan_of first.system))) (less : i < length schedule)
+      (before : StepsThrough may (plan_of first.system) (scheduled (plan_of first.system) (take i schedule)) None (site_of first) (site_of now)) where
+    counted : (answer : Stepped) → WorkerSteps may (plan_of now.system) (get_or schedule i 0 % count) (get_or schedule i 0 / count) answer (site_of now) (site_of next)
+        → WorkerSteps may (plan_of first.system) (get_or schedule i 0 % length (workers_of (plan_of first.system))) (get_or schedule i 0 / length (workers_of (plan_of first.system))) answer (site_of now) (site_of next)
     counted answer step =
-        subst (λ (m : ℕ). WorkerSteps may (plan_of first) (get_or schedule i 0 % m) (get_or schedule i 0 / m) answer (site_of now) (site_of next)) is
+        subst (λ (m : ℕ). WorkerSteps may (plan_of first.system) (get_or schedule i 0 % m) (get_or schedule i 0 / m) answer (site_of now) (site_of next)) is
         (worker_by may first now same (get_or schedule i 0 % count) (get_or schedule i 0 / count) answer (site_of now) (site_of next) step)
 
-    pub scheduled_on : (answer : Stepped) → answer ≢ Memory → WorkerSteps may (plan_of now) (get_or schedule i 0 % count) (get_or schedule i 0 / count) answer (site_of now) (site_of next)
-        → StepsThrough may (plan_of first) (scheduled (plan_of first) (take (i + 1) schedule)) None (site_of first) (site_of next)
+    pub scheduled_on : (answer : Stepped) → answer ≢ Memory → WorkerSteps may (plan_of now.system) (get_or schedule i 0 % count) (get_or schedule i 0 / count) answer (site_of now) (site_of next)
+        → StepsThrough may (plan_of first.system) (scheduled (plan_of first.system) (take (i + 1) schedule)) None (site_of first) (site_of next)
     scheduled_on answer not step =
         let one : suc i ≡ i + 1 = omega arith in
-        subst (λ (k : ℕ). StepsThrough may (plan_of first) (scheduled (plan_of first) (take k schedule)) None (site_of first) (site_of next)) one
-        (schedule_on may (plan_of first) (λ n. (n % length (workers_of (plan_of first)), n / length (workers_of (plan_of first)))) i schedule answer (site_of first) (site_of now) (site_of next) less before not 0 (counted answer step))
+        subst (λ (k : ℕ). StepsThrough may (plan_of first.system) (scheduled (plan_of first.system) (take k schedule)) None (site_of first) (site_of next)) one
+        (schedule_on may (plan_of first.system) (λ n. (n % length (workers_of (plan_of first.system)), n / length (workers_of (plan_of first.system)))) i schedule answer (site_of first) (site_of now) (site_of next) less before not 0 (counted answer step))
 
-    pub scheduled_stops : (answer : Stepped) → answer ≡ Memory → WorkerSteps may (plan_of now) (get_or schedule i 0 % count) (get_or schedule i 0 / count) answer (site_of now) (site_of next)
-        → Runs may (plan_of first) schedule (Some (get_or schedule i 0 % count)) (site_of first) (site_of next)
+    pub scheduled_stops : (answer : Stepped) → answer ≡ Memory → WorkerSteps may (plan_of now.system) (get_or schedule i 0 % count) (get_or schedule i 0 / count) answer (site_of now) (site_of next)
+        → Runs may (plan_of first.system) schedule (Some (get_or schedule i 0 % count)) (site_of first) (site_of next)
     scheduled_stops answer e step =
-        let stopped = schedule_stops may (plan_of first) (λ n. (n % length (workers_of (plan_of first)), n / length (workers_of (plan_of first)))) i schedule [] (site_of first) (site_of now) (site_of next) less before 0
-        (subst (λ (a : Stepped). WorkerSteps may (plan_of first) (get_or schedule i 0 % length (workers_of (plan_of first))) (get_or schedule i 0 / length (workers_of (plan_of first))) a (site_of now) (site_of next)) e (counted answer step)) in
-        subst (λ (m : ℕ). Runs may (plan_of first) schedule (Some (get_or schedule i 0 % m)) (site_of first) (site_of next)) (sym is)
-        (runs_stop may (plan_of first) schedule (get_or schedule i 0 % length (workers_of (plan_of first))) (site_of first) (site_of next) stopped)
+        let stopped = schedule_stops may (plan_of first.system) (λ n. (n % length (workers_of (plan_of first.system)), n / length (workers_of (plan_of first.system)))) i schedule [] (site_of first) (site_of now) (site_of next) less before 0
+        (subst (λ (a : Stepped). WorkerSteps may (plan_of first.system) (get_or schedule i 0 % length (workers_of (plan_of first.system))) (get_or schedule i 0 / length (workers_of (plan_of first.system))) a (site_of now) (site_of next)) e (counted answer step)) in
+        subst (λ (m : ℕ). Runs may (plan_of first.system) schedule (Some (get_or schedule i 0 % m)) (site_of first) (site_of next)) (sym is)
+        (runs_stop may (plan_of first.system) schedule (get_or schedule i 0 % length (workers_of (plan_of first.system))) (site_of first) (site_of next) stopped)
 
   -- the schedule is done, and the rest settles
-  pub scheduled_settles : (schedule : List ℕ) (i : ℕ) (refused : Option ℕ) (B : ℕ → Type 0) → length schedule ≤ i → StepsThrough may (plan_of first) (scheduled (plan_of first) (take i schedule)) None (site_of first) (site_of now)
-      → Settles may (plan_of now) refused (site_of now) (site_of next) → MatchOption refused (IsIdle (site_of next)) B → Runs may (plan_of first) schedule refused (site_of first) (site_of next)
+  pub scheduled_settles : (schedule : List ℕ) (i : ℕ) (refused : Option ℕ) (B : ℕ → Type 0) → length schedule ≤ i → StepsThrough may (plan_of first.system) (scheduled (plan_of first.system) (take i schedule)) None (site_of first) (site_of now)
+      → Settles may (plan_of now.system) refused (site_of now) (site_of next) → MatchOption refused (IsIdle (site_of next)) B → Runs may (plan_of first.system) schedule refused (site_of first) (site_of next)
   scheduled_settles schedule i refused B done before settled answer =
-      runs_then may (plan_of first) schedule refused (site_of first) (site_of now) (site_of next)
-      (schedule_done may (plan_of first) (λ n. (n % length (workers_of (plan_of first)), n / length (workers_of (plan_of first)))) i schedule (site_of first) (site_of now) done before)
+      runs_then may (plan_of first.system) schedule refused (site_of first) (site_of now) (site_of next)
+      (schedule_done may (plan_of first.system) (λ n. (n % length (workers_of (plan_of first.system)), n / length (workers_of (plan_of first.system)))) i schedule (site_of first) (site_of now) done before)
       (settles_by may first now same refused (site_of now) (site_of next) settled) (idle_of refused (IsIdle (site_of next)) B answer)

@@ -10,8 +10,6 @@ use Rattle.sdl_outcome.specs.declared.end.RunEnd.TheVariants as run_end
 use Rattle.sdl_driver.specs.declared.closing.Closing.{Closing}
 use Rattle.sdl_driver.specs.declared.closing.Left.{Left}
 use Rattle.sdl_driver.specs.declared.closing.Room.{Room}
-use Rattle.sdl_driver.specs.declared.driver.Driver.{Driver}
-use Rattle.sdl_block.specs.Workers.{behaviours_of}
 use Rattle.sdl_signal.specs.declared.ends.InputEnd.{InputEnd}
 use Rattle.sdl_signal.specs.declared.ends.InputEnd.TheVariants as input
 use Rattle.sdl_parts.specs.Structure.{lexicon_of}
@@ -101,7 +99,3 @@ abbrev pub end_by : Option ℕ → Option ℕ → Bool → RunEnd
 end_by (Some w) spent quiet = run_end.Memory w
 end_by None None quiet = run_end.Quiet
 end_by None (Some b) quiet = if quiet then run_end.Quiet else run_end.Spent (record { 0 = b })
-
--- the system is the driver's
-abbrev pub IsSystemOf : {S K I : Type 0} {F : I → Type 0} {g : _} → Driver S K I F g → Bound S I F g → Type 0
-IsSystemOf d b = (structure_of b ≡ d.checked) × (routes_of b ≡ d.routes) × (blocks_of b ≡ map behaviours_of d.blocks.items)

@@ -1,4 +1,4 @@
--- What a contract sees of a driver: its site, and the plan that it carries out.
+-- What a contract sees of a driver: its site, and what its steps do there.
 use Rattle.std.specs.Prelude.{◌≡◌, ◌≢◌, ℕ, ◌+◌, ◌<◌, Bool, true, false, List, [], map, length, slice_get, Option, Some, None, All}
 use Rattle.std.specs.List.Sorted.{IsNonDecreasingBy}
 use Rattle.sdl_routes.specs.declared.route.Station.{Station}
@@ -7,7 +7,6 @@ use Rattle.sdl_queue.specs.declared.rest.Rest.{Rest}
 use Rattle.sdl_queue.specs.Rest.{left_in}
 use Rattle.sdl_behaviour.specs.declared.step.Frame.{Frame}
 use Rattle.sdl_behaviour.specs.declared.step.Step.{Step}
-use Rattle.sdl_transition.specs.Rules.{block_rules}
 use Rattle.sdl_instances.specs.CoreOf.{CanFire}
 use Rattle.sdl_signal.specs.declared.values.Pid.{Pid}
 use Rattle.sdl_instances.specs.Run.{turns}
@@ -22,6 +21,7 @@ use Rattle.sdl_hand.specs.Work.{Working, IsAtRest}
 use Rattle.sdl_block.specs.declared.worker.BlockWorker.{BlockWorker}
 use Rattle.sdl_block.specs.Workers.{worker_of, behaviours_of}
 use Rattle.sdl_driver.specs.declared.driver.Driver.{Driver}
+use Rattle.sdl_driver.specs.Systems.{plan_of}
 use Rattle.sdl_driver.specs.declared.driver.Round.{Round}
 use Rattle.sdl_driver.specs.declared.driver.Round.TheVariants as round
 use Rattle.sdl_outcome.specs.Plan.{Plan, IsPlan, blocks_in, workers_of}
@@ -30,16 +30,7 @@ use Rattle.sdl_order.specs.Driver.{Site, IsAtWork, IsIdle}
 use Rattle.sdl_order.specs.Measure.{work_left}
 
 abbrev pub site_of : {S K I : Type 0} {F : I → Type 0} {g : _} → Driver S K I F g → Site
-site_of d = record { blocks = map worker_of d.blocks.items; environment = d.environment; forwarders = d.forwarders.items; board = d.board }
-
-abbrev pub plan_of : {S K I : Type 0} {F : I → Type 0} {g : _} → Driver S K I F g → Plan
-plan_of d =
-    record {
-      structure = d.checked;
-      routes = d.routes;
-      rules = map (λ w. block_rules (behaviours_of w)) d.blocks.items;
-      budget = d.budget;
-    }
+site_of d = record { blocks = map worker_of d.system.blocks.items; environment = d.environment; forwarders = d.forwarders.items; board = d.board }
 
 -- What holds between two steps of workers at this site, whose blocks are these.
 pub record IsBetweenSteps {S K I : Type 0} {F : I → Type 0} {g : _} (may : ℕ → Frame → Step → Type 0) (carried : Plan) (site : Site) (blocks : List (BlockWorker S K I F g)) : Type 0 where
@@ -49,14 +40,7 @@ pub record IsBetweenSteps {S K I : Type 0} {F : I → Type 0} {g : _} (may : ℕ
 
 -- What holds of a driver between two steps.
 abbrev pub IsDriving : {S K I : Type 0} {F : I → Type 0} {g : _} → (ℕ → Frame → Step → Type 0) → Driver S K I F g → Type 0
-IsDriving may d = IsBetweenSteps may (plan_of d) (site_of d) d.blocks.items
-
--- a driver of the same system
-pub record IsSameSystem {S K I : Type 0} {F : I → Type 0} {g : _} (old new : Driver S K I F g) : Type 0 where
-  pub checked : new.checked ≡ old.checked
-  pub routes : new.routes ≡ old.routes
-  pub budget : new.budget ≡ old.budget
-  pub behaviours : map behaviours_of new.blocks.items ≡ map behaviours_of old.blocks.items
+IsDriving may d = IsBetweenSteps may (plan_of d.system) (site_of d) d.system.blocks.items
 
 -- worker n could do nothing
 pub record IsIdleAt (site : Site) (n : ℕ) : Type 0 where

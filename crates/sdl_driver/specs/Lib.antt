@@ -1,3 +1,4 @@
+pub mod Systems
 pub mod Ended
 pub mod Drivers
 pub mod Stopped

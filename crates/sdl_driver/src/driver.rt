@@ -3,37 +3,31 @@ ghost use Rattle.std.specs.Prelude.{◌≡◌, ◌<◌, ◌≤◌, None, true, l
 ghost use Rattle.sdl_outcome.specs.Plan.{workers_of};
 ghost use Rattle.sdl_order.specs.Driver.{BlockSteps, EnvironmentSteps, ForwarderSteps, IsIdle};
 ghost use Rattle.sdl_environment.specs.EnvPicks.{ReadsAt};
-ghost use Rattle.sdl_driver.specs.Drivers.{site_of, plan_of, IsDriving, IsSameSystem, ReadsOver, WritesOver, AllFree, StepAnswers, RoundAnswers};
+ghost use Rattle.sdl_driver.specs.Drivers.{site_of, IsDriving, ReadsOver, WritesOver, AllFree, StepAnswers, RoundAnswers};
+ghost use Rattle.sdl_driver.specs.Systems.{plan_of, IsSameSystem};
 ghost use Rattle.sdl_driver.specs.Runs.{workers_below, refused_in, BlockStepsAt, WorkerSteps, StepsThrough, Settles, Runs};
 
 use crate::places::Places;
+use crate::system::System;
 use sdl_block::BlockWorker;
 use sdl_environment::EnvWorker;
 use sdl_forward::{Board, Forwarded, Forwarder};
 use sdl_hand::Stepped;
 use sdl_log::Keeps;
-use sdl_parts::Checked;
-use sdl_routes::Routes;
 use sdl_transition::Agents;
 use std::io::{Read, Write};
 
-/// All workers of a run, with the board between them, and the system that they carry out.
+/// The system of a run, with all of its workers and the board between them.
 #[derive(Drop)]
 pub struct Driver<S, K: Keeps> {
-    /// The structure of the system.
-    pub checked: Checked,
-    /// Its routes.
-    pub routes: Routes,
-    /// The blocks at work, by number.
-    pub blocks: Vec<BlockWorker<S, K>>,
+    /// The system, with its blocks at work.
+    pub system: System<BlockWorker<S, K>>,
     /// The environment at work.
     pub environment: EnvWorker,
     /// A forwarder for each delaying path that carries a signal: by channel, forth before back.
     pub forwarders: Vec<Forwarder>,
     /// The stations with their queues.
     pub board: Board,
-    /// The number of turns that each block may have.
-    pub budget: u32,
 }
 
 /// What a round of all workers did.
@@ -50,11 +44,11 @@ impl<S: Agents, K: Keeps> Driver<S, K> {
     /// How many workers there are: the blocks, the environment and the forwarders.
     fn workers(&self) -> u32
         requires { IsDriving S.may self.now }
-        ensures count { result ≡ length (workers_of (plan_of self.now)) }
+        ensures count { result ≡ length (workers_of (plan_of self.now.system)) }
         ensures few { result ≤ 193 }
         ensures some { 0 < result }
     {
-        (self.blocks.len() + 1 + self.forwarders.len()) as u32
+        (self.system.blocks.len() + 1 + self.forwarders.len()) as u32
     }
 
     /// Lets a block make a step.
@@ -62,13 +56,13 @@ impl<S: Agents, K: Keeps> Driver<S, K> {
     #[inline(never)]
     fn step_block(&mut self, block: usize, pick: u32) -> Stepped
         requires driving { IsDriving S.may self.old }
-        requires within { block < length self.old.blocks.items }
-        ensures step { BlockSteps S.may (plan_of self.old) block result (site_of self.old) (site_of self.new) }
-        ensures pick { BlockStepsAt S.may (plan_of self.old) block pick result (site_of self.old) (site_of self.new) }
-        ensures same { IsSameSystem self.old self.new }
+        requires within { block < length self.old.system.blocks.items }
+        ensures step { BlockSteps S.may (plan_of self.old.system) block result (site_of self.old) (site_of self.new) }
+        ensures pick { BlockStepsAt S.may (plan_of self.old.system) block pick result (site_of self.old) (site_of self.new) }
+        ensures same { IsSameSystem self.old.system self.new.system }
     {
-        let worker = &mut self.blocks[block];
-        worker.step_serial(&self.routes, &mut self.board, pick)
+        let worker = &mut self.system.blocks[block];
+        worker.step_serial(&self.system.routes, &mut self.board, pick)
     }
 
     /// Lets a forwarder make a step.
@@ -76,11 +70,11 @@ impl<S: Agents, K: Keeps> Driver<S, K> {
     fn step_forwarder(&mut self, forwarder: usize) -> Forwarded
         requires driving { IsDriving S.may self.old }
         requires within { forwarder < length self.old.forwarders.items }
-        ensures step { ForwarderSteps (plan_of self.old) forwarder result (site_of self.old) (site_of self.new) }
-        ensures same { IsSameSystem self.old self.new }
+        ensures step { ForwarderSteps (plan_of self.old.system) forwarder result (site_of self.old) (site_of self.new) }
+        ensures same { IsSameSystem self.old.system self.new.system }
     {
         let worker = &mut self.forwarders[forwarder];
-        worker.step_serial(&self.routes, &mut self.board)
+        worker.step_serial(&self.system.routes, &mut self.board)
     }
 
     /// Lets the environment make a step.
@@ -92,15 +86,15 @@ impl<S: Agents, K: Keeps> Driver<S, K> {
         output: &mut W,
     ) -> Stepped
         requires driving { IsDriving S.may self.old }
-        ensures step { EnvironmentSteps (plan_of self.old) result (site_of self.old) (site_of self.new) }
-        ensures pick { ReadsAt (plan_of self.old).routes pick self.old.environment self.new.environment }
-        ensures same { IsSameSystem self.old self.new }
-        ensures reading { ReadsOver (plan_of self.old) self.old.environment (R.remaining input.old) self.new.environment (R.remaining input.new) }
-        ensures writing { WritesOver (plan_of self.old) self.old.environment (W.contents output.old) self.new.environment (W.contents output.new) }
+        ensures step { EnvironmentSteps (plan_of self.old.system) result (site_of self.old) (site_of self.new) }
+        ensures pick { ReadsAt (plan_of self.old.system).routes pick self.old.environment self.new.environment }
+        ensures same { IsSameSystem self.old.system self.new.system }
+        ensures reading { ReadsOver (plan_of self.old.system) self.old.environment (R.remaining input.old) self.new.environment (R.remaining input.new) }
+        ensures writing { WritesOver (plan_of self.old.system) self.old.environment (W.contents output.old) self.new.environment (W.contents output.new) }
     {
         self.environment.step_serial(
-            self.checked.structure(),
-            &self.routes,
+            self.system.checked.structure(),
+            &self.system.routes,
             &mut self.board,
             pick,
             input,
@@ -118,16 +112,16 @@ impl<S: Agents, K: Keeps> Driver<S, K> {
         output: &mut W,
     ) -> Stepped
         requires driving { IsDriving S.may self.old }
-        requires within { number < length (workers_of (plan_of self.old)) }
+        requires within { number < length (workers_of (plan_of self.old.system)) }
         ensures driving { IsDriving S.may self.new }
-        ensures same { IsSameSystem self.old self.new }
-        ensures answer { StepAnswers (plan_of self.old) number result (site_of self.old) (site_of self.new) }
-        ensures step { WorkerSteps S.may (plan_of self.old) number pick result (site_of self.old) (site_of self.new) }
-        ensures reading { ReadsOver (plan_of self.old) self.old.environment (R.remaining input.old) self.new.environment (R.remaining input.new) }
-        ensures writing { WritesOver (plan_of self.old) self.old.environment (W.contents output.old) self.new.environment (W.contents output.new) }
+        ensures same { IsSameSystem self.old.system self.new.system }
+        ensures answer { StepAnswers (plan_of self.old.system) number result (site_of self.old) (site_of self.new) }
+        ensures step { WorkerSteps S.may (plan_of self.old.system) number pick result (site_of self.old) (site_of self.new) }
+        ensures reading { ReadsOver (plan_of self.old.system) self.old.environment (R.remaining input.old) self.new.environment (R.remaining input.new) }
+        ensures writing { WritesOver (plan_of self.old.system) self.old.environment (W.contents output.old) self.new.environment (W.contents output.new) }
     {
         let number = number as usize;
-        let blocks = self.blocks.len();
+        let blocks = self.system.blocks.len();
         if number < blocks {
             return self.step_block(number, pick);
         }
@@ -152,12 +146,12 @@ impl<S: Agents, K: Keeps> Driver<S, K> {
         requires driving { IsDriving S.may self.old }
         requires free { free ≡ true → AllFree (site_of self.old) }
         ensures driving { IsDriving S.may self.new }
-        ensures same { IsSameSystem self.old self.new }
-        ensures answer { RoundAnswers (plan_of self.old) result (site_of self.old) (site_of self.new) }
-        ensures steps { StepsThrough S.may (plan_of self.old) (workers_below (length (workers_of (plan_of self.old)))) (refused_in result) (site_of self.old) (site_of self.new) }
+        ensures same { IsSameSystem self.old.system self.new.system }
+        ensures answer { RoundAnswers (plan_of self.old.system) result (site_of self.old) (site_of self.new) }
+        ensures steps { StepsThrough S.may (plan_of self.old.system) (workers_below (length (workers_of (plan_of self.old.system)))) (refused_in result) (site_of self.old) (site_of self.new) }
         ensures free { refused_in result ≡ None → free ≡ true → AllFree (site_of self.new) }
-        ensures reading { ReadsOver (plan_of self.old) self.old.environment (R.remaining input.old) self.new.environment (R.remaining input.new) }
-        ensures writing { WritesOver (plan_of self.old) self.old.environment (W.contents output.old) self.new.environment (W.contents output.new) }
+        ensures reading { ReadsOver (plan_of self.old.system) self.old.environment (R.remaining input.old) self.new.environment (R.remaining input.new) }
+        ensures writing { WritesOver (plan_of self.old.system) self.old.environment (W.contents output.old) self.new.environment (W.contents output.new) }
     {
         let workers = self.workers();
         let mut did = false;
@@ -177,11 +171,11 @@ impl<S: Agents, K: Keeps> Driver<S, K> {
     fn settle<R: Read, W: Write>(&mut self, input: &mut R, output: &mut W) -> Option<u32>
         requires driving { IsDriving S.may self.old }
         ensures driving { IsDriving S.may self.new }
-        ensures same { IsSameSystem self.old self.new }
-        ensures answer { MatchOption result (IsIdle (site_of self.new)) (λ w. w < length (workers_of (plan_of self.old))) }
-        ensures steps { Settles S.may (plan_of self.old) result (site_of self.old) (site_of self.new) }
-        ensures reading { ReadsOver (plan_of self.old) self.old.environment (R.remaining input.old) self.new.environment (R.remaining input.new) }
-        ensures writing { WritesOver (plan_of self.old) self.old.environment (W.contents output.old) self.new.environment (W.contents output.new) }
+        ensures same { IsSameSystem self.old.system self.new.system }
+        ensures answer { MatchOption result (IsIdle (site_of self.new)) (λ w. w < length (workers_of (plan_of self.old.system))) }
+        ensures steps { Settles S.may (plan_of self.old.system) result (site_of self.old) (site_of self.new) }
+        ensures reading { ReadsOver (plan_of self.old.system) self.old.environment (R.remaining input.old) self.new.environment (R.remaining input.new) }
+        ensures writing { WritesOver (plan_of self.old.system) self.old.environment (W.contents output.old) self.new.environment (W.contents output.new) }
     {
         let free = self.are_free();
         let places = Places::of(self.forwarders.as_slice());
@@ -203,12 +197,12 @@ impl<S: Agents, K: Keeps> Driver<S, K> {
     ) -> Option<u32>
         requires driving { IsDriving S.may self.old }
         ensures driving { IsDriving S.may self.new }
-        ensures same { IsSameSystem self.old self.new }
-        ensures answer { MatchOption result (IsIdle (site_of self.new)) (λ w. w < length (workers_of (plan_of self.old))) }
+        ensures same { IsSameSystem self.old.system self.new.system }
+        ensures answer { MatchOption result (IsIdle (site_of self.new)) (λ w. w < length (workers_of (plan_of self.old.system))) }
         // A refusal ends it: no step is made after it.
-        ensures run { Runs S.may (plan_of self.old) schedule.now result (site_of self.old) (site_of self.new) }
-        ensures reading { ReadsOver (plan_of self.old) self.old.environment (R.remaining input.old) self.new.environment (R.remaining input.new) }
-        ensures writing { WritesOver (plan_of self.old) self.old.environment (W.contents output.old) self.new.environment (W.contents output.new) }
+        ensures run { Runs S.may (plan_of self.old.system) schedule.now result (site_of self.old) (site_of self.new) }
+        ensures reading { ReadsOver (plan_of self.old.system) self.old.environment (R.remaining input.old) self.new.environment (R.remaining input.new) }
+        ensures writing { WritesOver (plan_of self.old.system) self.old.environment (W.contents output.old) self.new.environment (W.contents output.new) }
     {
         let workers = self.workers();
         for number in schedule {

@@ -8,7 +8,9 @@ pub mod parked;
 mod passing;
 mod places;
 mod stopping;
+pub mod system;
 
 pub use closing::{Closing, StartFault};
 pub use driver::{Driver, Round};
 pub use parked::Parked;
+pub use system::System;

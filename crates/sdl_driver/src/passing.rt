@@ -5,7 +5,8 @@ ghost use Rattle.sdl_forward.specs.Boards.{waiting};
 ghost use Rattle.sdl_forward.specs.Forwards.{Forwarding};
 ghost use Rattle.sdl_hand.specs.declared.hand.Stepped.TheVariants.{Idle};
 ghost use Rattle.sdl_outcome.specs.Plan.{workers_of};
-ghost use Rattle.sdl_driver.specs.Drivers.{site_of, plan_of, IsDriving, AllFree, AreByChannel, IsIdleAt};
+ghost use Rattle.sdl_driver.specs.Drivers.{site_of, IsDriving, AllFree, AreByChannel, IsIdleAt};
+ghost use Rattle.sdl_driver.specs.Systems.{plan_of};
 ghost use Rattle.sdl_driver.specs.Runs.{WorkerSteps};
 
 use crate::driver::Driver;
@@ -52,13 +53,13 @@ impl<S: Agents, K: Keeps> Driver<S, K> {
     /// waits are passed over, since a step of theirs does nothing.
     pub(crate) fn next_worker(&self, number: u32, free: bool, places: &Places) -> u32
         requires driving { IsDriving S.may self.now }
-        requires within { number ≤ length (workers_of (plan_of self.now)) }
+        requires within { number ≤ length (workers_of (plan_of self.now.system)) }
         requires free { free ≡ true → AllFree (site_of self.now) }
         ensures from { number ≤ result }
-        ensures within { result ≤ length (workers_of (plan_of self.now)) }
-        ensures passed { (n : ℕ) → number ≤ n → n < result → WorkerSteps S.may (plan_of self.now) n 0 Idle (site_of self.now) (site_of self.now) × IsIdleAt (site_of self.now) n }
+        ensures within { result ≤ length (workers_of (plan_of self.now.system)) }
+        ensures passed { (n : ℕ) → number ≤ n → n < result → WorkerSteps S.may (plan_of self.now.system) n 0 Idle (site_of self.now) (site_of self.now) × IsIdleAt (site_of self.now) n }
     {
-        let first = self.blocks.len() + 1;
+        let first = self.system.blocks.len() + 1;
         let place = number as usize;
         if !free || place < first {
             return number;

@@ -1,13 +1,12 @@
 //! What a run leaves where its driver stops.
 ghost use Rattle.std.specs.Prelude.{◌≡◌, ℕ, List, Option, ◌+◌, ◌<◌, [], length, map, MatchOption};
-ghost use Rattle.sdl_transition.specs.Bound.{AreOneSystem};
-ghost use Rattle.sdl_block.specs.Workers.{behaviours_of};
 ghost use Rattle.sdl_outcome.specs.Plan.{blocks_in, workers_of};
 ghost use Rattle.sdl_outcome.specs.EnvironmentWork.{HasReadSoFar, HasWrittenSoFar};
 ghost use Rattle.sdl_order.specs.Driver.{IsIdle, outcome_of};
-ghost use Rattle.sdl_driver.specs.Closings.{HasRoom, IsSystemOf, HasReadIn, HasWrittenIn, StopsByMemory, NamesRefused, outcome_in};
+ghost use Rattle.sdl_driver.specs.Closings.{HasRoom, HasReadIn, HasWrittenIn, StopsByMemory, NamesRefused, outcome_in};
 ghost use Rattle.sdl_driver.specs.Ended.{HasEnded};
-ghost use Rattle.sdl_driver.specs.Drivers.{site_of, plan_of, IsDriving};
+ghost use Rattle.sdl_driver.specs.Drivers.{site_of, IsDriving};
+ghost use Rattle.sdl_driver.specs.Systems.{plan_of, IsOneSystem, IsSystemOf};
 
 use crate::closing::{Closing, Room};
 use crate::driver::Driver;
@@ -19,36 +18,24 @@ impl<S: Agents, K: Keeps> Driver<S, K> {
     /// Takes the driver apart where the run stops. The worker is the one that was refused memory.
     pub fn close(self, room: Room<S, K>, refused: Option<u32>) -> Closing<S, K>
         requires driving { IsDriving S.may self }
-        requires system { AreOneSystem S.may self.checked self.routes (map behaviours_of self.blocks.items) }
-        requires room { HasRoom (length self.blocks.items) (length self.blocks.items + (length self.forwarders.items + 1)) room }
+        requires system { IsOneSystem S.may self.system }
+        requires room { HasRoom (length self.system.blocks.items) (length self.system.blocks.items + (length self.forwarders.items + 1)) room }
         requires empty { (room.parts.items ≡ []) × (room.logs.items ≡ []) × (room.hands.items ≡ []) }
-        requires refused { MatchOption refused (IsIdle (site_of self)) (λ w. w < length (workers_of (plan_of self))) }
-        ensures ended { HasEnded S.may (plan_of self) (outcome_in K.events result) result.end result.ledger }
+        requires refused { MatchOption refused (IsIdle (site_of self)) (λ w. w < length (workers_of (plan_of self.system))) }
+        ensures ended { HasEnded S.may (plan_of self.system) (outcome_in K.events result) result.end result.ledger }
         // What the environment has read and written by then is all that it reads and writes.
-        ensures reading { (start now : Option (List ℕ)) → HasReadSoFar self.checked self.routes (blocks_in (plan_of self)) start now self.environment → HasReadIn (plan_of self) start now result }
-        ensures writing { (start now : Option (List ℕ)) → HasWrittenSoFar self.checked self.routes (blocks_in (plan_of self)) start now self.environment → HasWrittenIn (plan_of self) start now result }
+        ensures reading { (start now : Option (List ℕ)) → HasReadSoFar self.system.checked self.system.routes (blocks_in (plan_of self.system)) start now self.environment → HasReadIn (plan_of self.system) start now result }
+        ensures writing { (start now : Option (List ℕ)) → HasWrittenSoFar self.system.checked self.system.routes (blocks_in (plan_of self.system)) start now self.environment → HasWrittenIn (plan_of self.system) start now result }
         ensures stopped { StopsByMemory result.input result.end }
         ensures left { outcome_in K.events result ≡ outcome_of (site_of self) }
         ensures refusal { NamesRefused result.end refused }
-        ensures bound { IsSystemOf self result.bound }
+        ensures bound { IsSystemOf self.system result.bound }
     {
-        let Driver {
-            checked,
-            routes,
-            blocks,
-            environment,
-            forwarders,
-            board,
-            budget,
-        } = self;
         let parked = Parked {
-            checked,
-            routes,
-            blocks,
-            environment,
-            forwarders,
-            rests: board.into_rests(),
-            budget,
+            system: self.system,
+            environment: self.environment,
+            forwarders: self.forwarders,
+            rests: self.board.into_rests(),
         };
         parked.close(room, refused)
     }

@@ -1,5 +1,5 @@
 //! The ends of one worker.
-ghost use Rattle.std.specs.Prelude.{◌≡◌, ◌≢◌, ◌↔◌, ◌<◌, [], ◌∷◌, ◌++◌, None, Some, map, IfOk, IsTrue, MatchOption, MatchResult};
+ghost use Rattle.std.specs.Prelude.{◌≡◌, ◌≢◌, ◌↔◌, ◌<◌, [], ◌∷◌, ◌++◌, None, Some, map, IfOk, IsTrue, MatchOption};
 ghost use Rattle.sdl_routes.specs.declared.route.Station.{Station};
 ghost use Rattle.sdl_routes.specs.Routes.{EachOnce};
 ghost use Rattle.sdl_ring.specs.RingEnds.{IsPutFrom};
@@ -70,20 +70,6 @@ impl Ends {
         })
     }
 
-    /// Takes the item at the front of the worker's station. `None` where it was empty at some moment of the call, and for a
-    /// worker that takes from none. Takes no memory. May wait for other threads.
-    #[inline(always)]
-    pub fn take<R: Wait>(&mut self, rt: &R) -> Option<Item>
-        ensures taken { MatchOption result (taken_by self.new ≡ taken_by self.old) (λ item. taken_by self.new ≡ taken_by self.old ++ item ∷ []) }
-        ensures feeds { self.new.feeds ≡ self.old.feeds }
-        ensures none { self.old.tap ≡ None → result ≡ None }
-        ensures same { IsSameEnds self.old self.new }
-    {
-        let mut slot = None;
-        self.take_into(rt, &mut slot);
-        slot
-    }
-
     /// Takes the item at the front of the worker's station into the slot, which is empty. It stays empty where the station was
     /// empty at some moment of the call, and for a worker that takes from none. Takes no memory. May wait for other threads.
     #[inline(always)]
@@ -108,26 +94,6 @@ impl Ends {
             return false;
         };
         self.feeds[place].1.is_some()
-    }
-
-    /// Puts the item at the station, where the worker has a feed. `Err` hands it back where memory was refused; nothing is put
-    /// then. May wait for other threads.
-    #[inline(always)]
-    pub fn put<R: Wait>(&mut self, rt: &R, station: Station, item: Item) -> Result<(), Item>
-        requires { HasFeed self.old station }
-        ensures put { MatchResult result
-            (λ _. put_at self.new station ≡ put_at self.old station ++ item ∷ [])
-            (λ back. (back ≡ item) × (put_at self.new station ≡ put_at self.old station)) }
-        ensures others { (s : Station) → s ≢ station → put_at self.new s ≡ put_at self.old s }
-        ensures tap { self.new.tap ≡ self.old.tap }
-        ensures same { IsSameEnds self.old self.new }
-    {
-        let mut slot = Some(item);
-        self.put_from(rt, station, &mut slot);
-        match slot {
-            None => Ok(()),
-            Some(back) => Err(back),
-        }
     }
 
     /// Puts the item of the slot, where it has one, at the station, where the worker has a feed, and leaves the slot empty. Where

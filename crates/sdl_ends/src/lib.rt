@@ -1,6 +1,7 @@
 //! The ends of one worker, by station, and how the ends of all workers come back.
 #![tactic(auto)]
 
+mod by_value;
 pub mod ends;
 pub mod index;
 pub mod marks;

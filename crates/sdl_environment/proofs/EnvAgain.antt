@@ -1,6 +1,6 @@
 -- The environment before its first step, and after each step.
-use Rattle.std.proofs.Common.{ℕ, List, [], ◌++◌, Option, None, Some, All, length, ap, sym, ◌∙◌, subst, arith}
-use Rattle.std.proofs.lemmas.List.Elements.{All-append, All-nil, All-from_recursion, recursion_from_All}
+use Rattle.std.proofs.Common.{ℕ, List, [], ◌++◌, Option, None, Some, All, sym, subst}
+use Rattle.std.proofs.lemmas.List.Elements.{All-append, All-from_recursion, recursion_from_All}
 use Rattle.sdl_signal.specs.declared.values.Item.{Item}
 use Rattle.sdl_signal.specs.declared.ends.InputEnd.{InputEnd}
 use Rattle.sdl_signal.specs.declared.ends.OutputEnd.{OutputEnd}
@@ -15,7 +15,7 @@ use Rattle.sdl_forward.specs.Boards.{waiting}
 use Rattle.sdl_hand.specs.declared.hand.Stepped.{Stepped}
 use Rattle.sdl_hand.specs.declared.hand.Stepped.TheVariants.{Did, Idle, Memory}
 use Rattle.sdl_hand.specs.Work.{beginning_at}
-use Rattle.sdl_outcome.specs.EnvironmentWork.{EnvWorking, IsEnvFresh, IsEnvSound, IsLegalItem, GoesOut, ComesIn, AreOutputsOf, EnvWorks, EnvStepsAs, HasReadSoFar, HasWrittenSoFar, HasWritten, received_text, env_sent}
+use Rattle.sdl_outcome.specs.EnvironmentWork.{EnvWorking, IsEnvFresh, IsEnvSound, IsLegalItem, GoesOut, AreOutputsOf, EnvWorks, EnvStepsAs, HasReadSoFar, HasWrittenSoFar, HasWritten, received_text, env_sent}
 use Rattle.sdl_outcome.proofs.Lists.{all_front, all_end}
 use Rattle.sdl_environment.proofs.EnvLegal.{begins_out}
 use Rattle.sdl_environment.proofs.EnvWriting.{written_none}
@@ -31,17 +31,6 @@ fresh_written structure rows worker start w fresh =
     let P : OutputEnd → Type 0 = λ e. HasWritten start start (received_text (lexicon_of structure) rows w.received) e in
     let Q : List Item → Type 0 = λ items. HasWritten start start (received_text (lexicon_of structure) rows items) output.Whole in
     subst P (sym fresh.output) (subst Q (sym fresh.received) (written_none start))
-
-pub fresh_sound : (structure : Structure) (rows : List TableRow) (worker : ℕ) (w : EnvWorking) → IsEnvFresh worker w → IsEnvSound structure rows worker w
-fresh_sound structure rows worker w fresh =
-    record {
-      number = fresh.number;
-      legal = subst (All (IsLegalItem structure rows worker)) (sym fresh.outgoing) (All-nil (IsLegalItem structure rows worker));
-      coming = subst (All (ComesIn rows)) (sym fresh.outgoing) (All-nil (ComesIn rows));
-      few = omega (arith, fresh.none);
-      one = let z = ap length fresh.outgoing in omega (arith, z);
-      counted = ap length fresh.put ∙ sym fresh.none;
-    }
 
 module _ (structure : Structure) (rows : List TableRow) (worker : ℕ) (old : EnvWorking) (before : List (Station × List Item)) (new : EnvWorking) (after : List (Station × List Item)) where
   -- after each step the next one can be made

@@ -1,10 +1,9 @@
 -- What the steps of the environment keep where each queue has ends of its own.
-use Rattle.std.proofs.Common.{◌≡◌, ℕ, ◌+◌, inl, List, [], ◌∷◌, ◌++◌, Option, None, Some, All, length, refl, ap, sym, ◌∙◌, subst, append_assoc, append-nil, arith}
+use Rattle.std.proofs.Common.{◌≡◌, ℕ, ◌+◌, inl, List, [], ◌++◌, Option, None, Some, All, length, refl, ap, sym, ◌∙◌, subst, append_assoc, append-nil, arith}
 use Rattle.std.specs.Option.{option_to_list}
 use Rattle.std.proofs.lemmas.Option.{none-some}
 use Rattle.std.proofs.lemmas.List.{length-map, map-append}
 use Rattle.std.proofs.lemmas.List.Elements.{All-nil, All-append}
-use Rattle.sdl_signal.specs.declared.values.Origin.{Origin}
 use Rattle.sdl_signal.specs.declared.values.Item.{Item}
 use Rattle.sdl_parts.specs.Structure.{Structure}
 use Rattle.sdl_routes.specs.declared.route.TableRow.{TableRow}
@@ -17,14 +16,10 @@ use Rattle.sdl_hand.specs.Apart.{AreFresh}
 use Rattle.sdl_hand.proofs.Fronts.{beginning-append}
 use Rattle.sdl_outcome.specs.declared.environment_output.EnvOut.{EnvOut}
 use Rattle.sdl_outcome.specs.EnvironmentWork.{EnvWorking, IsEnvFresh, IsEnvSound, IsLegalItem, GoesOut, ComesIn, AreCounted, origin_of, env_origins, env_sent}
+use Rattle.sdl_outcome.proofs.Environment.{counted_append, fresh_sound}
 use Rattle.sdl_environment.specs.EnvApart.{HasGateWays, EnvWorksApart, EnvStepsApart, IsEnvPuttingOut}
-use Rattle.sdl_environment.proofs.EnvAgain.{fresh_sound}
 use Rattle.sdl_environment.proofs.EnvPieces.{sent-append}
 use Rattle.sdl_forward.specs.ByEnds.{has_feed_still}
-
-counted_append : (w n : ℕ) (os ps : List Origin) → AreCounted w n os → AreCounted w (n + length os) ps → AreCounted w n (os ++ ps)
-counted_append w n [] ps h k = subst (λ (m : ℕ). AreCounted w m ps) (omega arith) k
-counted_append w n (o ∷ os) ps h k = (h.0, h.1, counted_append w (n + 1) os ps h.2 (subst (λ (m : ℕ). AreCounted w m ps) (omega arith) k))
 
 module _ (s : Structure) (rows : List TableRow) (worker : ℕ) where
   counted_on : (old outs : List EnvOut) → AreCounted worker 0 (env_origins old) → AreCounted worker (length old) (env_origins outs) → AreCounted worker 0 (env_origins (old ++ outs))

@@ -1,11 +1,12 @@
 -- What the parts of a step of the environment do to it.
 use Rattle.std.proofs.Common.{◌≡◌, ◌≢◌, ℕ, ◌+◌, ◌≤◌, inl, inr, Bool, true, false, Result, Ok, Err, List, [], ◌∷◌, ◌++◌, None, Some, length, All, refl, ap, sym, ◌∙◌, subst, append_assoc, append-nil, length-append, arith}
 use Rattle.std.proofs.lemmas.List.Concat.{flat_map-append}
-use Rattle.std.proofs.lemmas.List.Elements.{All-append, All-nil, All-tail}
+use Rattle.std.proofs.lemmas.List.Elements.{All-append, All-nil}
 use Rattle.sdl_signal.specs.declared.values.Item.{Item}
 use Rattle.sdl_parts.specs.Structure.{Structure, lexicon_of}
 use Rattle.sdl_routes.specs.declared.route.TableRow.{TableRow}
 use Rattle.sdl_hand.specs.declared.hand.Refused.{Refused}
+use Rattle.sdl_hand.proofs.Through.{all_behind}
 use Rattle.sdl_outcome.specs.declared.environment_output.EnvOut.{EnvOut}
 use Rattle.sdl_outcome.specs.declared.environment_output.EnvOut.TheVariants as env_out
 use Rattle.sdl_outcome.specs.EnvironmentWork.{EnvWorking, IsEnvSound, IsLegalItem, ComesIn, ReadsOn, AreCounted, IsOutputOf, origin_of, env_origins, env_sent, sent_of}
@@ -19,15 +20,6 @@ same_noted old new same = subst (λ (w : EnvWorking). w ≡ record old { receive
 -- the environment with another hand
 abbrev pub holding : EnvWorking → List Item → EnvWorking
 holding w items = record w { outgoing = items }
-
-pub all_behind : {X : Type 0} (P : X → Type 0) (xs ys : List X) → All P (xs ++ ys) → All P ys
-all_behind P [] ys h = h
-all_behind P (x ∷ xs) ys h = all_behind P xs ys (All-tail P x (xs ++ ys) h)
-
--- two parts of what goes through, one behind the other: what was, with what came in, is what went out, with what is
-pub through : {X : Type 0} (was in1 out1 mid in2 out2 is : List X) → was ++ in1 ≡ out1 ++ mid → mid ++ in2 ≡ out2 ++ is → was ++ (in1 ++ in2) ≡ (out1 ++ out2) ++ is
-through was in1 out1 mid in2 out2 is h k =
-    sym (append_assoc was in1 in2) ∙ ap (λ l. l ++ in2) h ∙ append_assoc out1 mid in2 ∙ ap (λ l. out1 ++ l) k ∙ sym (append_assoc out1 out2 is)
 
 pub grown : {X : Type 0} (old one mid two new : List X) → mid ≡ old ++ one → new ≡ mid ++ two → new ≡ old ++ (one ++ two)
 grown old one mid two new a b = b ∙ ap (λ l. l ++ two) a ∙ append_assoc old one two

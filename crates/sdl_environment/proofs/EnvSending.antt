@@ -1,6 +1,6 @@
 -- The first parts of a step of the environment, over any queues: what is in hand is put out, a line is read, and what its output
 -- sends is put out.
-use Rattle.std.proofs.Common.{◌≡◌, ℕ, ◌+◌, ◌||◌, inl, inr, Bool, true, false, Result, Ok, Err, List, [], ◌∷◌, ◌++◌, Option, Some, IfOk, option_and_then, slice_get, All, length, refl, ap, sym, ◌∙◌, subst, append-nil, true≢false}
+use Rattle.std.proofs.Common.{◌≡◌, ℕ, ◌+◌, ◌||◌, inl, inr, Bool, true, false, Result, Ok, Err, List, [], ◌++◌, Option, Some, IfOk, option_and_then, slice_get, All, length, refl, ap, sym, ◌∙◌, subst, append-nil, true≢false}
 use Rattle.std.specs.Result.{IsErr}
 use Rattle.std.proofs.lemmas.List.Elements.{All-weaker}
 use Rattle.sdl_signal.specs.declared.values.Item.{Item}
@@ -17,12 +17,9 @@ use Rattle.sdl_outcome.specs.declared.environment_output.EnvOut.{EnvOut}
 use Rattle.sdl_outcome.specs.EnvironmentWork.{EnvWorking, IsEnvSound, ComesIn, AreCounted, env_origins, env_sent}
 use Rattle.sdl_environment.specs.EnvPhases.{Reads}
 use Rattle.sdl_environment.specs.EnvSends.{HasWaysIn, Sends, SendsNothing, SendsTo, SentOn}
-use Rattle.sdl_environment.proofs.EnvPieces.{holding, through, grown, sent-append, put_sound, Readings, no_readings, ReadPart, read_part}
+use Rattle.sdl_hand.proofs.Through.{through, nil_left}
+use Rattle.sdl_environment.proofs.EnvPieces.{holding, grown, sent-append, put_sound, Readings, no_readings, ReadPart, read_part}
 use Rattle.sdl_environment.proofs.EnvNext.{line_next, read_around}
-
-nil_left : {X : Type 0} (xs ys : List X) → xs ++ ys ≡ [] → xs ≡ []
-nil_left [] ys e = refl
-nil_left (x ∷ xs) ys e = cc
 
 module _ {B : Type 0} (q : Relations B) (rows : List TableRow) where
   -- what comes from the environment can be put

@@ -200,7 +200,7 @@ impl EnvWorker {
         ensures put { PutsOutBy Q.relations routes.now self.old.outgoing queues.old result self.new.outgoing queues.new }
         ensures rest { self.new ≡ record self.old { outgoing = self.new.outgoing } }
     {
-        self.hand.put_out_over(rt, routes, queues)
+        self.hand.put_out(rt, routes, queues)
     }
 
     /// Reads a line, unless the reading has ended, and outputs its signal. It says whether the reading went on.

@@ -1,12 +1,12 @@
 //! Which items may leave through the outlet.
 ghost use Rattle.std.specs.Prelude.{◌≡◌, ◌↔◌, IsTrue, Some, length, map, slice_get};
 ghost use Rattle.sdl_signal.specs.Sorts.{sort_of};
-ghost use Rattle.sdl_instances.specs.Arriving.{IsCarried};
 ghost use Rattle.sdl_instances.specs.Core.{signals_of, sets_of};
 ghost use Rattle.sdl_instances.specs.Legal.{IsLegal};
 ghost use Rattle.sdl_outcome.specs.EnvironmentWork.{GoesOut};
 
 use sdl_behaviour::legality::{are_legal, is_legal_pid, names_legal};
+use sdl_instances::arriving::is_carried;
 use sdl_parts::{SignalDecl, Structure};
 use sdl_routes::{EndPoint, Routes};
 use sdl_signal::{Item, Signal, Value};
@@ -41,16 +41,6 @@ fn may_travel(structure: &Structure, routes: &Routes, item: &Item) -> bool
         && are_legal(sets, item.signal.params.as_slice())
         && is_legal_pid(sets, item.sender)
         && names_legal(sets, item.to)
-}
-
-/// Whether the item's route is there, and of the item's signal.
-fn is_carried(routes: &Routes, item: &Item) -> bool
-    ensures { IsTrue result ↔ IsCarried routes.now item.now }
-{
-    match routes.get(item.route) {
-        Some(route) => route.signal == item.signal.id,
-        None => false,
-    }
 }
 
 /// Whether the signal is there, with the sorts of these parameters.

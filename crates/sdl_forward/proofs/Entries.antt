@@ -6,7 +6,7 @@ use Rattle.std.proofs.lemmas.Option.{same_Some, get_or_from_slice_get, slice_get
 use Rattle.sdl_signal.specs.declared.values.Item.{Item}
 use Rattle.sdl_routes.specs.declared.route.Station.{Station}
 use Rattle.sdl_routes.specs.Routes.{EachOnce}
-use Rattle.sdl_ends.proofs.Places.{one_at}
+use Rattle.sdl_ends.proofs.Places.{one_at, stations_get}
 use Rattle.sdl_queue.specs.declared.rest.Rest.{Rest}
 use Rattle.sdl_queue.specs.declared.rest.Rest.TheVariants.{Serial, Ruled, Ring}
 use Rattle.sdl_queue.specs.Ends.{Account}
@@ -37,11 +37,6 @@ set_same (y ∷ xs) (suc k) x at = ap (λ zs. y ∷ zs) (set_same xs k x at)
 pub stations-lists : (rests : List (Station × Rest)) → stations_of (lists_of rests) ≡ stations_of rests
 stations-lists [] = refl
 stations-lists (r ∷ rests) = ap (λ ss. r.0 ∷ ss) (stations-lists rests)
-
-pub stations_get : {X : Type 0} (es : List (Station × X)) (k : ℕ) (e : Station × X) → slice_get es k ≡ Some e → slice_get (stations_of es) k ≡ Some e.0
-stations_get [] k e at = let f : None ≡ Some e = at in cc
-stations_get (x ∷ es) zero e at = ap (λ y. Some y.0) (same_Some x e at)
-stations_get (x ∷ es) (suc k) e at = stations_get es k e at
 
 pub stations_set : {X : Type 0} (es : List (Station × X)) (k : ℕ) (old new : Station × X) → slice_get es k ≡ Some old → new.0 ≡ old.0 → stations_of (slice_set es k new) ≡ stations_of es
 stations_set [] k old new at same = refl

@@ -1,6 +1,5 @@
 pub mod Same
 pub mod Entries
-pub mod Collected
 pub mod Places
 pub mod Adopted
 pub mod Fresh

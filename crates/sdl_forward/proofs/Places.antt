@@ -1,28 +1,12 @@
 -- Places of stations in a list; stations in order stand each once.
-use Rattle.std.proofs.Common.{◌≡◌, ◌≢◌, ℕ, ◌+◌, ◌<◌, ◌≤◌, List, [], ◌∷◌, length, Some, Contains, slice_get, get_or, option_map, Bool, true, false, refl, ap, sym, ◌∙◌, subst, arith, below_more}
+use Rattle.std.proofs.Common.{◌≡◌, ◌≢◌, ℕ, ◌+◌, ◌<◌, ◌≤◌, List, length, Some, Contains, slice_get, get_or, option_map, Bool, true, false, refl, ap, sym, ◌∙◌, subst, arith, below_more}
 use Rattle.std.proofs.lemmas.Bool.{false≢true}
 use Rattle.std.proofs.lemmas.List.{length-map}
 use Rattle.std.proofs.lemmas.Option.{same_Some, slice_get-get_or, slice_get_read, slice_get-map}
-use Rattle.std.specs.List.{AllByRecursion}
 use Rattle.sdl_routes.specs.declared.route.Station.{Station}
-use Rattle.sdl_routes.specs.declared.route.Station.TheVariants.{Line, Inlet, Outlet}
-use Rattle.sdl_routes.specs.Routes.{EachOnce}
-use Rattle.sdl_forward.proofs.Collected.{station_eq, derived_eq}
+use Rattle.sdl_opening.proofs.Collected.{station_eq, derived_eq}
 use Rattle.sdl_forward.proofs.Same.{same_station_itself}
-use Rattle.sdl_forward.specs.Boards.{same_station, stations_of, IsStationBefore, AreStationsInOrder}
-
-not_before_itself : (s : Station) → IsStationBefore s s → ⊥
-not_before_itself (Line h) b = omega arith
-not_before_itself (Inlet n) b = omega arith
-not_before_itself Outlet b = b
-
-apart_from_later : (s : Station) (ss : List Station) → AllByRecursion (IsStationBefore s) ss → AllByRecursion (λ t. s ≢ t) ss
-apart_from_later s [] all = tt
-apart_from_later s (t ∷ ss) all = (λ e. not_before_itself s (subst (IsStationBefore s) (sym e) all.0), apart_from_later s ss all.1)
-
-pub once_in_order : (ss : List Station) → AreStationsInOrder ss → EachOnce ss
-once_in_order [] order = tt
-once_in_order (s ∷ ss) order = (apart_from_later s ss order.0, once_in_order ss order.1)
+use Rattle.sdl_forward.specs.Boards.{same_station, stations_of}
 
 -- no station before a place is the one sought
 module _ {X : Type 0} (es : List (Station × X)) (s : Station) where

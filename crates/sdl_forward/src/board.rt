@@ -1,5 +1,5 @@
 //! A board: the queues of all stations, on one thread.
-ghost use Rattle.std.specs.Prelude.{◌≡◌, ◌<◌, ◌≤◌, List, [], ◌∷◌, ◌++◌, Some, Contains, ⊤, map, IfOk, MatchBool, MatchResult, MatchOption};
+ghost use Rattle.std.specs.Prelude.{◌≡◌, ◌<◌, ◌≤◌, List, [], ◌∷◌, ◌++◌, Some, Contains, ⊤, map, IfOk, MatchBool, MatchOption};
 ghost use Rattle.sdl_queue.specs.declared.rest.Rest.TheVariants.{Serial};
 ghost use Rattle.sdl_routes.specs.declared.route.Hop.{Hop};
 ghost use Rattle.sdl_routes.specs.declared.route.Station.{Station};
@@ -62,23 +62,6 @@ impl Board {
         let hints = Hints::of(rests.as_slice());
         let busy = Busy::of(rests.as_slice());
         Board { rests, hints, busy }
-    }
-
-    /// Puts the item at the back of the station, which is one of the board's. Where memory is refused, the item comes back and
-    /// the board is as it was.
-    pub fn put(&mut self, station: Station, item: Item) -> Result<(), (Item, AllocError)>
-        requires { Contains (stations_of self.old) station }
-        ensures put { MatchResult result
-            (λ _. waiting self.new station ≡ waiting self.old station ++ item ∷ [])
-            (λ back. (back.0 ≡ item) × (self.new ≡ self.old)) }
-        ensures others { ChangesOnly self.old self.new station }
-    {
-        let mut slot = Some(item);
-        self.put_from(station, &mut slot);
-        match slot {
-            None => Ok(()),
-            Some(back) => Err((back, AllocError)),
-        }
     }
 
     /// Puts the item of the slot, where it has one, at the back of the station, which is one of the board's, and leaves the slot

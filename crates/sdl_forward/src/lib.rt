@@ -4,6 +4,7 @@
 mod adopting;
 pub mod board;
 mod busy;
+mod by_value;
 pub mod forwarder;
 mod hints;
 pub mod laws;

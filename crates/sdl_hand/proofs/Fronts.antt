@@ -6,18 +6,14 @@ use Rattle.sdl_signal.specs.declared.values.Item.{Item}
 use Rattle.sdl_routes.specs.declared.route.TableRow.{TableRow}
 use Rattle.sdl_routes.specs.declared.route.Station.{Station}
 use Rattle.sdl_routes.specs.Routes.{FollowsIn}
-use Rattle.sdl_forward.specs.Boards.{waiting}
 use Rattle.sdl_forward.specs.Queues.{Relations, nothing, one_at, with_more}
 use Rattle.sdl_hand.specs.declared.hand.Refused.{Refused}
 use Rattle.sdl_hand.specs.Work.{beginning_at, first_station, is_station}
-use Rattle.sdl_hand.specs.Puts.{AreRouted, IsRouted, Puts}
+use Rattle.sdl_hand.specs.Puts.{AreRouted, IsRouted}
 use Rattle.sdl_hand.specs.PutsBy.{CanPutOut, PutsFirsts, PutsOutBy}
 
 pub beginning-append : (rows : List TableRow) (s : Station) (xs ys : List Item) → beginning_at rows s (xs ++ ys) ≡ beginning_at rows s xs ++ beginning_at rows s ys
 beginning-append rows s xs ys = filter-append (λ i. is_station s (first_station rows i)) xs ys
-
-pub put_none : (rows : List TableRow) (before : List (Station × List Item)) → Puts rows before [] before
-put_none rows before = record { each = λ s. sym (append-nil (waiting before s)); stations = refl }
 
 -- the front one of the items goes on by its route
 

@@ -1,3 +1,3 @@
 pub mod Fronts
-pub mod FrontsApart
 pub mod Sides
+pub mod Through

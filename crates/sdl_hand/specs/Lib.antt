@@ -1,5 +1,4 @@
 pub mod Work
 pub mod Puts
 pub mod PutsBy
-pub mod PutsApart
 pub mod Apart

@@ -2,59 +2,20 @@
 ghost use Rattle.std.specs.Prelude.{◌≡◌, ◌≢◌, ◌<◌, ◌≤◌, ◌∷◌, [], Some, length, IfErr, MatchResult};
 ghost use Rattle.sdl_signal.specs.declared.values.Item.{Item};
 ghost use Rattle.sdl_routes.specs.declared.route.Station.{Station};
-ghost use Rattle.sdl_ends.specs.Ends.{IsSameEnds};
-ghost use Rattle.sdl_forward.specs.Boards.{IsBoardOf};
 ghost use Rattle.sdl_forward.specs.Queues.{nothing, one_at};
 ghost use Rattle.sdl_hand.specs.Work.{first_station};
-ghost use Rattle.sdl_hand.specs.Puts.{AreRouted, PutsOut};
+ghost use Rattle.sdl_hand.specs.Puts.{AreRouted};
 ghost use Rattle.sdl_hand.specs.PutsBy.{CanPutOut, PutsOutBy};
-ghost use Rattle.sdl_hand.specs.PutsApart.{HaveWaysOut, PutsOutApart};
 
 use crate::hand::{Hand, Refused};
-use sdl_ends::Ends;
-use sdl_forward::Board;
 use sdl_forward::queues::Queues;
 use sdl_routes::Routes;
-use std::sync::Wait;
 
 impl Hand {
     /// Puts the outgoing items, from the front, each at the first station of its route, and says whether there was one.
     /// A refusal leaves that item and those behind it in hand.
     #[inline(always)]
-    pub fn put_out(&mut self, routes: &Routes, board: &mut Board) -> Result<bool, Refused>
-        requires routed { AreRouted routes.now self.old.outgoing.items }
-        requires board { IsBoardOf routes.now board.old }
-        ensures put { PutsOut routes.now self.old.outgoing.items board.old result self.new.outgoing.items board.new }
-        ensures refused { IfErr result (λ _. self.new.outgoing.items ≢ []) }
-        ensures kept { self.new.kept ≡ self.old.kept }
-        ensures routed { AreRouted routes.now self.new.outgoing.items }
-        ensures board { IsBoardOf routes.now board.new }
-    {
-        self.put_out_over(&(), routes, board)
-    }
-
-    /// Puts the outgoing items through the worker's ends, from the front, each at the first station of its route, and says
-    /// whether there was one. A refusal leaves that item and those behind it in hand. May wait for other threads.
-    #[inline(always)]
-    pub fn put_out_apart<R: Wait>(
-        &mut self,
-        rt: &R,
-        routes: &Routes,
-        ends: &mut Ends,
-    ) -> Result<bool, Refused>
-        requires routed { AreRouted routes.now self.old.outgoing.items }
-        requires ways { HaveWaysOut routes.now ends.old self.old.outgoing.items }
-        ensures put { PutsOutApart routes.now self.old.outgoing.items ends.old result self.new.outgoing.items ends.new }
-        ensures refused { IfErr result (λ _. self.new.outgoing.items ≢ []) }
-        ensures kept { self.new.kept ≡ self.old.kept }
-        ensures ends { IsSameEnds ends.old ends.new }
-    {
-        self.put_out_over(rt, routes, ends)
-    }
-
-    /// The same over any queues.
-    #[inline(always)]
-    pub fn put_out_over<H, Q: Queues<H>>(
+    pub fn put_out<H, Q: Queues<H>>(
         &mut self,
         rt: &H,
         routes: &Routes,

@@ -15,8 +15,7 @@ ghost use Rattle.sdl_routes.specs.declared.route.TableRow.{TableRow};
 
 use crate::ready::Look;
 use crate::table::Table;
-use arrayvec::ArrayVec;
-use sdl_log::{Arrival, Counts, Event, Keeps, Turn, Turned};
+use sdl_log::{Arrival, Counts, Event, Keeps};
 use sdl_parts::Checked;
 use sdl_routes::Routes;
 use sdl_signal::Item;
@@ -35,13 +34,10 @@ pub struct BlockCore<S, K: Keeps = Vec<Event>> {
 }
 
 impl<S: Agents, K: Keeps> BlockCore<S, K> {
-    ghost use Rattle.std.specs.Prelude.{OnOk, OnErr, All, Some, true};
-    ghost use Rattle.sdl_processes.specs.Record.{is_ready, Record};
+    ghost use Rattle.std.specs.Prelude.{OnOk, OnErr, Some};
     ghost use Rattle.sdl_signal.specs.declared.values.Item.{Item};
-    ghost use Rattle.sdl_instances.specs.CoreOf.{core_of, parts_of, system_in, CanFire, HasTurnRoom};
-    ghost use Rattle.sdl_instances.specs.Calls.{KeepsRest, TurnAnswers, hand_of};
-    ghost use Rattle.sdl_instances.specs.Living.{StandsAt, next_frame};
-    ghost use Rattle.sdl_instances.specs.Turning.{Fires};
+    ghost use Rattle.sdl_instances.specs.CoreOf.{core_of, parts_of, system_in};
+    ghost use Rattle.sdl_instances.specs.Calls.{KeepsRest};
 
     /// The initial instances of the block, its sets in order and none of them started. `budget` is the number of turns
     /// that the block may have. A refusal hands the parts back.
@@ -69,40 +65,10 @@ impl<S: Agents, K: Keeps> BlockCore<S, K> {
         }
     }
 
-    /// Lets an item arrive. It enters the port of the instance that its output named. Where none was named, it enters
-    /// that of the living one of the set at the route's end at `pick` modulo their number, in order of creation. It is
-    /// discarded where there is none. A refusal changes nothing and hands the item back. The instance is found without a
-    /// scan over the living ones.
-    #[inline(always)]
-    pub fn arrive(
-        &mut self,
-        routes: &Routes,
-        item: Item,
-        pick: u32,
-    ) -> Result<Arrival, (Item, AllocError)>
-        requires stamp { item.stamp < 2 ^ 64 - 1 }
-        requires legal { IsLegalIn (system_in self.old routes.now) item }
-        requires sound { IsSound S.may (system_in self.old routes.now) (core_of self.old) }
-        requires ends_here { (set : SetId) × GoesTo routes.now item set × ((p : Pid) → item.to ≡ Some p → IsOfSet set p) }
-        ensures arrives { IfOk result (λ a. Arrives routes.now (core_of self.old).state item a (core_of self.new).state) }
-        ensures log { IfOk result (λ a. (core_of self.new).log ≡ (core_of self.old).log ++ arrival_event item a ∷ []) }
-        ensures picked { (set : SetId) (p : Pid) → GoesTo routes.now item set → item.to ≡ None → result ≡ Ok (arrival.Entered p) → IsLivingAt set (core_of self.old).state (pick % number_living set (core_of self.old).state) p }
-        ensures sound { IfOk result (λ _. IsSound S.may (system_in self.old routes.now) (core_of self.new)) }
-        ensures rest { KeepsRest (core_of self.old) (core_of self.new) }
-        ensures parts { parts_of self.new ≡ parts_of self.old }
-        ensures err { IfErr result (λ e. (e.0 ≡ item) × (core_of self.new ≡ core_of self.old)) }
-    {
-        let mut slot = Some(item);
-        match self.arrive_from(routes, &mut slot, pick) {
-            Ok(arrival) => Ok(arrival),
-            Err(refused) => match slot {
-                Some(back) => Err((back, refused)),
-                None => unreachable!(),
-            },
-        }
-    }
-
-    /// The same as `arrive`, of the item that the slot has. It leaves the slot empty, but for a refusal, which changes nothing.
+    /// Lets the item that the slot has arrive. It enters the port of the instance that its output named. Where none was named, it
+    /// enters that of the living one of the set at the route's end at `pick` modulo their number, in order of creation. It is
+    /// discarded where there is none. The slot is left empty, but for a refusal, which changes nothing. The instance is found
+    /// without a scan over the living ones.
     #[inline(always)]
     pub fn arrive_from(
         &mut self,
@@ -125,27 +91,6 @@ impl<S: Agents, K: Keeps> BlockCore<S, K> {
         ensures err { OnErr result ((slot.new ≡ slot.old) × (core_of self.new ≡ core_of self.old)) }
     {
         self.table.arrive_from(routes, slot, pick)
-    }
-
-    /// Lets the ready instance at `pick` modulo their number, in order of creation, make a turn: its start transition, or the
-    /// consuming of a signal. That is the first signal of its port that its state does not save (Z.101, save). It is
-    /// consumed by its row or by the implicit transition (Z.101, the transition of an agent). Each counts one against the
-    /// budget. The outputs take the fitting route at the same pick. A refusal changes nothing.
-    pub fn turn(&mut self, routes: &Routes, pick: u32) -> Result<Turned, AllocError>
-        requires sound { IsSound S.may (system_in self.old routes.now) (core_of self.old) }
-        requires parts { CanFire S.may (parts_of self.old) }
-        ensures answers { IfOk result (λ t. TurnAnswers S.may (system_in self.old routes.now) pick (core_of self.old) t (core_of self.new)) }
-        ensures sound { IfOk result (λ _. IsSound S.may (system_in self.old routes.now) (core_of self.new)) }
-        ensures legal { IfOk result (λ t. All (IsLegalIn (system_in self.old routes.now)) (hand_of t)) }
-        ensures parts { parts_of self.new ≡ parts_of self.old }
-        ensures err { OnErr result (core_of self.new ≡ core_of self.old) }
-    {
-        let mut hand = ArrayVec::new();
-        match self.turn_into(routes, pick, &mut hand)? {
-            Turn::Idle => Ok(Turned::Idle),
-            Turn::Spent => Ok(Turned::Spent),
-            Turn::Fired(pid) => Ok(Turned::Fired(pid, hand)),
-        }
     }
 
     /// The number of signals in all ports. No memory is taken.

@@ -1,25 +1,22 @@
 -- Before the first step each worker keeps what its steps keep, with the ends that were opened for it.
 use Rattle.std.proofs.Common.{ℕ, ◌+◌, ◌<◌, All, List, [], ◌++◌, ◌≡◌, Option, Some, None, option_map, slice_get, refl, ap, sym, ◌∙◌, subst, arith}
-use Rattle.std.proofs.lemmas.Option.{none-some, same_Some, slice_get-map, slice_get_within}
+use Rattle.std.proofs.lemmas.Option.{none-some, slice_get-map, slice_get_within}
 use Rattle.std.proofs.lemmas.List.Elements.{All-from_recursion}
 use Rattle.std.specs.Option.{option_to_list}
 use Rattle.sdl_signal.specs.declared.ids.BlockId.{BlockId}
-use Rattle.sdl_signal.specs.declared.ids.SetId.{SetId}
 use Rattle.sdl_signal.specs.declared.values.Item.{Item}
-use Rattle.sdl_parts.specs.Structure.{Structure, set_at}
-use Rattle.sdl_parts.specs.declared.parts.Set.{Set}
+use Rattle.sdl_parts.specs.Structure.{set_at}
 use Rattle.sdl_routes.specs.declared.route.Hop.{Hop}
 use Rattle.sdl_routes.specs.declared.route.TableRow.{TableRow}
 use Rattle.sdl_routes.specs.declared.route.Station.{Station}
 use Rattle.sdl_behaviour.specs.declared.step.Frame.{Frame}
 use Rattle.sdl_behaviour.specs.declared.step.Step.{Step}
-use Rattle.sdl_instances.specs.declared.process_set.ProcessSet.{ProcessSet}
 use Rattle.sdl_instances.specs.Run.{arrived, sent}
 use Rattle.sdl_instances.specs.Core.{IsLegalIn, numbers_of}
 use Rattle.sdl_ends.specs.Ends.{WorkerEnds, HasFeed, put_at, taken_by}
 use Rattle.sdl_opening.specs.declared.worker.Worker.{Worker}
 use Rattle.sdl_opening.specs.declared.worker.Worker.TheVariants.{Block, Environment, Forwarder}
-use Rattle.sdl_opening.specs.Workers.{first, starter, worker_of_set}
+use Rattle.sdl_opening.specs.Workers.{first, starter}
 use Rattle.sdl_opening.specs.Opens.{Brings, AreOpen, ends_of}
 use Rattle.sdl_forward.specs.Forwards.{Forwarding}
 use Rattle.sdl_forward.specs.HandsOn.{IsHandingOn}
@@ -28,20 +25,14 @@ use Rattle.sdl_hand.specs.Apart.{IsPuttingOut, HasOwnWays, StartsIn}
 use Rattle.sdl_outcome.specs.Plan.{Plan, IsPlan, blocks_in, lines_of, workers_of, ways_of, system_at}
 use Rattle.sdl_outcome.specs.declared.environment_output.EnvOut.{EnvOut}
 use Rattle.sdl_outcome.specs.EnvironmentWork.{EnvWorking, IsEnvFresh, IsLegalItem, ComesIn, AreCounted, env_sent, env_origins}
+use Rattle.sdl_outcome.proofs.Environment.{fresh_sound}
 use Rattle.sdl_outcome.proofs.Lists.{all_at}
-use Rattle.sdl_outcome.proofs.Ways.{stations_at, start_at}
+use Rattle.sdl_outcome.proofs.Ways.{set_worker, stations_at, start_at}
 use Rattle.sdl_order.specs.Driver.{Site, IsCoreAt}
-use Rattle.sdl_order.proofs.StepEnvironment.{env_starts}
 use Rattle.sdl_order.proofs.ForwarderStep.{next_is}
 use Rattle.sdl_environment.specs.EnvApart.{IsEnvPuttingOut}
 use Rattle.sdl_join.specs.Back.{HaveComeBack, AreNew}
 use Rattle.sdl_join.proofs.Places.{block_is, environment_is, line_is}
-
--- the worker of a set of the block
-set_worker : (s : Structure) (set : SetId) (d : ProcessSet) (o : Option Set) → set_at s set ≡ o → option_map numbers_of o ≡ Some d → worker_of_set s set ≡ Block d.block
-set_worker s set d None at e = absurd (none-some d e)
-set_worker s set d (Some t) at e =
-    ap (λ (o : Option Set). elim o as (λ _. Worker) [ None ↦ Environment | Some x ↦ Block x.block ]) at ∙ ap (λ (x : ProcessSet). Block x.block) (same_Some (numbers_of t) d e)
 
 no_items : (P : Item → Type 0) (xs : List Item) → xs ≡ [] → All P xs
 no_items P xs e = subst (All P) (sym e) (All-from_recursion P [] tt)
@@ -87,7 +78,7 @@ module _ (plan : Plan) (ok : IsPlan plan) where
         let is = environment_is plan all e at in
         let unsent : env_sent w.put ≡ [] = ap env_sent fresh.put in
         record {
-          sound = env_starts plan.structure plan.routes (blocks_in plan) w fresh;
+          sound = fresh_sound plan.structure plan.routes (blocks_in plan) w fresh;
           put = [];
           whole = fresh.outgoing ∙ sym unsent;
           each = λ s. none_put Environment e is s;

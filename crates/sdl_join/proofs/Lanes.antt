@@ -19,7 +19,7 @@ use Rattle.sdl_forward.specs.Boards.{waiting, lists_of}
 use Rattle.sdl_opening.specs.declared.worker.Worker.{Worker}
 use Rattle.sdl_opening.specs.Workers.{Among, place, taker, same_worker}
 use Rattle.sdl_opening.specs.Opens.{AreOwnEnds, ends_of}
-use Rattle.sdl_opening.proofs.Bringing.{among_left, among_right}
+use Rattle.sdl_opening.proofs.Bringing.{among_left, among_right, not_among}
 use Rattle.sdl_outcome.proofs.Lists.{all_weaker}
 use Rattle.sdl_outcome.proofs.Comparisons.{same_station_is, same_station_itself}
 use Rattle.sdl_outcome.proofs.AlongStations.{place_taker}
@@ -56,10 +56,6 @@ number_split : (n : ℕ) (xs ys : List PutList) → HasNumber n (xs ++ ys) → H
 number_split n [] ys h = inr h
 number_split n (x ∷ xs) ys h = elim h [ inl e ↦ inl (inl e) | inr m ↦ elim (number_split n xs ys m) [ inl a ↦ inl (inr a) | inr b ↦ inr b ] ]
 
-not_member : {X : Type 0} (x : X) (xs : List X) → AllByRecursion (λ y. x ≢ y) xs → Among x xs → ⊥
-not_member x [] h m = m
-not_member x (y ∷ ys) h m = elim m [ inl e ↦ h.0 e | inr n ↦ not_member x ys h.1 n ]
-
 module _ (s : Station) where
   -- a worker's feed is in the column of its station
   in_column : (ws : List Worker) (all : List WorkerEnds) (w : Worker) (f : FeedEnd) → feed_at (ends_of ws all w).feeds s ≡ Some f → Among f (column s all)
@@ -85,7 +81,7 @@ module _ (s : Station) where
         | inl a ↦ (v, inl refl, subst (λ (y : WorkerEnds). number_at y s ≡ Some n) (sym (ends_here v vs x all)) (here_number n (feed_at x.feeds s) a))
         | inr b ↦ (
             let later = owner vs all once.1 (omega arith) n b in
-            let other : v ≢ later.0 = λ e. not_member v vs once.0 (subst (λ (u : Worker). Among u vs) (sym e) later.1) in
+            let other : v ≢ later.0 = λ e. not_among v vs once.0 (subst (λ (u : Worker). Among u vs) (sym e) later.1) in
             (later.0, inr later.1, subst (λ (y : WorkerEnds). number_at y s ≡ Some n) (sym (ends_behind v vs x all later.0 other)) later.2))
       ]
 
@@ -100,7 +96,7 @@ module _ (s : Station) where
         | inl a ↦ (v, inl refl, subst (λ (y : WorkerEnds). tap_at y.tap s ≡ Some t) (sym (ends_here v vs x all)) (here (tap_at x.tap s) a))
         | inr b ↦ (
             let later = tapper vs all once.1 (omega arith) t b in
-            let other : v ≢ later.0 = λ e. not_member v vs once.0 (subst (λ (u : Worker). Among u vs) (sym e) later.1) in
+            let other : v ≢ later.0 = λ e. not_among v vs once.0 (subst (λ (u : Worker). Among u vs) (sym e) later.1) in
             (later.0, inr later.1, subst (λ (y : WorkerEnds). tap_at y.tap s ≡ Some t) (sym (ends_behind v vs x all later.0 other)) later.2))
       ]
     where

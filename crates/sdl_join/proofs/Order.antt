@@ -1,8 +1,8 @@
 -- From delay lines and from what each worker put to the order along each route.
-use Rattle.std.proofs.Common.{ℕ, Bool, true, false, cond, eqb, List, [], ◌∷◌, ◌++◌, map, reverse, ◌≡◌, ◌⊎◌, Option, Some, None, option_map, refl, inl, inr, ap, sym, ◌∙◌, subst}
+use Rattle.std.proofs.Common.{ℕ, Bool, true, false, cond, eqb, List, [], ◌∷◌, ◌++◌, reverse, ◌≡◌, ◌⊎◌, Option, Some, None, option_map, refl, inl, inr, ap, sym, ◌∙◌, subst}
 use Rattle.std.proofs.lemmas.Bool.{eq-eqb}
 use Rattle.std.proofs.lemmas.Option.{none-some, same_Some}
-use Rattle.std.proofs.lemmas.List.{append_assoc, append-nil, map-append}
+use Rattle.std.proofs.lemmas.List.{append_assoc, append-nil}
 use Rattle.std.proofs.lemmas.List.Elements.{filter-append}
 use Rattle.std.specs.List.{filter, flat_map, AllByRecursion}
 use Rattle.sdl_signal.specs.declared.values.Item.{Item}
@@ -12,6 +12,7 @@ use Rattle.sdl_routes.specs.declared.route.Station.TheVariants.{Line, Inlet, Out
 use Rattle.sdl_queue.specs.declared.rule.Tagged.{Tagged}
 use Rattle.sdl_queue.specs.DelayLine.{items_by}
 use Rattle.sdl_queue.specs.Ends.{FeedEnd, Account, items_of}
+use Rattle.sdl_queue.proofs.Puts.{items_by-append}
 use Rattle.sdl_opening.specs.declared.worker.Worker.{Worker}
 use Rattle.sdl_opening.specs.declared.worker.Worker.TheVariants.{Block, Environment, Forwarder}
 use Rattle.sdl_ends.specs.Stations.{station_behind}
@@ -45,10 +46,6 @@ by_feeder P [] h = tt
 by_feeder P (x ∷ xs) h =
     let here = subst (λ (b : Bool). AllByRecursion (P x.feeder) (items_of (cond b (x ∷ filter (λ (y : Tagged). eqb y.feeder x.feeder) xs) (filter (λ (y : Tagged). eqb y.feeder x.feeder) xs)))) (eq-eqb x.feeder x.feeder refl) (h x.feeder) in
     (here.0, by_feeder P xs (λ f. by_feeder_tail (P f) (eqb x.feeder f) x (filter (λ (y : Tagged). eqb y.feeder f) xs) (h f)))
-
-items_by_append : (f : ℕ) (xs ys : List Tagged) → items_by f (xs ++ ys) ≡ items_by f xs ++ items_by f ys
-items_by_append f xs ys =
-    ap (map (λ (t : Tagged). t.item)) (filter-append (λ (t : Tagged). eqb t.feeder f) xs ys) ∙ map-append (λ (t : Tagged). t.item) (filter (λ (t : Tagged). eqb t.feeder f) xs) (filter (λ (t : Tagged). eqb t.feeder f) ys)
 
 -- who has no feed at a station has put nothing there
 put_none : (o : Option FeedEnd) → option_map (λ (f : FeedEnd). f.number) o ≡ None → elim o as (λ _. List Item) [ None ↦ [] | Some f ↦ f.put ] ≡ []
@@ -101,7 +98,7 @@ module _ (t : Ways) (ends : Worker → WorkerEnds) (accounts : Station → Accou
 
   before_at : (s : Station) (f : ℕ) (w : Worker) → number_at (ends w) s ≡ Some f → AllByRecursion (λ (i : Item). Brings t w i.route.0 s) (items_by f ((accounts s).taken ++ (accounts s).left))
   before_at s f w e =
-      subst (AllByRecursion (λ (i : Item). Brings t w i.route.0 s)) ((j.lanes s).fed w f e ∙ sym (items_by_append f (accounts s).taken (accounts s).left)) (put_before w s)
+      subst (AllByRecursion (λ (i : Item). Brings t w i.route.0 s)) ((j.lanes s).fed w f e ∙ sym (items_by-append f (accounts s).taken (accounts s).left)) (put_before w s)
 
   known : (s : Station) → AllByRecursion (IsKnown s) ((accounts s).taken ++ (accounts s).left)
   known s =

@@ -1,11 +1,10 @@
 -- Whose ends stand where in the list of all ends.
 use Rattle.std.proofs.Common.{ℕ, zero, suc, ◌+◌, ◌<◌, ◌≤◌, true, List, [], ◌∷◌, ◌++◌, length, map, ◌≡◌, ◌≢◌, ◌⊎◌, Some, option_map, slice_get, refl, inl, inr, ap, sym, ◌∙◌, subst, arith}
 use Rattle.std.proofs.lemmas.Bool.{cond_both, cond-true, cond-false, cases_Bool, false≢true}
-use Rattle.std.proofs.lemmas.Option.{none-some, same_Some, slice_get-map, slice_get_within}
+use Rattle.std.proofs.lemmas.Option.{slice_get-map, slice_get_within}
 use Rattle.std.specs.Option.{option_to_list}
 use Rattle.sdl_signal.specs.declared.ids.BlockId.{BlockId}
 use Rattle.sdl_routes.specs.declared.route.Hop.{Hop}
-use Rattle.sdl_routes.specs.Routes.{EachOnce}
 use Rattle.sdl_ends.specs.Stations.{same_hop}
 use Rattle.sdl_ends.specs.Ends.{WorkerEnds, no_ends}
 use Rattle.sdl_opening.specs.declared.worker.Worker.{Worker}
@@ -13,11 +12,11 @@ use Rattle.sdl_opening.specs.declared.worker.Worker.TheVariants.{Block, Environm
 use Rattle.sdl_opening.specs.Workers.{Among, same_worker, blocks_from}
 use Rattle.sdl_opening.specs.Opens.{ends_of}
 use Rattle.sdl_opening.proofs.Distributing.{place_get}
+use Rattle.sdl_opening.proofs.Standing.{own_ends}
 use Rattle.sdl_forward.specs.Forwards.{Forwarding}
 use Rattle.sdl_outcome.specs.Plan.{Plan, blocks_in, lines_of, workers_of}
 use Rattle.sdl_outcome.proofs.Comparisons.{same_hop_is, same_hop_itself, same_worker_is, same_worker_itself}
-use Rattle.sdl_outcome.proofs.Lists.{all_at}
-use Rattle.sdl_outcome.proofs.Workers.{workers_once, count_blocks}
+use Rattle.sdl_outcome.proofs.Workers.{count_blocks}
 use Rattle.sdl_order.specs.Driver.{held_at}
 
 -- another worker's ends are looked for further on
@@ -27,14 +26,6 @@ ends_behind v vs e all w n =
 
 pub ends_here : (v : Worker) (vs : List Worker) (e : WorkerEnds) (all : List WorkerEnds) → ends_of (v ∷ vs) (e ∷ all) v ≡ e
 ends_here v vs e all = cond-true (same_worker v v) e (ends_of vs all v) (same_worker_itself v)
-
--- the ends of the worker at a place
-ends_at : (ws : List Worker) (all : List WorkerEnds) (k : ℕ) (w : Worker) (e : WorkerEnds) → EachOnce ws → slice_get ws k ≡ Some w → slice_get all k ≡ Some e → ends_of ws all w ≡ e
-ends_at [] all k w e once at there = absurd (none-some w at)
-ends_at (v ∷ vs) [] k w e once at there = absurd (none-some e there)
-ends_at (v ∷ vs) (x ∷ all) zero w e once at there =
-    ap (ends_of (v ∷ vs) (x ∷ all)) (sym (same_Some v w at)) ∙ (ends_here v vs x all ∙ same_Some x e there)
-ends_at (v ∷ vs) (x ∷ all) (suc k) w e once at there = ends_behind v vs x all w (all_at (λ u. v ≢ u) vs k w once.0 at) ∙ ends_at vs all k w e once.1 at there
 
 -- who is not among them has none
 pub ends_none : (ws : List Worker) (all : List WorkerEnds) (w : Worker) → (Among w ws → ⊥) → ends_of ws all w ≡ no_ends
@@ -130,13 +121,13 @@ module _ (plan : Plan) (now : List WorkerEnds) where
   -- the ends at a worker's place are its own
 
   pub block_is : (b : BlockId) (e : WorkerEnds) → b.0 < blocks_in plan → slice_get now b.0 ≡ Some e → ends_of (workers_of plan) now (Block b) ≡ e
-  block_is b e less at = ends_at (workers_of plan) now b.0 (Block b) e (workers_once plan) (block_place plan b less) at
+  block_is b e less at = own_ends plan.structure now b.0 (Block b) e (block_place plan b less) at
 
   pub environment_is : (e : WorkerEnds) → slice_get now (blocks_in plan) ≡ Some e → ends_of (workers_of plan) now Environment ≡ e
-  environment_is e at = ends_at (workers_of plan) now (blocks_in plan) Environment e (workers_once plan) (environment_place plan) at
+  environment_is e at = own_ends plan.structure now (blocks_in plan) Environment e (environment_place plan) at
 
   pub line_is : (k : ℕ) (h : Hop) (e : WorkerEnds) → slice_get (lines_of plan) k ≡ Some h → slice_get now (blocks_in plan + 1 + k) ≡ Some e → ends_of (workers_of plan) now (Forwarder h) ≡ e
-  line_is k h e line at = ends_at (workers_of plan) now (blocks_in plan + 1 + k) (Forwarder h) e (workers_once plan) (line_place plan k h line) at
+  line_is k h e line at = own_ends plan.structure now (blocks_in plan + 1 + k) (Forwarder h) e (line_place plan k h line) at
 
   -- where there are ends for all workers, there are some at each place
   module _ (count : length now ≡ length (workers_of plan)) where

@@ -3,7 +3,6 @@ use Rattle.std.proofs.Common.{ℕ, List, [], ◌∷◌, ◌≡◌, Option, Some,
 use Rattle.std.specs.Option.{option_to_list}
 use Rattle.std.specs.List.{AllByRecursion}
 use Rattle.sdl_signal.specs.declared.values.Item.{Item}
-use Rattle.sdl_routes.specs.declared.route.TableRow.{TableRow}
 use Rattle.sdl_routes.specs.declared.route.Station.{Station}
 use Rattle.sdl_routes.specs.declared.route.Station.TheVariants.{Line, Outlet}
 use Rattle.sdl_behaviour.specs.declared.step.Frame.{Frame}
@@ -13,7 +12,7 @@ use Rattle.sdl_instances.specs.Run.{sent}
 use Rattle.sdl_hand.specs.Work.{Working}
 use Rattle.sdl_opening.specs.declared.worker.Worker.{Worker}
 use Rattle.sdl_opening.specs.declared.worker.Worker.TheVariants.{Block, Environment, Forwarder}
-use Rattle.sdl_opening.specs.Workers.{IsAgent, Among, starter}
+use Rattle.sdl_opening.specs.Workers.{IsAgent, Among}
 use Rattle.sdl_outcome.specs.Books.{Books, InOrder, standing}
 use Rattle.sdl_outcome.specs.Plan.{Plan, IsPlan, MayTravel, ways_of}
 use Rattle.sdl_outcome.specs.EnvironmentWork.{ComesIn, GoesOut, env_sent}
@@ -26,11 +25,7 @@ use Rattle.sdl_ends.specs.Ends.{WorkerEnds}
 use Rattle.sdl_join.specs.Joins.{HasPut, given, pending, Joined, kept_with, IsJoined}
 use Rattle.sdl_join.proofs.Order.{keeps_order}
 use Rattle.sdl_join.proofs.Legal.{standing_all}
-
--- an item whose source is a gate starts in the environment
-comes_starts : (plan : Plan) (i : Item) → ComesIn plan.routes i → (ways_of plan).start i.route.0 ≡ Environment
-comes_starts plan i (row, gate, at, from) =
-    ap (λ (o : Option TableRow). elim o as (λ _. Worker) [ None ↦ Environment | Some x ↦ starter plan.structure x.source ]) at ∙ ap (starter plan.structure) from
+use Rattle.sdl_order.proofs.StepEnvironment.{comes_starts}
 
 -- what waits on a route through the outlet goes out
 goes_out : (plan : Plan) → IsPlan plan → (i : Item) → Among Outlet ((ways_of plan).stations i.route.0) → GoesOut plan.routes i

@@ -74,7 +74,14 @@ pub among_right : {X : Type 0} (x : X) (xs ys : List X) → Among x ys → Among
 among_right x [] ys m = m
 among_right x (y ∷ xs) ys m = inr (among_right x xs ys m)
 
-among_cases : {X : Type 0} (x : X) (xs ys : List X) → Among x (xs ++ ys) → Among x xs ⊎ Among x ys
+pub among_filter : {X : Type 0} (test : X → Bool) (x : X) (xs : List X) → Among x (filter test xs) → Among x xs × (test x ≡ true)
+among_filter test x [] m = absurd m
+among_filter test x (y ∷ ys) m =
+    cond_both (test y) (y ∷ filter test ys) (filter test ys) (λ (zs : List _). Among x zs → Among x (y ∷ ys) × (test x ≡ true))
+    (λ e n. elim n [ inl f ↦ (inl f, subst (λ z. test z ≡ true) (sym f) e) | inr p ↦ (let r = among_filter test x ys p in (inr r.0, r.1)) ])
+    (λ e n. let r = among_filter test x ys n in (inr r.0, r.1)) m
+
+pub among_cases : {X : Type 0} (x : X) (xs ys : List X) → Among x (xs ++ ys) → Among x xs ⊎ Among x ys
 among_cases x [] ys m = inr m
 among_cases x (y ∷ xs) ys m = elim m [
   | inl e ↦ inl (inl e)
@@ -125,7 +132,7 @@ behind_among s (x ∷ ss) t e =
     first_among [] t e = absurd (none-some t e)
     first_among (y ∷ ss) t e = inl (sym (same_Some y t e))
 
-not_among : {X : Type 0} (x : X) (xs : List X) → AllByRecursion (λ y. x ≢ y) xs → Among x xs → ⊥
+pub not_among : {X : Type 0} (x : X) (xs : List X) → AllByRecursion (λ y. x ≢ y) xs → Among x xs → ⊥
 not_among x [] h m = m
 not_among x (y ∷ ys) h m = elim m [ inl e ↦ h.0 e | inr n ↦ not_among x ys h.1 n ]
 
@@ -181,11 +188,11 @@ giver_cases s w last (h ∷ hs) v once e =
       ]
     ]
 
-set_agent : (o : Option Set) → IsAgent (elim o as (λ _. Worker) [ None ↦ Environment | Some d ↦ Block d.block ])
+pub set_agent : (o : Option Set) → IsAgent (elim o as (λ _. Worker) [ None ↦ Environment | Some d ↦ Block d.block ])
 set_agent None = tt
 set_agent (Some d) = tt
 
-starter_agent : (s : Structure) (from : Source) → IsAgent (starter s from)
+pub starter_agent : (s : Structure) (from : Source) → IsAgent (starter s from)
 starter_agent s (source.Set t) = set_agent (set_at s t)
 starter_agent s (source.Gate g) = tt
 

@@ -69,7 +69,7 @@ station_cmp = cmp-value.it
 abbrev pub station_eq : Station → Station → Bool
 station_eq = eq-value.it
 
-derived_eq : (a b : Station) → station_eq a b ≡ same_station a b
+pub derived_eq : (a b : Station) → station_eq a b ≡ same_station a b
 derived_eq (Line h) (Line k) = refl
 derived_eq (Line h) (Inlet c) = refl
 derived_eq (Line h) Outlet = refl

@@ -25,7 +25,7 @@ unfolding block
 blocks_more k =
     ap (blocks_from 0) (add-one k) ∙ (blocks_last 0 k ∙ ap (λ (m : ℕ). blocks_from 0 k ++ Block (block m) ∷ []) (omega arith))
 
-count_blocks : (n k : ℕ) → length (blocks_from n k) ≡ k
+pub count_blocks : (n k : ℕ) → length (blocks_from n k) ≡ k
 count_blocks n zero = refl
 count_blocks n (suc k) = ap suc (count_blocks (n + 1) k)
 

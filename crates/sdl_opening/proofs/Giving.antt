@@ -13,17 +13,13 @@ use Rattle.sdl_routes.specs.Routes.{IsRoute, IsSource}
 use Rattle.sdl_opening.specs.declared.worker.Worker.{Worker}
 use Rattle.sdl_opening.specs.Workers.{starter}
 use Rattle.sdl_opening.specs.Puts.{giver, putter, givers_at}
+use Rattle.sdl_opening.proofs.Bringing.{all_at}
 
 flat_step : {X Y : Type 0} (g : X → List Y) (k : ℕ) (xs : List X) (x : X) → slice_get xs k ≡ Some x → flat_map g (take (suc k) xs) ≡ flat_map g (take k xs) ++ g x
 flat_step g zero [] x e = absurd (none-some x e)
 flat_step g zero (y ∷ xs) x e = ap (λ z. g z ++ []) (same_Some y x e) ∙ append-nil (g x)
 flat_step g (suc k) [] x e = absurd (none-some x e)
 flat_step g (suc k) (y ∷ xs) x e = ap (λ zs. g y ++ zs) (flat_step g k xs x e) ∙ sym (append_assoc (g y) (flat_map g (take k xs)) (g x))
-
-all_at : {X : Type 0} (P : X → Type 0) (xs : List X) (k : ℕ) (x : X) → AllByRecursion P xs → slice_get xs k ≡ Some x → P x
-all_at P [] k x h e = absurd (none-some x e)
-all_at P (y ∷ xs) zero x h e = subst P (same_Some y x e) h.0
-all_at P (y ∷ xs) (suc k) x h e = all_at P xs k x h.1 e
 
 -- the row of a route that was read
 row_there : (rows : List TableRow) (n : ℕ) (route : Route) → Some route ≡ option_map (λ (row : TableRow). row.route) (slice_get rows n) → (row : TableRow) × (slice_get rows n ≡ Some row) × (row.route ≡ route)

@@ -17,6 +17,7 @@ use Rattle.sdl_opening.specs.Workers.{Among, place, taker}
 use Rattle.sdl_opening.specs.Puts.{puts_at, count_true}
 use Rattle.sdl_opening.specs.Opens.{IsFreshAt, fresh_tap}
 use Rattle.sdl_opening.specs.Hands.{with_feed, with_tap, distributed, changed_at, all_empty}
+use Rattle.sdl_opening.proofs.Bringing.{among_filter}
 
 -- two lists of one length, of which each two elements at one place are so
 abbrev pub AreEach : {X Y : Type 0} → (X → Y → Type 0) → List X → List Y → Type 0
@@ -51,7 +52,7 @@ stations_more : (fs : List (Station × FeedEnd)) (s : Station) (f : FeedEnd) →
 stations_more [] s f = refl
 stations_more (x ∷ fs) s f = ap (λ ss. x.0 ∷ ss) (stations_more fs s f)
 
-all_more : {X : Type 0} (P : X → Type 0) (xs : List X) (x : X) → AllByRecursion P xs → P x → AllByRecursion P (xs ++ x ∷ [])
+pub all_more : {X : Type 0} (P : X → Type 0) (xs : List X) (x : X) → AllByRecursion P xs → P x → AllByRecursion P (xs ++ x ∷ [])
 all_more P [] x h k = (k, tt)
 all_more P (y ∷ xs) x h k = (h.0, all_more P xs x h.1 k)
 
@@ -67,13 +68,6 @@ among_last x (y ∷ xs) = inr (among_last x xs)
 no_feed : (fs : List (Station × FeedEnd)) (s : Station) → (Among s (stations_of fs) → ⊥) → feed_at fs s ≡ None
 no_feed [] s n = refl
 no_feed (f ∷ fs) s n = cond-false (same_station f.0 s) (Some f.1) (feed_at fs s) (other_station f.0 s (λ e. n (inl (sym e)))) ∙ no_feed fs s (λ m. n (inr m))
-
-pub among_filter : (test : Station → Bool) (x : Station) (xs : List Station) → Among x (filter test xs) → Among x xs × (test x ≡ true)
-among_filter test x [] m = absurd m
-among_filter test x (y ∷ ys) m =
-    cond_both (test y) (y ∷ filter test ys) (filter test ys) (λ (zs : List Station). Among x zs → Among x (y ∷ ys) × (test x ≡ true))
-    (λ e n. elim n [ inl f ↦ (inl f, subst (λ z. test z ≡ true) (sym f) e) | inr p ↦ (let r = among_filter test x ys p in (inr r.0, r.1)) ])
-    (λ e n. let r = among_filter test x ys n in (inr r.0, r.1)) m
 
 pub in_filter : (test : Station → Bool) (x : Station) (xs : List Station) → Among x xs → test x ≡ true → Among x (filter test xs)
 in_filter test x [] m t = absurd m

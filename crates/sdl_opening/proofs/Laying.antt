@@ -13,7 +13,7 @@ use Rattle.sdl_opening.specs.Puts.{count_true}
 use Rattle.sdl_opening.specs.Opens.{IsFreshAt, fresh_tap}
 use Rattle.sdl_opening.specs.Hands.{with_tap, distributed, changed_at, all_empty, AddsQueue}
 use Rattle.sdl_opening.proofs.Distributing.{distributed_length}
-use Rattle.sdl_opening.proofs.Laid.{AreEach, HasFeeds, HasTap, each_length, column_other, column_here, taps_distributed, each_tap, each_feeds, none_fed, none_tapped, column_tapped, feeds_tapped, taps_given, taps_other, taps_here}
+use Rattle.sdl_opening.proofs.Laid.{all_more, AreEach, HasFeeds, HasTap, each_length, column_other, column_here, taps_distributed, each_tap, each_feeds, none_fed, none_tapped, column_tapped, feeds_tapped, taps_given, taps_other, taps_here}
 
 -- the queues of these stations are opened, where p says who puts where
 pub record IsLaid (p : Station → Worker → Bool) (ws : List Worker) (done : List Station) (all : List WorkerEnds) (shelf : List (Station × ℕ)) : Type 0 where
@@ -45,10 +45,6 @@ unput o (k ∷ ks) = (refl, unput o ks)
 firsts_more : (shelf : List (Station × ℕ)) (x : Station × ℕ) → map (λ (y : Station × ℕ). y.0) (shelf ++ x ∷ []) ≡ map (λ (y : Station × ℕ). y.0) shelf ++ x.0 ∷ []
 firsts_more [] x = refl
 firsts_more (y ∷ shelf) x = ap (λ ss. y.0 ∷ ss) (firsts_more shelf x)
-
-all_more : {X : Type 0} (P : X → Type 0) (xs : List X) (x : X) → AllByRecursion P xs → P x → AllByRecursion P (xs ++ x ∷ [])
-all_more P [] x h k = (k, tt)
-all_more P (y ∷ xs) x h k = (h.0, all_more P xs x h.1 k)
 
 module _ (p : Station → Worker → Bool) (ws : List Worker) (done : List Station) (s : Station) (apart : Among s done → ⊥) (old new : List WorkerEnds) (shelf later : List (Station × ℕ))
     (laid : IsLaid p ws done old shelf) (adds : AddsQueue ws (map (p s) ws) s old new shelf later) where

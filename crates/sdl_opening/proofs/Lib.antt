@@ -5,6 +5,7 @@ pub mod Distributing
 pub mod Laid
 pub mod Laying
 pub mod Bringing
+pub mod Standing
 pub mod Takers
 pub mod Opened
 pub mod Using

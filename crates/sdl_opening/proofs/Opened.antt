@@ -22,9 +22,9 @@ use Rattle.sdl_opening.specs.Workers.{Among, Ways, first, next, place, taker, st
 use Rattle.sdl_opening.specs.Puts.{puts_at}
 use Rattle.sdl_opening.specs.Hands.{AddsQueue}
 use Rattle.sdl_opening.specs.Opens.{Brings, ends_of, AreOwnEnds, IsFreshAt, fresh_tap, AreOpen}
-use Rattle.sdl_opening.proofs.Laid.{AreEach, HasFeeds, HasTap, each_length, in_filter, among_filter}
+use Rattle.sdl_opening.proofs.Laid.{AreEach, HasFeeds, HasTap, each_length, in_filter}
 use Rattle.sdl_opening.proofs.Laying.{IsLaid, lays_more}
-use Rattle.sdl_opening.proofs.Bringing.{same_worker_is, same_worker_itself, puts_row, row_puts, puts_brings, brings_puts, has_behind, all_at}
+use Rattle.sdl_opening.proofs.Bringing.{same_worker_is, same_worker_itself, puts_row, row_puts, puts_brings, brings_puts, has_behind, all_at, among_filter}
 use Rattle.sdl_opening.proofs.Takers.{environment_in, starter_in, taker_in}
 
 -- elements by place
@@ -56,7 +56,7 @@ before_itself (Line h) b = omega (arith, b)
 before_itself (Inlet c) b = omega (arith, b)
 before_itself Outlet b = b
 
-all_weaker : {X : Type 0} (P Q : X → Type 0) → ((x : X) → P x → Q x) → (xs : List X) → AllByRecursion P xs → AllByRecursion Q xs
+pub all_weaker : {X : Type 0} (P Q : X → Type 0) → ((x : X) → P x → Q x) → (xs : List X) → AllByRecursion P xs → AllByRecursion Q xs
 all_weaker P Q f [] h = tt
 all_weaker P Q f (x ∷ xs) h = (f x h.0, all_weaker P Q f xs h.1)
 
@@ -74,7 +74,7 @@ order_once [] order = tt
 order_once (s ∷ ss) order =
     (all_weaker (IsStationBefore s) (λ t. s ≢ t) (λ t b e. before_itself s (subst (IsStationBefore s) (sym e) b)) ss order.0, order_once ss order.1)
 
-all_filter : {X : Type 0} (P : X → Type 0) (test : X → Bool) (xs : List X) → AllByRecursion P xs → AllByRecursion P (filter test xs)
+pub all_filter : {X : Type 0} (P : X → Type 0) (test : X → Bool) (xs : List X) → AllByRecursion P xs → AllByRecursion P (filter test xs)
 all_filter P test [] h = tt
 all_filter P test (x ∷ xs) h = cond_both (test x) (x ∷ filter test xs) (filter test xs) (AllByRecursion P) (λ e. (h.0, all_filter P test xs h.1)) (λ e. all_filter P test xs h.1)
 

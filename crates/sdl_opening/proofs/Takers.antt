@@ -1,6 +1,6 @@
 -- Who takes from a station of a route, and who begins one, is among the workers.
 use Rattle.std.proofs.Common.{◌≡◌, ◌≢◌, ◌⊎◌, ℕ, zero, suc, ◌+◌, ◌<◌, ◌≤◌, Bool, true, false, not, cond, List, [], ◌∷◌, ◌++◌, length, map, Option, Some, None, option_map, unwrap_or, slice_get, slice_index_or, Contains, refl, inl, inr, ap, sym, ◌∙◌, subst, arith}
-use Rattle.std.proofs.lemmas.Bool.{cond_both, cond-true, cond-false, false≢true}
+use Rattle.std.proofs.lemmas.Bool.{cond-true, cond-false, false≢true}
 use Rattle.std.proofs.lemmas.Option.{none-some, same_Some}
 use Rattle.std.specs.Option.{IsSomeAnd}
 use Rattle.std.specs.List.{filter, AllByRecursion}
@@ -22,7 +22,7 @@ use Rattle.sdl_routes.specs.Routes.{IsRoute, IsWalk, Carries, IsLastStation, is_
 use Rattle.sdl_opening.specs.declared.worker.Worker.{Worker}
 use Rattle.sdl_opening.specs.declared.worker.Worker.TheVariants.{Block, Environment, Forwarder}
 use Rattle.sdl_opening.specs.Workers.{Among, taker, starter, blocks_from, path_line, lines_from, workers_in}
-use Rattle.sdl_opening.proofs.Bringing.{all_at, among_left, among_right}
+use Rattle.sdl_opening.proofs.Bringing.{all_at, among_left, among_right, among_filter}
 
 unfoldable block : ℕ → BlockId
 block n = record { 0 = n }
@@ -30,22 +30,15 @@ block n = record { 0 = n }
 unfoldable hop : ℕ → Bool → Hop
 hop n back = record { channel = record { 0 = n }; back = back }
 
-among_filter : {X : Type 0} (test : X → Bool) (x : X) (xs : List X) → Among x (filter test xs) → Among x xs × (test x ≡ true)
-among_filter test x [] m = absurd m
-among_filter test x (y ∷ ys) m =
-    cond_both (test y) (y ∷ filter test ys) (filter test ys) (λ (zs : List _). Among x zs → Among x (y ∷ ys) × (test x ≡ true))
-    (λ e n. elim n [ inl f ↦ (inl f, subst (λ z. test z ≡ true) (sym f) e) | inr p ↦ (let r = among_filter test x ys p in (inr r.0, r.1)) ])
-    (λ e n. let r = among_filter test x ys n in (inr r.0, r.1)) m
-
 -- a station of a route is one of its lines, or its last
-among_stations : (lines : List Hop) (last s : Station) → Among s (map Line lines ++ last ∷ []) → ((h : Hop) × Among h lines × (s ≡ Line h)) ⊎ (s ≡ last)
+pub among_stations : (lines : List Hop) (last s : Station) → Among s (map Line lines ++ last ∷ []) → ((h : Hop) × Among h lines × (s ≡ Line h)) ⊎ (s ≡ last)
 among_stations [] last s m = elim m [ inl e ↦ inr e | inr n ↦ absurd n ]
 among_stations (h ∷ hs) last s m = elim m [
   | inl e ↦ inl (h, inl refl, e)
   | inr n ↦ elim (among_stations hs last s n) [ inl r ↦ inl (r.0, inr r.1, r.2) | inr e ↦ inr e ]
 ]
 
-walk_carries : (s : Structure) (signal : SignalId) (hops : List Hop) (h : Hop) → IsWalk s signal hops → Among h hops → Carries s h signal
+pub walk_carries : (s : Structure) (signal : SignalId) (hops : List Hop) (h : Hop) → IsWalk s signal hops → Among h hops → Carries s h signal
 walk_carries s signal [] h w m = absurd m
 walk_carries s signal (k ∷ []) h w m = elim m [ inl e ↦ subst (λ (x : Hop). Carries s x signal) (sym e) w | inr n ↦ absurd n ]
 walk_carries s signal (k ∷ l ∷ hops) h w m = elim m [
@@ -92,7 +85,7 @@ module _ (s : Structure) (h : Hop) (x : SignalId) where
   line_of None at e c = absurd c
   line_of (Some c) at e has = subst (λ (k : Hop). Among k (lines_from 0 s.channels)) (ap (λ (n : ℕ). hop n h.back) (omega arith)) (in_lines 0 s.channels h.channel.0 c h.back x at (not_true c.nodelay e) has)
 
-  carried_line : is_delaying s h ≡ true → Carries s h x → Among h (lines_from 0 s.channels)
+  pub carried_line : is_delaying s h ≡ true → Carries s h x → Among h (lines_from 0 s.channels)
   carried_line e c = line_of (channel_at s h.channel) refl e c
 
 -- blocks, the environment and forwarders among the workers

@@ -2,7 +2,7 @@
 use Rattle.std.proofs.Common.{◌≡◌, ◌≢◌, ℕ, zero, suc, ◌+◌, ◌<◌, ◌≤◌, Bool, true, false, cond, List, [], ◌∷◌, ◌++◌, length, map, Option, Some, None, option_map, slice_get, slice_set, refl, inl, inr, ap, sym, ◌∙◌, subst, arith}
 use Rattle.std.proofs.lemmas.Bool.{cond_both, cond-true, cond-false, cases_Bool}
 use Rattle.std.proofs.lemmas.Option.{none-some, same_Some}
-use Rattle.std.proofs.lemmas.List.{length-map}
+use Rattle.std.proofs.lemmas.List.{length-map, map-append}
 use Rattle.std.specs.Option.{option_to_list}
 use Rattle.std.specs.List.{AllByRecursion}
 use Rattle.sdl_routes.specs.declared.route.Station.{Station}
@@ -60,17 +60,13 @@ tap_same s (Some t) (Some u) e =
       | inr y ↦ ap (option_map tap_of) (cond-false (same_station u.0 s) (Some u.1) None (same ∙ y)) ∙ sym (ap (option_map tap_of) (cond-false (same_station t.0 s) (Some t.1) None y))
     ]
 
-map_append : {X Y : Type 0} (f : X → Y) (xs ys : List X) → map f (xs ++ ys) ≡ map f xs ++ map f ys
-map_append f [] ys = refl
-map_append f (x ∷ xs) ys = ap (λ zs. f x ∷ zs) (map_append f xs ys)
-
 map_option : {X Y : Type 0} (f : X → Y) (o : Option X) → map f (option_to_list o) ≡ option_to_list (option_map f o)
 map_option f None = refl
 map_option f (Some x) = refl
 
 option_same : {X Y : Type 0} (f : X → Y) (o p : Option X) (xs ys : List X) → option_map f p ≡ option_map f o → map f ys ≡ map f xs → map f (option_to_list p ++ ys) ≡ map f (option_to_list o ++ xs)
 option_same f o p xs ys e h =
-    map_append f (option_to_list p) ys ∙ (ap (λ zs. zs ++ map f ys) (map_option f p ∙ (ap option_to_list e ∙ sym (map_option f o))) ∙ (ap (λ zs. map f (option_to_list o) ++ zs) h ∙ sym (map_append f (option_to_list o) xs)))
+    map-append f (option_to_list p) ys ∙ (ap (λ zs. zs ++ map f ys) (map_option f p ∙ (ap option_to_list e ∙ sym (map_option f o))) ∙ (ap (λ zs. map f (option_to_list o) ++ zs) h ∙ sym (map-append f (option_to_list o) xs)))
 
 column_same : (s : Station) (old new : List WorkerEnds) → AreUsed old new → map mark (column s new) ≡ map mark (column s old)
 column_same s [] [] u = refl

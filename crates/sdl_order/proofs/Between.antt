@@ -28,7 +28,8 @@ use Rattle.sdl_outcome.specs.EnvironmentWork.{EnvWorking, env_sent, env_origins,
 use Rattle.sdl_outcome.proofs.Lists.{set_same}
 use Rattle.sdl_order.proofs.BlockStep.{block_keeps}
 use Rattle.sdl_order.proofs.Forwarding.{moves_keep, holds_keep}
-use Rattle.sdl_order.proofs.StepEnvironment.{env_starts, env_keeps}
+use Rattle.sdl_order.proofs.StepEnvironment.{env_keeps}
+use Rattle.sdl_outcome.proofs.Environment.{fresh_sound}
 
 unfoldable site : List Working → EnvWorking → List Forwarding → List (Station × List Item) → Site
 site blocks environment forwarders board = record { blocks = blocks; environment = environment; forwarders = forwarders; board = board }
@@ -135,7 +136,7 @@ module _ (may : ℕ → Frame → Step → Type 0) (plan : Plan) (start : Site) 
       record {
         blocks = fresh.blocks;
         cores = λ n w e. (fresh.cores n w e).0;
-        environment = env_starts plan.structure plan.routes (blocks_in plan) start.environment fresh.environment;
+        environment = fresh_sound plan.structure plan.routes (blocks_in plan) start.environment fresh.environment;
         coming = subst (λ (outs : List EnvOut). AllByRecursion (ComesIn plan.routes) (env_sent outs)) (sym fresh.environment.put) tt;
         counted = subst (λ (outs : List EnvOut). AreCounted (blocks_in plan) 0 (env_origins outs)) (sym fresh.environment.put) tt;
         forwarders = fresh.forwarders;

@@ -1,11 +1,10 @@
 -- A block's step in terms of the books: it is a step of the agent, and keeps what holds between two steps.
 use Rattle.std.proofs.Common.{ℕ, eqb, List, [], ◌∷◌, ◌++◌, set, ◌≡◌, ◌≢◌, ◌⊎◌, inl, inr, Option, Some, None, slice_get, refl, ap, sym, ◌∙◌, subst}
 use Rattle.std.specs.Option.{option_to_list, option_and_then}
-use Rattle.std.specs.List.{flat_map, AllByRecursion}
+use Rattle.std.specs.List.{AllByRecursion}
 use Rattle.std.proofs.lemmas.Bool.{cases_Bool, eqb-true, eq-eqb, both_ways}
 use Rattle.std.proofs.lemmas.Option.{same_Some}
 use Rattle.std.proofs.lemmas.List.{append_assoc}
-use Rattle.std.proofs.lemmas.List.Concat.{flat_map-append}
 use Rattle.std.proofs.lemmas.List.Elements.{recursion_from_All}
 use Rattle.sdl_signal.specs.declared.ids.BlockId.{BlockId}
 use Rattle.sdl_signal.specs.declared.values.Item.{Item}
@@ -14,8 +13,7 @@ use Rattle.sdl_routes.specs.declared.route.Station.{Station}
 use Rattle.sdl_routes.specs.declared.route.Station.TheVariants.{Line, Inlet, Outlet}
 use Rattle.sdl_behaviour.specs.declared.step.Frame.{Frame}
 use Rattle.sdl_behaviour.specs.declared.step.Step.{Step}
-use Rattle.sdl_log.specs.declared.event.Event.{Event}
-use Rattle.sdl_instances.specs.Run.{arrived, arrived_in, sent, sent_by, done_in, all_done}
+use Rattle.sdl_instances.specs.Run.{arrived, sent}
 use Rattle.sdl_forward.specs.Boards.{waiting, AreAllStations}
 use Rattle.sdl_opening.specs.declared.worker.Worker.{Worker}
 use Rattle.sdl_opening.specs.declared.worker.Worker.TheVariants.{Block, Environment, Forwarder}
@@ -24,6 +22,7 @@ use Rattle.sdl_outcome.specs.Books.{standing}
 use Rattle.sdl_outcome.specs.Steps.{Acts, IsUnchangedAt, bound_for}
 use Rattle.sdl_outcome.specs.Plan.{Plan, IsPlan, MayTravel, system_at, ways_of}
 use Rattle.sdl_hand.specs.Work.{Working, Works, beginning_at, first_station, is_station}
+use Rattle.sdl_hand.proofs.Through.{sent-append, arrived-append}
 use Rattle.sdl_outcome.specs.EnvironmentWork.{env_sent}
 use Rattle.sdl_order.specs.Driver.{Site, site_books, of_agent, IsCoreAt, IsAtWork}
 use Rattle.sdl_outcome.proofs.Lists.{all_front, all_end, all_append, all_filter, filter_agrees, get_set, get_set_other, length_set}
@@ -41,12 +40,6 @@ pub bound_is : (plan : Plan) (b : BlockId) (s : Station) (items : List Item) →
 bound_is plan b s items =
     filter_agrees (λ (i : Item). is_station s (next (ways_of plan) (Block b) i.route.0)) (λ (i : Item). is_station s (first_station plan.routes i))
     (λ i. ap (is_station s) (first_row (slice_get plan.routes i.route.0))) items
-
-pub sent_append : (old more : List Event) → sent (old ++ more) ≡ sent old ++ sent more
-sent_append old more = ap (flat_map sent_by) (flat_map-append done_in old more) ∙ flat_map-append sent_by (all_done old) (all_done more)
-
-pub arrived_append : (old more : List Event) → arrived (old ++ more) ≡ arrived old ++ arrived more
-arrived_append old more = flat_map-append arrived_in old more
 
 -- what it kept and then took is what it let in and then keeps; what it took was first at its station
 lets_in_from : {A : Type 0} (arrived new kept kept' took rest rest' put : List A) → kept ++ took ≡ new ++ kept' → rest ++ put ≡ took ++ rest' → (arrived ++ new) ++ (kept' ++ rest') ≡ (arrived ++ (kept ++ rest)) ++ put
@@ -100,7 +93,7 @@ module _ (may : ℕ → Frame → Step → Type 0) (plan : Plan) (ok : IsPlan pl
   steps_sent : (site_books then).sent here ≡ (site_books old).sent here ++ sent works.events
   steps_sent =
       of_block_is (λ (w : Working). sent w.core.log) (env_sent old.environment.put) old.blocks n was is before
-      ∙ (ap sent works.log ∙ (sent_append was.core.log works.events
+      ∙ (ap sent works.log ∙ (sent-append was.core.log works.events
       ∙ ap (λ (xs : List Item). xs ++ sent works.events) (sym (of_block_was (λ (w : Working). sent w.core.log) (env_sent old.environment.put) old.blocks n was is before))))
 
   pub steps_hand : works.put ++ (site_books then).outgoing here ≡ (site_books old).outgoing here ++ sent works.events
@@ -117,7 +110,7 @@ module _ (may : ℕ → Frame → Step → Type 0) (plan : Plan) (ok : IsPlan pl
   steps_in =
       let a0 = of_block_was (λ (w : Working). arrived w.core.log) old.environment.received old.blocks n was is before in
       let a1 = of_block_is (λ (w : Working). arrived w.core.log) old.environment.received old.blocks n was is before in
-      let a2 = ap arrived works.log ∙ arrived_append was.core.log works.events in
+      let a2 = ap arrived works.log ∙ arrived-append was.core.log works.events in
       let k0 = of_block_was (λ (w : Working). option_to_list w.kept) [] old.blocks n was is before in
       let k1 = of_block_is (λ (w : Working). option_to_list w.kept) [] old.blocks n was is before in
       let e = lets_in_from (arrived was.core.log) (arrived works.events) (option_to_list was.kept) (option_to_list is.kept) works.taken (waiting old.board (Inlet (block n))) (waiting board (Inlet (block n)))
@@ -149,7 +142,7 @@ module _ (may : ℕ → Frame → Step → Type 0) (plan : Plan) (ok : IsPlan pl
   starts_here : AllByRecursion (λ (i : Item). (ways_of plan).start i.route.0 ≡ here) (sent works.events)
   starts_here =
       all_end (λ (i : Item). (ways_of plan).start i.route.0 ≡ here) (sent was.core.log) (sent works.events)
-      (subst (AllByRecursion (λ (i : Item). (ways_of plan).start i.route.0 ≡ here)) (ap sent works.log ∙ sent_append was.core.log works.events)
+      (subst (AllByRecursion (λ (i : Item). (ways_of plan).start i.route.0 ≡ here)) (ap sent works.log ∙ sent-append was.core.log works.events)
       (run_starts may plan n is.core (works.rest.0 ∙ at_block) works.sound))
 
   pub acts : Acts (ways_of plan) here (site_books old) (site_books then)

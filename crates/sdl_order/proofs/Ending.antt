@@ -3,7 +3,7 @@ use Rattle.std.proofs.Common.{ℕ, zero, suc, ◌+◌, ◌≤◌, eqb, cond, Lis
 use Rattle.std.specs.Option.{option_to_list}
 use Rattle.std.specs.List.{AllByRecursion}
 use Rattle.std.proofs.lemmas.Bool.{cond_both, cond-true, eqb-true, eq-eqb}
-use Rattle.std.proofs.lemmas.List.{length-map, length-append}
+use Rattle.std.proofs.lemmas.List.{length-map, length-append, map-append}
 use Rattle.sdl_signal.specs.declared.ids.BlockId.{BlockId}
 use Rattle.sdl_signal.specs.declared.values.Item.{Item}
 use Rattle.sdl_routes.specs.declared.route.Hop.{Hop}
@@ -84,15 +84,11 @@ map_map : {X Y Z : Type 0} (g : Y → Z) (f : X → Y) (xs : List X) → map g (
 map_map g f [] = refl
 map_map g f (x ∷ xs) = ap (λ zs. g (f x) ∷ zs) (map_map g f xs)
 
-map_append : {X Y : Type 0} (g : X → Y) (xs ys : List X) → map g (xs ++ ys) ≡ map g xs ++ map g ys
-map_append g [] ys = refl
-map_append g (x ∷ xs) ys = ap (λ zs. g x ∷ zs) (map_append g xs ys)
-
 -- the hands of all workers, by one of their parts
 hands_by : (g : WorkerHand → List Item) (site : Site)
     → map g (outcome_of site).hands ≡ map (λ (w : Working). g (block_hand w)) site.blocks ++ g (env_hand site.environment) ∷ map (λ (k : Forwarding). g (forwarder_hand k)) site.forwarders
 hands_by g site =
-    map_append g (map block_hand site.blocks) (env_hand site.environment ∷ map forwarder_hand site.forwarders)
+    map-append g (map block_hand site.blocks) (env_hand site.environment ∷ map forwarder_hand site.forwarders)
     ∙ (ap (λ (xss : List (List Item)). xss ++ g (env_hand site.environment) ∷ map g (map forwarder_hand site.forwarders)) (map_map g block_hand site.blocks)
     ∙ ap (λ (xss : List (List Item)). map (λ (w : Working). g (block_hand w)) site.blocks ++ g (env_hand site.environment) ∷ xss) (map_map g forwarder_hand site.forwarders))
 

@@ -1,5 +1,5 @@
 -- A block's step that does something lowers what is left to do.
-use Rattle.std.proofs.Common.{ℕ, zero, suc, ◌+◌, ◌-◌, ◌<◌, ◌≤◌, ◌*◌, Bool, true, cond, List, [], ◌∷◌, ◌++◌, map, length, set, ◌≡◌, ◌≢◌, inl, inr, Option, Some, None, slice_get, refl, ap, sym, ◌∙◌, subst, arith, sum_by}
+use Rattle.std.proofs.Common.{ℕ, zero, suc, ◌+◌, ◌-◌, ◌<◌, ◌≤◌, ◌*◌, Bool, true, cond, List, [], ◌∷◌, map, length, set, ◌≡◌, ◌≢◌, inl, inr, Option, Some, None, slice_get, refl, ap, sym, ◌∙◌, subst, arith, sum_by}
 use Rattle.std.specs.List.{AllByRecursion}
 use Rattle.std.proofs.lemmas.Bool.{cond_both}
 use Rattle.std.proofs.lemmas.Option.{same_Some, slice_get_within}
@@ -18,19 +18,21 @@ use Rattle.sdl_instances.specs.Run.{arrived, sent, turns, turn_in}
 use Rattle.sdl_forward.specs.Boards.{same_station}
 use Rattle.sdl_opening.specs.declared.worker.Worker.{Worker}
 use Rattle.sdl_opening.specs.declared.worker.Worker.TheVariants.{Block, Environment, Forwarder}
+use Rattle.sdl_opening.proofs.Bringing.{among_left}
 use Rattle.sdl_outcome.specs.Stations.{Ways, Among, next, place, taker}
 use Rattle.sdl_outcome.specs.Books.{standing}
 use Rattle.sdl_outcome.specs.Steps.{bound_for}
 use Rattle.sdl_hand.specs.Work.{is_station}
 use Rattle.sdl_outcome.specs.Plan.{Plan, IsPlan, blocks_in, blocks_from, lines_of, workers_of, system_at, ways_of}
 use Rattle.sdl_hand.specs.Work.{Working, Works}
+use Rattle.sdl_hand.proofs.Through.{arrived-append}
 use Rattle.sdl_order.specs.Driver.{Site, site_books, IsAtWork}
 use Rattle.sdl_order.specs.Measure.{stations_from, to_go, to_go_out, turns_left, load, work_left}
 use Rattle.sdl_outcome.proofs.Lists.{all_at, all_end, get_set, get_set_other}
 use Rattle.sdl_outcome.proofs.AlongStations.{place_taker}
 use Rattle.sdl_outcome.proofs.Along.{is_station_is}
 use Rattle.sdl_order.proofs.Starts.{block}
-use Rattle.sdl_order.proofs.BlockStep.{steps_hand, steps_else, steps_quiet, inlet_parts, block_keeps, of_block_is, arrived_append}
+use Rattle.sdl_order.proofs.BlockStep.{steps_hand, steps_else, steps_quiet, inlet_parts, block_keeps, of_block_is}
 use Rattle.sdl_outcome.proofs.Sums.{sum_lower, sum_both, sum_none, sum_one}
 use Rattle.sdl_order.proofs.Measure.{from_some}
 use Rattle.sdl_outcome.proofs.Workers.{workers_once, place_apart}
@@ -119,10 +121,6 @@ block_among n m zero h = absurd (omega arith)
 block_among n zero (suc k) h = inl (ap (λ (x : ℕ). Block (block x)) (omega arith))
 block_among n (suc m) (suc k) h = inr (subst (λ (x : ℕ). Among (Block (block x)) (blocks_from (n + 1) k)) (omega arith) (block_among (n + 1) m k (omega arith)))
 
-among_before : {X : Type 0} (x : X) (xs ys : List X) → Among x xs → Among x (xs ++ ys)
-among_before x [] ys m = absurd m
-among_before x (y ∷ xs) ys m = elim m [ inl e ↦ inl e | inr n ↦ inr (among_before x xs ys n) ]
-
 module _ (may : ℕ → Frame → Step → Type 0) (plan : Plan) (ok : IsPlan plan) (old : Site) (work : IsAtWork may plan old) (n : ℕ) (was is : Working)
     (before : slice_get old.blocks n ≡ Some was) (board : List (Station × List Item)) (works : Works may (system_at plan n) was old.board is board) where
   abbrev here : Worker
@@ -170,7 +168,7 @@ module _ (may : ℕ → Frame → Step → Type 0) (plan : Plan) (ok : IsPlan pl
   came_in =
       let P = λ (i : Item). Among (place here) ((ways_of plan).stations i.route.0) in
       let all = (block_keeps may plan ok old work n was is before board works).order.let_in here tt in
-      let split = of_block_is (λ (w : Working). arrived w.core.log) old.environment.received old.blocks n was is before ∙ (ap arrived works.log ∙ arrived_append was.core.log works.events) in
+      let split = of_block_is (λ (w : Working). arrived w.core.log) old.environment.received old.blocks n was is before ∙ (ap arrived works.log ∙ arrived-append was.core.log works.events) in
       at_least (ways_of plan) (Inlet (block n)) (arrived works.events) (all_end P (arrived was.core.log) (arrived works.events) (subst (AllByRecursion P) split all))
 
   abbrev lower : ℕ
@@ -194,7 +192,7 @@ module _ (may : ℕ → Frame → Step → Type 0) (plan : Plan) (ok : IsPlan pl
   here_among : Among here (workers_of plan)
   unfolding block
   here_among =
-      among_before here (blocks_from 0 (blocks_in plan)) (Environment ∷ map Forwarder (lines_of plan))
+      among_left here (blocks_from 0 (blocks_in plan)) (Environment ∷ map Forwarder (lines_of plan))
       (subst (λ (x : ℕ). Among (Block (block x)) (blocks_from 0 (blocks_in plan))) (omega arith)
       (block_among 0 n (blocks_in plan) (let a = slice_get_within old.blocks n was before in let b = work.blocks in omega arith)))
 

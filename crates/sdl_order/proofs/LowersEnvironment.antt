@@ -15,6 +15,7 @@ use Rattle.sdl_outcome.specs.declared.environment_output.EnvOut.{EnvOut}
 use Rattle.sdl_outcome.specs.declared.environment_output.EnvOut.TheVariants as env_out
 use Rattle.sdl_opening.specs.declared.worker.Worker.{Worker}
 use Rattle.sdl_opening.specs.declared.worker.Worker.TheVariants.{Block, Environment, Forwarder}
+use Rattle.sdl_opening.proofs.Bringing.{among_right}
 use Rattle.sdl_outcome.specs.Stations.{Among, place}
 use Rattle.sdl_outcome.specs.Books.{standing}
 use Rattle.sdl_outcome.specs.Steps.{bound_for}
@@ -24,10 +25,15 @@ use Rattle.sdl_order.specs.Driver.{Site, site_books, IsAtWork}
 use Rattle.sdl_order.specs.Measure.{stations_from, to_go, to_go_out, lines_left, turns_left, load, work_left}
 use Rattle.sdl_outcome.proofs.Lists.{all_end}
 use Rattle.sdl_outcome.proofs.Sums.{sum_lower, sum_both}
-use Rattle.sdl_order.proofs.Measure.{among_behind}
 use Rattle.sdl_outcome.proofs.Workers.{workers_once, place_apart}
 use Rattle.sdl_order.proofs.Lowers.{out_is, out_short, at_least, all_stations, put_load, put_most}
 use Rattle.sdl_order.proofs.StepEnvironment.{outlet_parts, env_else, env_quiet, env_keeps}
+
+-- where not both are empty, there is an element
+pub something : {X Y : Type 0} (xs : List X) (ys : List Y) → ((xs ≡ []) × (ys ≡ []) → ⊥) → 1 ≤ length xs + length ys
+something [] [] h = absurd (h (refl, refl))
+something [] (y ∷ ys) h = omega arith
+something (x ∷ xs) ys h = omega arith
 
 -- an output sends one item at most
 sent_few : (outs : List EnvOut) → length (env_sent outs) ≤ length outs
@@ -117,7 +123,7 @@ module _ (may : ℕ → Frame → Step → Type 0) (plan : Plan) (ok : IsPlan pl
       at_least (ways_of plan) Outlet works.taken (all_end P old.environment.received works.taken (subst (AllByRecursion P) works.came all))
 
   here_among : Among Environment (workers_of plan)
-  here_among = among_behind Environment (blocks_from 0 (blocks_in plan)) (Environment ∷ map Forwarder (lines_of plan)) (inl refl)
+  here_among = among_right Environment (blocks_from 0 (blocks_in plan)) (Environment ∷ map Forwarder (lines_of plan)) (inl refl)
 
   -- the step lowers what is left by the items that it put and took, and by what it read, at least
   env_lower : work_left plan then + length works.put + length works.taken + less.0 ≤ work_left plan old
@@ -129,11 +135,6 @@ module _ (may : ℕ → Frame → Step → Type 0) (plan : Plan) (ok : IsPlan pl
       let e = took in
       let f = out_few in
       omega arith
-
-  something : {X Y : Type 0} (xs : List X) (ys : List Y) → ((xs ≡ []) × (ys ≡ []) → ⊥) → 1 ≤ length xs + length ys
-  something [] [] h = absurd (h (refl, refl))
-  something [] (y ∷ ys) h = omega arith
-  something (x ∷ xs) ys h = omega arith
 
   did : ((is.ended ≡ old.environment.ended) × (works.outs ≡ []) × (works.put ≡ []) × (works.taken ≡ []) → ⊥) → 1 ≤ length works.put + length works.taken + less.0
   did h = elim less.3 [

@@ -1,6 +1,6 @@
 -- A forwarder's move lowers what is left to do.
-use Rattle.std.proofs.Common.{ℕ, zero, suc, ◌+◌, ◌<◌, ◌≤◌, true, false, cond, List, [], ◌∷◌, ◌++◌, map, length, set, ◌≡◌, ◌≢◌, inl, inr, Some, slice_get, refl, ap, sym, ◌∙◌, subst, arith}
-use Rattle.std.proofs.lemmas.Bool.{cond_both, cond-true, cond-false, cases_Bool, false≢true}
+use Rattle.std.proofs.Common.{ℕ, zero, suc, ◌+◌, ◌<◌, ◌≤◌, true, false, cond, List, [], ◌∷◌, map, length, set, ◌≡◌, ◌≢◌, inl, inr, Some, slice_get, refl, ap, sym, ◌∙◌, subst, arith}
+use Rattle.std.proofs.lemmas.Bool.{cond_both, cond-true, cond-false, false≢true}
 use Rattle.std.proofs.lemmas.Option.{none-some, same_Some}
 use Rattle.std.proofs.lemmas.List.Sums.{sum_by-cons, sum_by-append}
 use Rattle.sdl_signal.specs.declared.values.Item.{Item}
@@ -13,6 +13,7 @@ use Rattle.sdl_forward.specs.Boards.{same_station, IsBoardOf}
 use Rattle.sdl_forward.specs.Forwards.{Forwarding, Moves}
 use Rattle.sdl_opening.specs.declared.worker.Worker.{Worker}
 use Rattle.sdl_opening.specs.declared.worker.Worker.TheVariants.{Environment, Forwarder}
+use Rattle.sdl_opening.proofs.Bringing.{among_right}
 use Rattle.sdl_outcome.specs.Stations.{Among, Once, first, place, taker, same_worker}
 use Rattle.sdl_forward.specs.Forwards.{station_behind}
 use Rattle.sdl_outcome.specs.Books.{standing}
@@ -20,7 +21,7 @@ use Rattle.sdl_outcome.specs.Steps.{BringsOn}
 use Rattle.sdl_outcome.specs.Plan.{Plan, IsPlan, blocks_in, blocks_from, lines_of, workers_of, ways_of}
 use Rattle.sdl_order.specs.Driver.{Site, site_books, IsAtWork}
 use Rattle.sdl_order.specs.Measure.{stations_from, to_go, load, work_left}
-use Rattle.sdl_outcome.proofs.Comparisons.{cases_station, cases_worker, same_station_is, same_station_itself, same_worker_is, same_worker_itself}
+use Rattle.sdl_outcome.proofs.Comparisons.{cases_station, cases_worker, same_station_is, same_station_itself, same_worker_itself, other_worker}
 use Rattle.sdl_outcome.proofs.AlongStations.{first_among, after_any, after_skip, after_itself, place_taker}
 use Rattle.sdl_outcome.proofs.Ways.{ways_are}
 use Rattle.sdl_outcome.proofs.Workers.{workers_once, taker_place, place_apart}
@@ -62,9 +63,6 @@ one_nearer a z (x ∷ xs) o e = elim (cases_station x a) [
       from_skip x a xs n ∙ (one_nearer a z xs o.1 then ∙ ap suc (sym (from_skip x z xs apart))))
 ]
 
-not_same : (v w : Worker) → v ≢ w → same_worker v w ≡ false
-not_same v w n = elim (cases_Bool (same_worker v w)) as (λ _. same_worker v w ≡ false) [ inl t ↦ absurd (n (same_worker_is v w t)) | inr e ↦ e ]
-
 hop_among : (fs : List Forwarding) (k : ℕ) (f : Forwarding) → slice_get fs k ≡ Some f → Among f.hop (map (λ (g : Forwarding). g.hop) fs)
 hop_among [] k f e = absurd (none-some f e)
 hop_among (g ∷ fs) zero f e = inl (sym (ap (λ (x : Forwarding). x.hop) (same_Some g f e)))
@@ -73,10 +71,6 @@ hop_among (g ∷ fs) (suc k) f e = inr (hop_among fs k f e)
 forwarder_among : (hs : List Hop) (h : Hop) → Among h hs → Among (Forwarder h) (map Forwarder hs)
 forwarder_among [] h m = absurd m
 forwarder_among (k ∷ hs) h m = elim m [ inl e ↦ inl (ap Forwarder e) | inr n ↦ inr (forwarder_among hs h n) ]
-
-pub among_behind : {X : Type 0} (x : X) (xs ys : List X) → Among x ys → Among x (xs ++ ys)
-among_behind x [] ys m = m
-among_behind x (y ∷ xs) ys m = inr (among_behind x xs ys m)
 
 module _ (may : ℕ → Frame → Step → Type 0) (plan : Plan) (ok : IsPlan plan) (old : Site) (work : IsAtWork may plan old) (k : ℕ) (was is : Forwarding)
     (before : slice_get old.forwarders k ≡ Some was) (board : List (Station × List Item)) (complete : IsBoardOf plan.routes board) (same : is.hop ≡ was.hop)
@@ -110,7 +104,7 @@ module _ (may : ℕ → Frame → Step → Type 0) (plan : Plan) (ok : IsPlan pl
   between_here = cond-true (same_worker here here) (load plan then here) (load plan old here) (same_worker_itself here)
 
   between_else : (v : Worker) → v ≢ here → between v ≡ load plan old v
-  between_else v n = cond-false (same_worker v here) (load plan then v) (load plan old v) (not_same v here n)
+  between_else v n = cond-false (same_worker v here) (load plan then v) (load plan old v) (other_worker v here n)
 
   left_here : load plan old here ≡ between here + far
   left_here =
@@ -149,7 +143,7 @@ module _ (may : ℕ → Frame → Step → Type 0) (plan : Plan) (ok : IsPlan pl
 
   here_among : Among here (workers_of plan)
   here_among =
-      among_behind here (blocks_from 0 (blocks_in plan)) (Environment ∷ map Forwarder (lines_of plan))
+      among_right here (blocks_from 0 (blocks_in plan)) (Environment ∷ map Forwarder (lines_of plan))
       (inr (forwarder_among (lines_of plan) was.hop (subst (Among was.hop) work.forwarders (hop_among old.forwarders k was before))))
 
   pub step_lowers : work_left plan then < work_left plan old

@@ -1,25 +1,21 @@
 -- After a round in which no worker could do anything, the run is quiet, or the budget of some block is used.
-use Rattle.std.proofs.Common.{ℕ, zero, suc, ◌+◌, ◌<◌, Bool, true, false, not, cond, List, [], ◌∷◌, ◌++◌, map, ◌≡◌, ◌≢◌, ◌⊎◌, Option, Some, None, slice_get, unwrap_or, option_map, refl, inl, inr, ap, sym, ◌∙◌, subst, arith}
+use Rattle.std.proofs.Common.{ℕ, zero, suc, ◌<◌, List, [], ◌∷◌, map, ◌≡◌, ◌⊎◌, Option, Some, None, slice_get, refl, inl, inr, ap, sym, ◌∙◌, subst, arith}
 use Rattle.std.specs.Option.{IsSomeAnd}
-use Rattle.std.specs.List.{filter, AllByRecursion, Contains}
-use Rattle.std.proofs.lemmas.Bool.{cond_both, false≢true, cond-false}
+use Rattle.std.specs.List.{filter, AllByRecursion}
 use Rattle.std.proofs.lemmas.Option.{none-some, same_Some, slice_get_cases, slice_get_within}
 use Rattle.sdl_signal.specs.declared.ids.BlockId.{BlockId}
 use Rattle.sdl_signal.specs.declared.ids.GateId.{GateId}
-use Rattle.sdl_signal.specs.declared.ids.SignalId.{SignalId}
 use Rattle.sdl_signal.specs.declared.values.Item.{Item}
 use Rattle.sdl_signal.specs.declared.values.Pid.{Pid}
-use Rattle.sdl_parts.specs.declared.parts.Channel.{Channel}
 use Rattle.sdl_parts.specs.declared.parts.Set.{Set}
-use Rattle.sdl_parts.specs.declared.parts.Direction.TheVariants.{Forth, Back}
-use Rattle.sdl_parts.specs.Structure.{Structure, path_of, channel_at, set_at}
+use Rattle.sdl_parts.specs.Structure.{set_at}
 use Rattle.sdl_routes.specs.declared.route.Hop.{Hop}
 use Rattle.sdl_routes.specs.declared.route.TableRow.{TableRow}
 use Rattle.sdl_routes.specs.declared.route.EndPoint.{EndPoint}
 use Rattle.sdl_routes.specs.declared.route.EndPoint.TheVariants as ends
 use Rattle.sdl_routes.specs.declared.route.Station.{Station}
 use Rattle.sdl_routes.specs.declared.route.Station.TheVariants.{Line, Inlet, Outlet}
-use Rattle.sdl_routes.specs.Routes.{IsRoute, IsWalk, Carries, IsLastStation, is_delaying, hop_direction}
+use Rattle.sdl_routes.specs.Routes.{IsRoute, IsLastStation, is_delaying}
 use Rattle.sdl_instances.specs.Machine.{State}
 use Rattle.sdl_instances.specs.Run.{turns}
 use Rattle.sdl_instances.specs.Core.{IsReady}
@@ -28,100 +24,23 @@ use Rattle.sdl_behaviour.specs.declared.step.Step.{Step}
 use Rattle.sdl_forward.specs.Boards.{waiting}
 use Rattle.sdl_forward.specs.Forwards.{Forwarding}
 use Rattle.sdl_outcome.specs.Stations.{Among, taker}
-use Rattle.sdl_outcome.specs.Plan.{Plan, IsPlan, blocks_in, path_line, lines_from, lines_of, ways_of}
+use Rattle.sdl_outcome.specs.Plan.{Plan, IsPlan, blocks_in, lines_of, ways_of}
 use Rattle.sdl_outcome.specs.Outcome.{log_at}
 use Rattle.sdl_outcome.specs.Ends.{IsFree, IsSettled, IsQuiet, IsSpentAt}
 use Rattle.sdl_hand.specs.Work.{Working}
 use Rattle.sdl_order.specs.Driver.{Site, IsAtWork, IsIdle, site_books, outcome_of, finals_of, block_hand, env_hand, forwarder_hand}
-use Rattle.sdl_outcome.proofs.Lists.{all_at, all_end, all_append}
+use Rattle.sdl_opening.proofs.Bringing.{among_filter}
+use Rattle.sdl_opening.proofs.Takers.{among_stations, walk_carries, carried_line}
+use Rattle.sdl_outcome.proofs.AlongStations.{among_some}
+use Rattle.sdl_outcome.proofs.Lists.{all_at, all_end, all_append, all_map}
 use Rattle.sdl_outcome.proofs.Ways.{row_of}
 
 unfoldable pub number : ℕ → BlockId
 number n = record { 0 = n }
 
-unfoldable hop : ℕ → Bool → Hop
-hop n back = record { channel = record { 0 = n }; back = back }
-
-pub among_filter : {X : Type 0} (test : X → Bool) (x : X) (xs : List X) → Among x (filter test xs) → Among x xs × (test x ≡ true)
-among_filter test x [] m = absurd m
-among_filter test x (y ∷ ys) m =
-    cond_both (test y) (y ∷ filter test ys) (filter test ys) (λ (zs : List _). Among x zs → Among x (y ∷ ys) × (test x ≡ true))
-    (λ e n. elim n [ inl f ↦ (inl f, subst (λ z. test z ≡ true) (sym f) e) | inr p ↦ (let r = among_filter test x ys p in (inr r.0, r.1)) ])
-    (λ e n. let r = among_filter test x ys n in (inr r.0, r.1)) m
-
--- a station of a route is one of its lines, or its last
-pub among_stations : (lines : List Hop) (last s : Station) → Among s (map Line lines ++ last ∷ []) → ((h : Hop) × Among h lines × (s ≡ Line h)) ⊎ (s ≡ last)
-among_stations [] last s m = elim m [ inl e ↦ inr e | inr n ↦ absurd n ]
-among_stations (h ∷ hs) last s m = elim m [
-  | inl e ↦ inl (h, inl refl, e)
-  | inr n ↦ elim (among_stations hs last s n) [ inl r ↦ inl (r.0, inr r.1, r.2) | inr e ↦ inr e ]
-]
-
-walk_carries : (s : Structure) (signal : SignalId) (hops : List Hop) (h : Hop) → IsWalk s signal hops → Among h hops → Carries s h signal
-walk_carries s signal [] h w m = absurd m
-walk_carries s signal (k ∷ []) h w m = elim m [ inl e ↦ subst (λ (x : Hop). Carries s x signal) (sym e) w | inr n ↦ absurd n ]
-walk_carries s signal (k ∷ l ∷ hops) h w m = elim m [
-  | inl e ↦ subst (λ (x : Hop). Carries s x signal) (sym e) w.0
-  | inr n ↦ walk_carries s signal (l ∷ hops) h w.2 n
-]
-
-path_has : (n : ℕ) (back : Bool) (xs : List SignalId) (x : SignalId) → Contains xs x → Among (hop n back) (path_line n back xs)
-unfolding hop
-path_has n back [] x c = let less = c.1 in absurd (omega arith)
-path_has n back (y ∷ ys) x c = inl refl
-
-among_left : {X : Type 0} (x : X) (xs ys : List X) → Among x xs → Among x (xs ++ ys)
-among_left x [] ys m = absurd m
-among_left x (y ∷ xs) ys m = elim m [ inl e ↦ inl e | inr n ↦ inr (among_left x xs ys n) ]
-
-among_right : {X : Type 0} (x : X) (xs ys : List X) → Among x ys → Among x (xs ++ ys)
-among_right x [] ys m = m
-among_right x (y ∷ xs) ys m = inr (among_right x xs ys m)
-
--- a path of a delaying channel, where it carries a signal, is among the lines
-in_channel : (n : ℕ) (c : Channel) (back : Bool) (x : SignalId) → c.nodelay ≡ false → Contains (path_of c (cond back Back Forth)).signals x
-    → Among (hop n back) (cond c.nodelay [] (path_line n false c.forth.items ++ path_line n true c.back.items))
-in_channel n c false x e h =
-    subst (λ (hs : List Hop). Among (hop n false) hs) (sym (cond-false c.nodelay [] (path_line n false c.forth.items ++ path_line n true c.back.items) e))
-    (among_left (hop n false) (path_line n false c.forth.items) (path_line n true c.back.items) (path_has n false c.forth.items x h))
-in_channel n c true x e h =
-    subst (λ (hs : List Hop). Among (hop n true) hs) (sym (cond-false c.nodelay [] (path_line n false c.forth.items ++ path_line n true c.back.items) e))
-    (among_right (hop n true) (path_line n false c.forth.items) (path_line n true c.back.items) (path_has n true c.back.items x h))
-
-in_lines : (k : ℕ) (cs : List Channel) (m : ℕ) (c : Channel) (back : Bool) (x : SignalId) → slice_get cs m ≡ Some c → c.nodelay ≡ false → Contains (path_of c (cond back Back Forth)).signals x
-    → Among (hop (k + m) back) (lines_from k cs)
-in_lines k [] m c back x at e h = absurd (none-some c at)
-in_lines k (d ∷ cs) zero c back x at e h =
-    let same : d ≡ c = same_Some d c at in
-    subst (λ (n : ℕ). Among (hop n back) (lines_from k (d ∷ cs))) (omega arith)
-    (among_left (hop k back) (cond d.nodelay [] (path_line k false d.forth.items ++ path_line k true d.back.items)) (lines_from (k + 1) cs)
-    (subst (λ (y : Channel). Among (hop k back) (cond y.nodelay [] (path_line k false y.forth.items ++ path_line k true y.back.items))) (sym same) (in_channel k c back x e h)))
-in_lines k (d ∷ cs) (suc m) c back x at e h =
-    subst (λ (n : ℕ). Among (hop n back) (lines_from k (d ∷ cs))) (omega arith)
-    (among_right (hop (k + 1 + m) back) (cond d.nodelay [] (path_line k false d.forth.items ++ path_line k true d.back.items)) (lines_from (k + 1) cs) (in_lines (k + 1) cs m c back x at e h))
-
-not_true : (b : Bool) → not b ≡ true → b ≡ false
-not_true true e = absurd (false≢true e)
-not_true false e = refl
-
--- a delaying hop that carries a signal is among the lines
-module _ (s : Structure) (h : Hop) (x : SignalId) where
-  line_of : (o : Option Channel) → channel_at s h.channel ≡ o → unwrap_or (option_map (λ (c : Channel). not c.nodelay) o) false ≡ true
-      → IsSomeAnd (option_map (λ (c : Channel). path_of c (hop_direction h)) o) (λ p. Contains p.signals x) → Among h (lines_from 0 s.channels)
-  unfolding hop
-  line_of None at e c = absurd c
-  line_of (Some c) at e has = subst (λ (k : Hop). Among k (lines_from 0 s.channels)) (ap (λ (n : ℕ). hop n h.back) (omega arith)) (in_lines 0 s.channels h.channel.0 c h.back x at (not_true c.nodelay e) has)
-
-  pub carried_line : is_delaying s h ≡ true → Carries s h x → Among h (lines_from 0 s.channels)
-  carried_line e c = line_of (channel_at s h.channel) refl e c
-
 all_from_get : {X : Type 0} (P : X → Type 0) (xs : List X) → ((n : ℕ) (x : X) → slice_get xs n ≡ Some x → P x) → AllByRecursion P xs
 all_from_get P [] h = tt
 all_from_get P (x ∷ xs) h = (h 0 x refl, all_from_get P xs (λ n y e. h (suc n) y e))
-
-all_map : {X Y : Type 0} (P : Y → Type 0) (f : X → Y) (xs : List X) → AllByRecursion (λ x. P (f x)) xs → AllByRecursion P (map f xs)
-all_map P f [] h = tt
-all_map P f (x ∷ xs) h = (h.0, all_map P f xs h.1)
 
 among_get : (fs : List Forwarding) (h : Hop) → Among h (map (λ (f : Forwarding). f.hop) fs) → (k : ℕ) × (f : Forwarding) × (slice_get fs k ≡ Some f) × (f.hop ≡ h)
 among_get [] h m = absurd m
@@ -134,10 +53,6 @@ among_get (f ∷ fs) h m = elim m [
 first_route : (plan : Plan) (s : Station) (xs : List Item) → AllByRecursion (λ (i : Item). Among s ((ways_of plan).stations i.route.0)) xs → (xs ≡ []) ⊎ ((r : ℕ) × Among s ((ways_of plan).stations r))
 first_route plan s [] h = inl refl
 first_route plan s (i ∷ xs) h = inr (i.route.0, h.0)
-
-unbound : (s : Station) (ss : List Station) → Among s ss → ss ≢ []
-unbound s [] m e = m
-unbound s (x ∷ xs) m e = cc
 
 log_here : (ws : List Working) (n : ℕ) (w : Working) → slice_get ws n ≡ Some w → log_at (map (λ (k : Working). k.core.log) ws) n ≡ w.core.log
 log_here [] n w e = absurd (none-some w e)
@@ -161,7 +76,7 @@ module _ (plan : Plan) (ok : IsPlan plan) where
   -- the row of a route through a station, and where the station stands in it
   pub passing : (r : ℕ) (s : Station) → Among s ((ways_of plan).stations r) → (row : TableRow) × (slice_get plan.routes r ≡ Some row) × Among s row.route.stations.items
   passing r s m =
-      let row = row_of plan r (unbound s ((ways_of plan).stations r) m) in
+      let row = row_of plan r (among_some s ((ways_of plan).stations r) m) in
       (row.0, row.1, subst (λ (o : Option TableRow). Among s (elim o as (λ _. List Station) [ None ↦ [] | Some x ↦ x.route.stations.items ])) row.1 m)
 
   -- where a row's station stands: a line that is among the lines, or its last

@@ -1,16 +1,13 @@
 -- A cause has a smaller stamp than what it caused.
-use Rattle.std.proofs.Common.{ℕ, ◌+◌, ◌<◌, ◌≤◌, max, List, [], ◌∷◌, ◌++◌, ◌≡◌, ◌⊎◌, inl, inr, ap, sym, subst, arith}
+use Rattle.std.proofs.Common.{ℕ, ◌+◌, ◌<◌, ◌≤◌, max, List, [], ◌∷◌, ◌++◌, ◌≡◌, inl, inr, ap, sym, subst, arith}
 use Rattle.std.proofs.lemmas.List.Concat.{flat_map-append}
 use Rattle.std.specs.List.{flat_map, AllByRecursion}
 use Rattle.sdl_signal.specs.declared.values.Item.{Item}
 use Rattle.sdl_log.specs.declared.event.Event.{Event}
+use Rattle.sdl_opening.proofs.Bringing.{among_cases}
 use Rattle.sdl_outcome.specs.Stations.{Among}
 use Rattle.sdl_instances.specs.Run.{arrived_in, sent_by, done_in, all_done, sent, above, IsStamped}
 use Rattle.sdl_outcome.specs.Causes.{Precedes, IsCause, direct, further}
-
-pub among_cases : {X : Type 0} (x : X) (xs ys : List X) → Among x (xs ++ ys) → Among x xs ⊎ Among x ys
-among_cases x [] ys m = inr m
-among_cases x (z ∷ xs) ys m = elim m [ inl e ↦ inl (inl e) | inr n ↦ elim (among_cases x xs ys n) [ inl h ↦ inl (inr h) | inr h ↦ inr h ] ]
 
 pub among_all : {X : Type 0} (P : X → Type 0) (x : X) (xs : List X) → AllByRecursion P xs → Among x xs → P x
 among_all P x [] h m = absurd m

@@ -1,18 +1,15 @@
 -- What a block sends starts at it: only instances of its own sets make turns there.
-use Rattle.std.proofs.Common.{ℕ, All, List, [], ◌∷◌, ◌≡◌, Option, Some, None, option_map, refl, ap, sym, ◌∙◌, subst}
-use Rattle.std.proofs.lemmas.Option.{none-some, same_Some, slice_get-map}
+use Rattle.std.proofs.Common.{ℕ, All, List, [], ◌∷◌, ◌≡◌, Option, Some, None, refl, ap, sym, ◌∙◌, subst}
+use Rattle.std.proofs.lemmas.Option.{slice_get-map}
 use Rattle.std.proofs.lemmas.List.Concat.{flat_map-append}
 use Rattle.std.proofs.lemmas.List.Elements.{recursion_from_All}
 use Rattle.std.specs.List.{flat_map, AllByRecursion}
 use Rattle.sdl_signal.specs.declared.ids.BlockId.{BlockId}
-use Rattle.sdl_signal.specs.declared.ids.SetId.{SetId}
 use Rattle.sdl_signal.specs.declared.values.Item.{Item}
-use Rattle.sdl_parts.specs.Structure.{Structure, set_at}
-use Rattle.sdl_parts.specs.declared.parts.Set.{Set}
+use Rattle.sdl_parts.specs.Structure.{set_at}
 use Rattle.sdl_routes.specs.declared.route.TableRow.{TableRow}
 use Rattle.sdl_behaviour.specs.declared.step.Frame.{Frame}
 use Rattle.sdl_behaviour.specs.declared.step.Step.{Step}
-use Rattle.sdl_instances.specs.declared.process_set.ProcessSet.{ProcessSet}
 use Rattle.sdl_log.specs.declared.event.Event.{Event}
 use Rattle.sdl_instances.specs.Machine.{State}
 use Rattle.sdl_instances.specs.Run.{Leads, done_in, sent_by, sent, all_done, initial}
@@ -20,17 +17,12 @@ use Rattle.sdl_instances.specs.Core.{Core, IsSound, IsBoundIn, numbers_of, sets_
 use Rattle.sdl_instances.proofs.Home.{IsHome, IsFromBlock, next_home, run_home}
 use Rattle.sdl_opening.specs.declared.worker.Worker.{Worker}
 use Rattle.sdl_opening.specs.declared.worker.Worker.TheVariants.{Block, Environment}
-use Rattle.sdl_outcome.specs.Plan.{Plan, ways_of, system_at, starter, worker_of_set}
+use Rattle.sdl_outcome.specs.Plan.{Plan, ways_of, system_at, starter}
 use Rattle.sdl_outcome.proofs.Lists.{all_append, all_weaker}
+use Rattle.sdl_outcome.proofs.Ways.{set_worker}
 
 unfoldable pub block : ℕ → BlockId
 block n = record { 0 = n }
-
--- the worker of a set of the block
-set_worker : (s : Structure) (set : SetId) (d : ProcessSet) (o : Option Set) → set_at s set ≡ o → option_map numbers_of o ≡ Some d → worker_of_set s set ≡ Block d.block
-set_worker s set d None at e = absurd (none-some d e)
-set_worker s set d (Some t) at e =
-    ap (λ (o : Option Set). elim o as (λ _. Worker) [ None ↦ Environment | Some x ↦ Block x.block ]) at ∙ ap (λ (x : ProcessSet). Block x.block) (same_Some (numbers_of t) d e)
 
 module _ (may : ℕ → Frame → Step → Type 0) (plan : Plan) (n : ℕ) (b : BlockId) (at_n : b ≡ block n) where
   abbrev StartsHere : Item → Type 0

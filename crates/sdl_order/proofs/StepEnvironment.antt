@@ -1,12 +1,10 @@
 -- The environment's step in terms of the books: it is a step of the agent, and keeps what holds between two steps.
-use Rattle.std.proofs.Common.{ℕ, ◌+◌, List, [], ◌∷◌, ◌++◌, length, map, All, ◌≡◌, ◌≢◌, ◌⊎◌, inl, inr, Option, Some, None, slice_get, refl, ap, sym, ◌∙◌, subst, arith}
+use Rattle.std.proofs.Common.{ℕ, ◌+◌, List, ◌++◌, All, ◌≡◌, ◌≢◌, ◌⊎◌, inl, inr, Option, Some, None, slice_get, refl, ap, sym, ◌∙◌, subst, arith}
 use Rattle.std.specs.List.{AllByRecursion}
-use Rattle.std.proofs.lemmas.List.{append_assoc, length-map}
+use Rattle.std.proofs.lemmas.List.{append_assoc, length-map, map-append}
 use Rattle.std.proofs.lemmas.List.Concat.{flat_map-append}
 use Rattle.std.proofs.lemmas.List.Elements.{recursion_from_All, All-from_recursion}
 use Rattle.sdl_signal.specs.declared.values.Item.{Item}
-use Rattle.sdl_signal.specs.declared.values.Origin.{Origin}
-use Rattle.sdl_parts.specs.Structure.{Structure}
 use Rattle.sdl_routes.specs.declared.route.TableRow.{TableRow}
 use Rattle.sdl_routes.specs.declared.route.Station.{Station}
 use Rattle.sdl_routes.specs.declared.route.Station.TheVariants.{Line, Inlet, Outlet}
@@ -21,9 +19,10 @@ use Rattle.sdl_outcome.specs.Stations.{IsAgent, Among, next, taker}
 use Rattle.sdl_outcome.specs.Books.{standing}
 use Rattle.sdl_outcome.specs.Steps.{Acts, IsUnchangedAt, bound_for}
 use Rattle.sdl_outcome.specs.Plan.{Plan, IsPlan, MayTravel, blocks_in, starter, ways_of}
-use Rattle.sdl_outcome.specs.EnvironmentWork.{EnvWorking, IsEnvFresh, IsEnvSound, EnvWorks, IsLegalItem, ComesIn, GoesOut, AreCounted, sent_of, origin_of, env_sent, env_origins}
+use Rattle.sdl_outcome.specs.EnvironmentWork.{EnvWorking, EnvWorks, ComesIn, GoesOut, AreCounted, sent_of, origin_of, env_sent, env_origins}
 use Rattle.sdl_order.specs.Driver.{Site, site_books, kept_by, IsAtWork}
 use Rattle.sdl_outcome.proofs.Lists.{all_front, all_end, all_append, all_filter, all_weaker, all_both, filter_agrees}
+use Rattle.sdl_outcome.proofs.Environment.{counted_append}
 use Rattle.sdl_outcome.proofs.Comparisons.{cases_station, cases_worker}
 use Rattle.sdl_order.proofs.BlockStep.{first_row}
 use Rattle.sdl_order.proofs.Quiet.{passing, route_at, station_cases, last_outlet}
@@ -37,30 +36,9 @@ env_bound_is plan s items =
     (λ i. ap (is_station s) (first_row (slice_get plan.routes i.route.0))) items
 
 -- an item whose source is a gate starts in the environment
-comes_starts : (plan : Plan) (i : Item) → ComesIn plan.routes i → (ways_of plan).start i.route.0 ≡ Environment
+pub comes_starts : (plan : Plan) (i : Item) → ComesIn plan.routes i → (ways_of plan).start i.route.0 ≡ Environment
 comes_starts plan i (row, gate, at, from) =
     ap (λ (o : Option TableRow). elim o as (λ _. Worker) [ None ↦ Environment | Some x ↦ starter plan.structure x.source ]) at ∙ ap (starter plan.structure) from
-
--- before anything was read the environment is sound
-pub env_starts : (s : Structure) (routes : List TableRow) (n : ℕ) (w : EnvWorking) → IsEnvFresh n w → IsEnvSound s routes n w
-env_starts s routes n w fresh =
-    record {
-      number = fresh.number;
-      legal = subst (All (IsLegalItem s routes n)) (sym fresh.outgoing) (All-from_recursion (IsLegalItem s routes n) [] tt);
-      coming = subst (All (ComesIn routes)) (sym fresh.outgoing) (All-from_recursion (ComesIn routes) [] tt);
-      few = let e = fresh.none in omega (arith, e);
-      one = let e = ap length fresh.outgoing in omega (arith, e);
-      counted = ap length fresh.put ∙ sym fresh.none;
-    }
-
--- numbers that go on
-counted_append : (w n : ℕ) (os ps : List Origin) → AreCounted w n os → AreCounted w (n + length os) ps → AreCounted w n (os ++ ps)
-counted_append w n [] ps h k = subst (λ (m : ℕ). AreCounted w m ps) (omega arith) k
-counted_append w n (o ∷ os) ps h k = (h.0, h.1, counted_append w (n + 1) os ps h.2 (subst (λ (m : ℕ). AreCounted w m ps) (omega arith) k))
-
-map_append : {X Y : Type 0} (g : X → Y) (xs ys : List X) → map g (xs ++ ys) ≡ map g xs ++ map g ys
-map_append g [] ys = refl
-map_append g (x ∷ xs) ys = ap (λ zs. g x ∷ zs) (map_append g xs ys)
 
 -- what waits at the outlet may travel, and its route ends in the environment
 module _ (may : ℕ → Frame → Step → Type 0) (plan : Plan) (ok : IsPlan plan) (site : Site) (work : IsAtWork may plan site) where
@@ -162,7 +140,7 @@ module _ (may : ℕ → Frame → Step → Type 0) (plan : Plan) (ok : IsPlan pl
 
   counted_then : AreCounted (blocks_in plan) 0 (env_origins is.put)
   counted_then =
-      subst (AreCounted (blocks_in plan) 0) (sym (ap env_origins works.outputs ∙ map_append origin_of old.environment.put works.outs))
+      subst (AreCounted (blocks_in plan) 0) (sym (ap env_origins works.outputs ∙ map-append origin_of old.environment.put works.outs))
       (counted_append (blocks_in plan) 0 (env_origins old.environment.put) (env_origins works.outs) work.counted
       (subst (λ (m : ℕ). AreCounted (blocks_in plan) m (env_origins works.outs)) (let l = length-map old.environment.put origin_of in omega (arith, l)) works.numbered))
 

@@ -73,7 +73,7 @@ place_last : (w : Worker) → IsAgent w → (f : Worker) (hs : List Hop) → Amo
 place_last w a f [] h = elim h [ inl e ↦ sym (place_taker w) ∙ (ap taker e ∙ place_taker f) | inr n ↦ absurd n ]
 place_last w a f (k ∷ hs) h = elim h [ inl e ↦ absurd (line_not_place w a k e) | inr n ↦ place_last w a f hs n ]
 
-among_some : (s : Station) (ss : List Station) → Among s ss → ss ≢ []
+pub among_some : (s : Station) (ss : List Station) → Among s ss → ss ≢ []
 among_some s [] h e = h
 among_some s (x ∷ xs) h e = cc
 

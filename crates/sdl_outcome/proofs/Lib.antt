@@ -6,3 +6,4 @@ pub mod Ways
 pub mod Sums
 pub mod Lines
 pub mod Workers
+pub mod Environment

@@ -3,6 +3,8 @@ use Rattle.std.proofs.Common.{ℕ, zero, suc, Bool, true, false, cond, Some, Lis
 use Rattle.std.proofs.lemmas.Option.{none-some, same_Some}
 use Rattle.std.proofs.lemmas.Bool.{false≢true, cond_both}
 use Rattle.std.specs.List.{filter, AllByRecursion}
+pub use Rattle.sdl_opening.proofs.Bringing.{all_at}
+pub use Rattle.sdl_opening.proofs.Opened.{all_weaker, all_filter}
 
 pub all_front : {X : Type 0} (P : X → Type 0) (xs ys : List X) → AllByRecursion P (xs ++ ys) → AllByRecursion P xs
 all_front P [] ys h = tt
@@ -15,10 +17,6 @@ all_end P (x ∷ xs) ys h = all_end P xs ys h.1
 pub all_append : {X : Type 0} (P : X → Type 0) (xs ys : List X) → AllByRecursion P xs → AllByRecursion P ys → AllByRecursion P (xs ++ ys)
 all_append P [] ys h k = k
 all_append P (x ∷ xs) ys h k = (h.0, all_append P xs ys h.1 k)
-
-pub all_weaker : {X : Type 0} (P Q : X → Type 0) → ((x : X) → P x → Q x) → (xs : List X) → AllByRecursion P xs → AllByRecursion Q xs
-all_weaker P Q f [] h = tt
-all_weaker P Q f (x ∷ xs) h = (f x h.0, all_weaker P Q f xs h.1)
 
 pub all_every : {X : Type 0} (P : X → Type 0) → ((x : X) → P x) → (xs : List X) → AllByRecursion P xs
 all_every P f [] = tt
@@ -35,10 +33,6 @@ all_map P f (x ∷ xs) h = (h.0, all_map P f xs h.1)
 pub all_passes : {X : Type 0} (test : X → Bool) (xs : List X) → AllByRecursion (λ x. test x ≡ true) (filter test xs)
 all_passes test [] = tt
 all_passes test (x ∷ xs) = cond_both (test x) (x ∷ filter test xs) (filter test xs) (AllByRecursion (λ y. test y ≡ true)) (λ e. (e, all_passes test xs)) (λ e. all_passes test xs)
-
-pub all_filter : {X : Type 0} (P : X → Type 0) (test : X → Bool) (xs : List X) → AllByRecursion P xs → AllByRecursion P (filter test xs)
-all_filter P test [] h = tt
-all_filter P test (x ∷ xs) h = cond_both (test x) (x ∷ filter test xs) (filter test xs) (AllByRecursion P) (λ e. (h.0, all_filter P test xs h.1)) (λ e. all_filter P test xs h.1)
 
 -- a filter of what a weaker test lets through; f is what is read of each element
 within_step : {X Y : Type 0} (p : Y → Bool) (f : X → Y) (x : X) (b c : Bool) (xs : List X) (ys : List Y) → (c ≡ true → b ≡ true) → p (f x) ≡ c → filter p (map f xs) ≡ ys
@@ -61,12 +55,6 @@ pub filter_agrees : {X : Type 0} (p q : X → Bool) → ((x : X) → p x ≡ q x
 filter_agrees p q f [] = refl
 filter_agrees p q f (x ∷ xs) =
     ap (λ (b : Bool). cond b (x ∷ filter p xs) (filter p xs)) (f x) ∙ ap (λ (ys : List _). cond (q x) (x ∷ ys) ys) (filter_agrees p q f xs)
-
--- what holds of each holds of the one at a place
-pub all_at : {X : Type 0} (P : X → Type 0) (xs : List X) (k : ℕ) (x : X) → AllByRecursion P xs → slice_get xs k ≡ Some x → P x
-all_at P [] k x h e = absurd (none-some x e)
-all_at P (y ∷ ys) zero x h e = subst P (same_Some y x e) h.0
-all_at P (y ∷ ys) (suc k) x h e = all_at P ys k x h.1 e
 
 -- an element is replaced
 pub get_set : {X : Type 0} (xs : List X) (n : ℕ) (x y : X) → slice_get xs n ≡ Some x → slice_get (set xs n y) n ≡ Some y

@@ -1,40 +1,37 @@
 -- The ways of a structure's routes: delaying lines, each once, and last the station of the worker at the end.
-use Rattle.std.proofs.Common.{ℕ, ◌<◌, List, [], ◌∷◌, ◌++◌, length, map, ◌≡◌, ◌≢◌, Option, Some, None, slice_get, inl, inr, ap, sym, ◌∙◌, subst, arith}
-use Rattle.std.proofs.lemmas.Option.{slice_get_cases}
-use Rattle.std.specs.List.{filter, AllByRecursion}
+use Rattle.std.proofs.Common.{ℕ, ◌<◌, List, [], ◌∷◌, ◌++◌, length, map, ◌≡◌, ◌≢◌, Option, Some, None, option_map, slice_get, inl, inr, ap, sym, ◌∙◌, subst, arith}
+use Rattle.std.proofs.lemmas.Option.{none-some, same_Some, slice_get_cases}
+use Rattle.std.specs.List.{filter}
 use Rattle.std.specs.Option.{IsSomeAnd}
+use Rattle.sdl_signal.specs.declared.ids.SetId.{SetId}
 use Rattle.sdl_parts.specs.Structure.{Structure, set_at}
 use Rattle.sdl_parts.specs.declared.parts.Set.{Set}
 use Rattle.sdl_routes.specs.declared.route.EndPoint.{EndPoint}
 use Rattle.sdl_routes.specs.declared.route.EndPoint.TheVariants as ends
-use Rattle.sdl_routes.specs.declared.route.Source.{Source}
 use Rattle.sdl_routes.specs.declared.route.Source.TheVariants as source
 use Rattle.sdl_routes.specs.declared.route.TableRow.{TableRow}
 use Rattle.sdl_routes.specs.declared.route.Station.{Station}
 use Rattle.sdl_routes.specs.declared.route.Station.TheVariants.{Line, Inlet}
 use Rattle.sdl_routes.specs.Routes.{IsRoute, IsLastStation, EachOnce, is_delaying}
 use Rattle.sdl_routes.specs.Table.{IsTableRoute}
+use Rattle.sdl_instances.specs.declared.process_set.ProcessSet.{ProcessSet}
+use Rattle.sdl_instances.specs.Core.{numbers_of}
 use Rattle.sdl_opening.specs.declared.worker.Worker.{Worker}
 use Rattle.sdl_opening.specs.declared.worker.Worker.TheVariants.{Block, Environment}
-use Rattle.sdl_outcome.specs.Stations.{IsAgent, Leads, AreWays, IsWay, Among, Once, place}
+use Rattle.sdl_outcome.specs.Stations.{IsAgent, Leads, AreWays, IsWay, Once, place}
 use Rattle.sdl_outcome.proofs.Lists.{all_at}
-use Rattle.sdl_outcome.specs.Plan.{Plan, IsPlan, ways_of, starter, finisher}
-
-not_among : {X : Type 0} (x : X) (xs : List X) → AllByRecursion (λ y. x ≢ y) xs → Among x xs → ⊥
-not_among x [] h m = m
-not_among x (y ∷ ys) h m = elim m [ inl e ↦ h.0 e | inr n ↦ not_among x ys h.1 n ]
+use Rattle.sdl_outcome.specs.Plan.{Plan, IsPlan, worker_of_set, ways_of, starter, finisher}
+use Rattle.sdl_opening.proofs.Bringing.{starter_agent, set_agent, not_among}
 
 pub once_of : (ss : List Station) → EachOnce ss → Once ss
 once_of [] h = tt
 once_of (s ∷ ss) h = (not_among s ss h.0, once_of ss h.1)
 
-set_agent : (o : Option Set) → IsAgent (elim o as (λ _. Worker) [ None ↦ Environment | Some d ↦ Block d.block ])
-set_agent None = tt
-set_agent (Some d) = tt
-
-pub starter_agent : (s : Structure) (from : Source) → IsAgent (starter s from)
-starter_agent s (source.Set t) = set_agent (set_at s t)
-starter_agent s (source.Gate g) = tt
+-- the worker of a set of the block
+pub set_worker : (s : Structure) (set : SetId) (d : ProcessSet) (o : Option Set) → set_at s set ≡ o → option_map numbers_of o ≡ Some d → worker_of_set s set ≡ Block d.block
+set_worker s set d None at e = absurd (none-some d e)
+set_worker s set d (Some t) at e =
+    ap (λ (o : Option Set). elim o as (λ _. Worker) [ None ↦ Environment | Some x ↦ Block x.block ]) at ∙ ap (λ (x : ProcessSet). Block x.block) (same_Some (numbers_of t) d e)
 
 pub finisher_agent : (s : Structure) (end : EndPoint) → IsAgent (finisher s end)
 finisher_agent s (ends.Set t) = set_agent (set_at s t)

@@ -1,5 +1,5 @@
 //! The ends of a queue or of a ring, by one name: who puts, takes and puts together again need not know which it is.
-ghost use Rattle.std.specs.Prelude.{◌≡◌, ◌↔◌, [], ◌∷◌, ◌++◌, map, None, MatchResult, MatchOption, IfOk, IsTrue};
+ghost use Rattle.std.specs.Prelude.{◌≡◌, ◌↔◌, [], ◌∷◌, ◌++◌, map, None, MatchOption, IfOk, IsTrue};
 ghost use Rattle.std.specs.Arc.{arc_value};
 ghost use Rattle.crossbeam_queue.specs.SegTies.{IsSegPassOf};
 ghost use Rattle.sdl_ring.specs.RingEnds.{IsPutFrom};
@@ -46,21 +46,6 @@ impl Model for AnyFeed {
 }
 
 impl AnyFeed {
-    /// Puts the item. `Err` hands it back where memory was refused; nothing is put then. May wait for other threads, but at a
-    /// ring.
-    #[inline(always)]
-    pub fn put<R: Wait>(&mut self, rt: &R, item: Item) -> Result<(), Item>
-        ensures same { IsSameFeed self.old self.new }
-        ensures put { MatchResult result (λ _. self.new.put ≡ self.old.put ++ item ∷ []) (λ back. (back ≡ item) × (self.new.put ≡ self.old.put)) }
-    {
-        let mut slot = Some(item);
-        self.put_from(rt, &mut slot);
-        match slot {
-            None => Ok(()),
-            Some(back) => Err(back),
-        }
-    }
-
     /// Puts the item of the slot, where it has one, and leaves the slot empty. Where memory is refused, the item stays there and
     /// nothing is put. May wait for other threads, but at a ring.
     #[inline(always)]
@@ -110,18 +95,6 @@ impl Model for AnyTap {
 }
 
 impl AnyTap {
-    /// Takes the item at the front. `None` only where there was none at some moment of the call. Takes no memory. May wait for
-    /// other threads, but at a ring.
-    #[inline(always)]
-    pub fn take<R: Wait>(&mut self, rt: &R) -> Option<Item>
-        ensures same { IsSameTap self.old self.new }
-        ensures taken { MatchOption result (self.new.taken ≡ self.old.taken) (λ x. (t : Tagged) × (t.item ≡ x) × (self.new.taken ≡ self.old.taken ++ t ∷ [])) }
-    {
-        let mut slot = None;
-        self.take_into(rt, &mut slot);
-        slot
-    }
-
     /// Takes the item at the front into the slot, which is empty. It stays empty only where there was none at some moment of the
     /// call. Takes no memory. May wait for other threads, but at a ring.
     #[inline(always)]

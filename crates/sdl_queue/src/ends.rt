@@ -41,19 +41,6 @@ impl Model for Feed {
 }
 
 impl Feed {
-    /// Puts the item. `Err` hands it back where memory was refused; nothing is put then. May wait for other threads.
-    pub fn put<R: Wait>(&mut self, rt: &R, item: Item) -> Result<(), Item>
-        ensures same { IsSameFeed self.old self.new }
-        ensures put { MatchResult result (λ _. self.new.put ≡ self.old.put ++ item ∷ []) (λ back. (back ≡ item) × (self.new.put ≡ self.old.put)) }
-    {
-        let mut slot = Some(item);
-        self.put_from(rt, &mut slot);
-        match slot {
-            None => Ok(()),
-            Some(back) => Err(back),
-        }
-    }
-
     /// Puts the item of the slot, where it has one, and leaves the slot empty. Where memory is refused, the item stays there and
     /// nothing is put. May wait for other threads.
     pub fn put_from<R: Wait>(&mut self, rt: &R, slot: &mut Option<Item>)
@@ -107,17 +94,6 @@ impl Model for Tap {
 }
 
 impl Tap {
-    /// Takes the item at the front. `None` only where the queue was empty at some moment of the call. Takes no memory. May
-    /// wait for other threads.
-    pub fn take<R: Wait>(&mut self, rt: &R) -> Option<Item>
-        ensures same { IsSameTap self.old self.new }
-        ensures taken { MatchOption result (self.new.taken ≡ self.old.taken) (λ x. (t : Tagged) × (t.item ≡ x) × (self.new.taken ≡ self.old.taken ++ t ∷ [])) }
-    {
-        let mut slot = None;
-        self.take_into(rt, &mut slot);
-        slot
-    }
-
     /// Takes the item at the front into the slot, which is empty. It stays empty only where the queue was empty at some moment
     /// of the call. Takes no memory. May wait for other threads.
     pub fn take_into<R: Wait>(&mut self, rt: &R, slot: &mut Option<Item>)

@@ -3,6 +3,7 @@
 #![tactic(auto)]
 
 pub mod any;
+mod by_value;
 pub mod ends;
 pub mod rest;
 mod rule;

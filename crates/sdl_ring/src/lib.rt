@@ -2,6 +2,7 @@
 //! thread of their own.
 #![tactic(auto)]
 
+mod by_value;
 pub mod ring;
 pub mod serial;
 

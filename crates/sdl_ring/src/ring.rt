@@ -2,7 +2,7 @@
 ghost use Rattle.std.specs.Prelude.{◌≡◌, ◌+◌, ◌≤◌, ◌↔◌, [], ◌∷◌, ◌++◌, length, IsTrue, None, MatchResult, MatchOption, IfOk};
 ghost use Rattle.std.specs.VecDeque.{deque_len, deque_capacity};
 ghost use Rattle.rtrb.specs.Ring.{known_items};
-ghost use Rattle.sdl_ring.specs.RingEnds.{WaitsForRoom, IsNextBacklog, IsPutFrom, IsBacklogFrom};
+ghost use Rattle.sdl_ring.specs.RingEnds.{WaitsForRoom, IsPutFrom, IsBacklogFrom};
 ghost use Rattle.sdl_ring.specs.Batches.{items_of};
 
 use crate::SerialQueue;
@@ -48,25 +48,9 @@ impl Model for RingFeed {
 }
 
 impl RingFeed {
-    /// Puts the item: into the ring, or into the backlog where the ring is full or the backlog is not empty. Where memory
-    /// is refused, the item comes back and nothing is put.
-    #[inline(always)]
-    pub fn put(&mut self, item: Item) -> Result<(), (Item, AllocError)>
-        ensures same { self.new.opening ≡ self.old.opening }
-        ensures put { MatchResult result (λ _. self.new.put ≡ self.old.put ++ item ∷ []) (λ back. (back.0 ≡ item) × (self.new.put ≡ self.old.put)) }
-        ensures backlog { MatchResult result (λ _. IsNextBacklog self.old.backlog item self.new.backlog) (λ _. self.new.backlog ≡ self.old.backlog) }
-        ensures full { WaitsForRoom self.new.backlog self.new.room }
-    {
-        let mut slot = Some(item);
-        self.put_from(&mut slot);
-        match slot {
-            None => Ok(()),
-            Some(back) => Err((back, AllocError)),
-        }
-    }
-
-    /// Puts the item of the slot, where it has one, as `put` does, and leaves the slot empty. Where memory is refused, the item
-    /// stays there and nothing is put. So no answer with room for an item is made and moved.
+    /// Puts the item of the slot, where it has one, and leaves the slot empty. The item goes into the ring, or into the backlog
+    /// where the ring is full or the backlog is not empty. Where memory is refused, the item stays in the slot and nothing is
+    /// put. So no answer with room for an item is made and moved.
     #[inline(always)]
     pub fn put_from(&mut self, slot: &mut Option<Item>)
         ensures same { self.new.opening ≡ self.old.opening }
@@ -156,18 +140,6 @@ impl Model for RingTap {
 }
 
 impl RingTap {
-    /// Takes the item at the front of the ring. `None` only where the ring was empty at some moment of the call. Takes no
-    /// memory.
-    #[inline(always)]
-    pub fn take(&mut self) -> Option<Item>
-        ensures same { self.new.opening ≡ self.old.opening }
-        ensures taken { MatchOption result ((self.new.taken ≡ self.old.taken) × (self.new.seen ≡ [])) (λ item. self.new.taken ≡ self.old.taken ++ item ∷ []) }
-    {
-        let mut slot = None;
-        self.take_into(&mut slot);
-        slot
-    }
-
     /// Takes the item at the front of the ring into the slot, which is empty. It stays empty only where the ring was empty at
     /// some moment of the call. Takes no memory.
     #[inline(always)]

@@ -7,35 +7,32 @@ use Rattle.sdl_routes.specs.declared.route.TableRow.{TableRow}
 use Rattle.sdl_routes.specs.declared.route.Station.{Station}
 use Rattle.sdl_behaviour.specs.declared.step.Frame.{Frame}
 use Rattle.sdl_behaviour.specs.declared.step.Step.{Step}
-use Rattle.sdl_transition.specs.Bound.{AreOneSystem}
 use Rattle.sdl_ends.specs.Ends.{WorkerEnds}
 use Rattle.sdl_opening.specs.declared.worker.Worker.TheVariants.{Environment, Forwarder}
 use Rattle.sdl_opening.specs.Workers.{blocks_from, lines_from}
 use Rattle.sdl_opening.specs.Opens.{AreOpen}
 use Rattle.sdl_forward.specs.Forwards.{Forwarding}
-use Rattle.sdl_block.specs.Workers.{worker_of, behaviours_of}
+use Rattle.sdl_block.specs.Workers.{worker_of}
 use Rattle.sdl_outcome.specs.Plan.{blocks_in}
 use Rattle.sdl_outcome.specs.EnvironmentWork.{IsEnvFresh}
 use Rattle.sdl_driver.specs.declared.driver.Driver.{Driver}
-use Rattle.sdl_driver.specs.Drivers.{site_of, plan_of}
+use Rattle.sdl_driver.specs.Drivers.{site_of}
+use Rattle.sdl_driver.specs.Systems.{plan_of}
 use Rattle.sdl_join.specs.Back.{AreNew}
 use Rattle.sdl_serial_run.specs.Starting.{idle_at}
-use Rattle.sdl_serial_run.specs.Serial.{IsNew}
-use Rattle.sdl_serial_run.proofs.Fresh.{cores_new, hops_of, none_held}
+use Rattle.sdl_serial_run.specs.Serial.{HasStarted}
+use Rattle.sdl_serial_run.proofs.Fresh.{cores_new, started_count, hops_of, none_held}
 
-module _ {S K I : Type 0} {F : I → Type 0} {g : _} (may : ℕ → Frame → Step → Type 0) (d : Driver S K I F g) (new : AllByRecursion (IsNew may d.checked d.budget) d.blocks.items)
-    (system : AreOneSystem may d.checked d.routes (map behaviours_of d.blocks.items)) (environment : IsEnvFresh (blocks_in (plan_of d)) d.environment) (forwarders : d.forwarders.items ≡ map idle_at (lines_from 0 d.checked.channels)) where
-  pub blocks_count_in : length d.blocks.items ≡ length d.checked.blocks
-  blocks_count_in = sym (length-map d.blocks.items behaviours_of) ∙ system.distributed.blocks_are
-
-  pub are_new : AreNew may (plan_of d) (site_of d)
+module _ {S K I : Type 0} {F : I → Type 0} {g : _} (may : ℕ → Frame → Step → Type 0) (d : Driver S K I F g) (started : HasStarted may d.system) (environment : IsEnvFresh (blocks_in (plan_of d.system)) d.environment)
+    (forwarders : d.forwarders.items ≡ map idle_at (lines_from 0 d.system.checked.channels)) where
+  pub are_new : AreNew may (plan_of d.system) (site_of d)
   are_new =
       record {
-        blocks = length-map d.blocks.items worker_of ∙ blocks_count_in;
-        cores = cores_new may d new system;
+        blocks = length-map d.system.blocks.items worker_of ∙ started_count may d.system started;
+        cores = cores_new may d.system started;
         environment = environment;
-        forwarders = ap (map (λ (f : Forwarding). f.hop)) forwarders ∙ hops_of (lines_from 0 d.checked.channels);
-        held = subst (AllByRecursion (λ (f : Forwarding). f.held ≡ None)) (sym forwarders) (none_held (lines_from 0 d.checked.channels));
+        forwarders = ap (map (λ (f : Forwarding). f.hop)) forwarders ∙ hops_of (lines_from 0 d.system.checked.channels);
+        held = subst (AllByRecursion (λ (f : Forwarding). f.held ≡ None)) (sym forwarders) (none_held (lines_from 0 d.system.checked.channels));
       }
 
 blocks_count : (n k : ℕ) → length (blocks_from n k) ≡ k

@@ -13,7 +13,7 @@ use Rattle.sdl_hand.specs.declared.hand.Refused.{Refused}
 use Rattle.sdl_hand.specs.declared.hand.Stepped.{Stepped}
 use Rattle.sdl_hand.specs.declared.hand.Stepped.TheVariants.{Memory}
 use Rattle.sdl_hand.specs.Puts.{answer_of}
-use Rattle.sdl_hand.proofs.FrontsApart.{has_feed_still}
+use Rattle.sdl_forward.specs.ByEnds.{has_feed_still}
 use Rattle.sdl_threads.proofs.Flushes.{taken_same}
 use Rattle.sdl_outcome.specs.EnvironmentWork.{EnvWorking, HasReadSoFar, HasWritten, HasWrittenSoFar, received_text}
 use Rattle.sdl_environment.specs.EnvApart.{IsEnvPuttingOut}

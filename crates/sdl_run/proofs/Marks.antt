@@ -20,7 +20,8 @@ use Rattle.sdl_block.specs.declared.worker.BlockWorker.{BlockWorker}
 use Rattle.sdl_block.specs.Workers.{worker_of}
 use Rattle.sdl_hand.specs.Work.{Working}
 use Rattle.sdl_outcome.specs.Plan.{lines_from}
-use Rattle.sdl_driver.specs.Drivers.{site_of, plan_of}
+use Rattle.sdl_driver.specs.Drivers.{site_of}
+use Rattle.sdl_driver.specs.Systems.{plan_of}
 use Rattle.sdl_join.specs.Back.{AreNew}
 use Rattle.sdl_threads.specs.declared.workers.BlockThread.{BlockThread}
 use Rattle.sdl_threads.specs.declared.workers.ForwarderThread.{ForwarderThread}
@@ -28,10 +29,11 @@ use Rattle.sdl_threads.specs.declared.kinds.Kind.{Kind}
 use Rattle.sdl_threads.specs.declared.kinds.Kind.TheVariants.{Block, Forwarder}
 use Rattle.sdl_threads.specs.Kinds.{station_of_one}
 use Rattle.sdl_run.specs.Sharing.{paired, block_thread, forwarder_thread, GivesOut}
-use Rattle.sdl_run.specs.declared.joining.Starting.{Starting}
+use Rattle.sdl_driver.specs.declared.system.System.{System}
 use Rattle.sdl_run.specs.declared.room.Opened.{Opened}
 use Rattle.sdl_run.specs.Room.{IsReadyToRun}
-use Rattle.sdl_run.proofs.Begin.{are_new, blocks_count_in}
+use Rattle.sdl_run.proofs.Begin.{are_new}
+use Rattle.sdl_serial_run.proofs.Fresh.{started_count}
 use Rattle.sdl_run.proofs.Together.{started}
 
 -- one of a list may stand first
@@ -74,11 +76,11 @@ got_in f [] n x at = absurd (none-some x at)
 got_in f (y ∷ ys) zero x at = ap (λ z. Some (f z)) (same_Some y x at)
 got_in f (y ∷ ys) (suc n) x at = got_in f ys n x at
 
-module _ {S K I : Type 0} {F : I → Type 0} {g : _} (may : ℕ → Frame → Step → Type 0) (x : Starting S K I F g) (o : Opened S K I F g) (ready : IsReadyToRun may x o)
+module _ {S K I : Type 0} {F : I → Type 0} {g : _} (may : ℕ → Frame → Step → Type 0) (x : System (BlockWorker S K I F g)) (o : Opened S K I F g) (ready : IsReadyToRun may x o)
     (once : (s : Structure) → IsStructure s → EachOnce (map mark_at (workers_in s)))
     (ws : List (Kind (BlockThread S K I F g) ForwarderThread)) (own : WorkerEnds) (given : GivesOut x.budget x.blocks.items o.forwarders.items o.ends.items ws own) where
-  abbrev new : AreNew may (plan_of (started x o)) (site_of (started x o))
-  new = are_new may (started x o) ready.new ready.system ready.environment ready.opened.forwarders
+  abbrev new : AreNew may (plan_of x) (site_of (started x o))
+  new = are_new may (started x o) ready.started ready.opened.environment ready.opened.forwarders
 
   abbrev bs : List (BlockThread S K I F g)
   bs = paired (block_thread x.budget) x.blocks.items given.of_blocks
@@ -90,7 +92,7 @@ module _ {S K I : Type 0} {F : I → Type 0} {g : _} (may : ℕ → Frame → St
   of_blocks =
       block_marks x.budget x.blocks.items given.of_blocks 0 given.block_count
       (λ k b at. subst (λ (m : ℕ). (worker_of b).core.block ≡ record { 0 = m }) (omega arith) ((new.cores k (worker_of b) (got_in worker_of x.blocks.items k b at)).0.block))
-      ∙ ap (λ (n : ℕ). map mark_at (blocks_from 0 n)) (blocks_count_in may (started x o) ready.new ready.system ready.environment ready.opened.forwarders)
+      ∙ ap (λ (n : ℕ). map mark_at (blocks_from 0 n)) (started_count may x ready.started)
 
   line_marks : (fs : List Forwarding) (es : List WorkerEnds) (hs : List Hop) → length es ≡ length fs → map (λ (f : Forwarding). f.hop) fs ≡ hs
       → map mark (map of_both (map {B = Kind (BlockThread S K I F g) ForwarderThread} Forwarder (paired forwarder_thread fs es))) ≡ map mark_at (map worker.Forwarder hs)
@@ -118,5 +120,5 @@ module _ {S K I : Type 0} {F : I → Type 0} {g : _} (may : ℕ → Frame → St
       let blocks = map mark_at (blocks_from 0 (length x.checked.blocks)) in
       let lines = map mark_at (map worker.Forwarder (lines_from 0 x.checked.channels)) in
       let whole : EachOnce (blocks ++ mark Outlet ∷ lines) =
-      subst EachOnce (map-append mark_at (blocks_from 0 (length x.checked.blocks)) (worker.Environment ∷ map worker.Forwarder (lines_from 0 x.checked.channels))) (once x.checked ready.structure) in
+      subst EachOnce (map-append mark_at (blocks_from 0 (length x.checked.blocks)) (worker.Environment ∷ map worker.Forwarder (lines_from 0 x.checked.channels))) (once x.checked ready.started.structure) in
       subst (λ (ms : List ℕ). EachOnce (mark Outlet ∷ ms)) (sym of_all) (moved_first blocks lines (mark Outlet) whole)

@@ -2,7 +2,7 @@
 use Rattle.std.proofs.Common.{ℕ, ◌+◌, List, [], ◌∷◌, ◌++◌, length, map, ◌≡◌, refl, ap, sym, ◌∙◌, arith, append_assoc}
 use Rattle.std.proofs.lemmas.List.{append-nil, length-append}
 use Rattle.sdl_ends.specs.Ends.{WorkerEnds}
-use Rattle.sdl_serial_run.proofs.Begins.{one_over, none_left}
+use Rattle.sdl_serial_run.proofs.Begins.{one_over, none_left, nothing}
 use Rattle.sdl_forward.specs.Forwards.{Forwarding}
 use Rattle.sdl_block.specs.declared.worker.BlockWorker.{BlockWorker}
 use Rattle.sdl_threads.specs.declared.workers.BlockThread.{BlockThread}
@@ -59,10 +59,6 @@ gives_all {X = X} f xs rest before now old new none s =
       count = s.count ∙ ap length e;
       added = s.added ∙ ap (λ (zs : List X). old ++ paired f zs s.own) e;
     }
-
-nothing : {X : Type 0} (xs : List X) → length xs ≡ 0 → xs ≡ []
-nothing [] e = refl
-nothing (x ∷ xs) e = absurd (omega (arith, e))
 
 -- the blocks are given the first ends, the environment the next, and the forwarders all others
 pub gives_out : {S K I : Type 0} {F : I → Type 0} {g : _} (budget : ℕ) (blocks : List (BlockWorker S K I F g)) (forwarders : List Forwarding) (all mid later after : List WorkerEnds) (own : WorkerEnds)

@@ -15,7 +15,6 @@ use Rattle.sdl_queue.specs.declared.rest.Rest.{Rest}
 use Rattle.sdl_behaviour.specs.declared.step.Frame.{Frame}
 use Rattle.sdl_behaviour.specs.declared.step.Step.{Step}
 use Rattle.sdl_transition.specs.Bound.{AreOneSystem}
-use Rattle.sdl_transition.specs.Rules.{Rules, block_rules}
 use Rattle.sdl_instances.specs.CoreOf.{CanFire}
 use Rattle.sdl_ends.specs.Ends.{WorkerEnds, IsSameEnds, AreRejoined}
 use Rattle.sdl_opening.specs.Opens.{AreOpen}
@@ -33,13 +32,15 @@ use Rattle.sdl_order.specs.Driver.{Site, IsAtWork}
 use Rattle.sdl_environment.specs.EnvApart.{IsEnvPuttingOut}
 use Rattle.sdl_driver.specs.declared.driver.Driver.{Driver}
 use Rattle.sdl_driver.specs.declared.parked.Parked.{Parked}
-use Rattle.sdl_driver.specs.Drivers.{site_of, plan_of}
-use Rattle.sdl_driver.specs.Stopped.{site_of_parked, plan_of_parked, IsParked}
-use Rattle.sdl_driver.proofs.Drives.{map_map, workers_few}
+use Rattle.sdl_driver.specs.declared.system.System.{System}
+use Rattle.sdl_driver.specs.Drivers.{site_of}
+use Rattle.sdl_driver.specs.Stopped.{site_of_parked, IsParked}
+use Rattle.sdl_driver.specs.Systems.{plan_of}
+use Rattle.sdl_driver.proofs.Drives.{same_plan, workers_few}
 use Rattle.sdl_driver.proofs.Readings.{reads_none, writes_none}
 use Rattle.sdl_join.specs.Back.{HaveComeBack, AreNew}
 use Rattle.sdl_serial_run.specs.Starting.{idle_at}
-use Rattle.sdl_serial_run.specs.Serial.{IsNew}
+use Rattle.sdl_serial_run.proofs.Fresh.{started_count}
 use Rattle.sdl_threads.specs.declared.workers.BlockThread.{BlockThread}
 use Rattle.sdl_threads.specs.declared.workers.ForwarderThread.{ForwarderThread}
 use Rattle.sdl_threads.specs.declared.work.Returned.{Returned}
@@ -53,7 +54,6 @@ use Rattle.sdl_settling.specs.Coming.{blocks_back, forwarders_back, ends_back}
 use Rattle.sdl_run.specs.Environment.{KeepsEnvironment}
 use Rattle.sdl_run.proofs.Places.{all_places, all_of, at_paired, paired_length}
 use Rattle.sdl_run.proofs.Comes.{CameBack, all_come}
-use Rattle.sdl_run.specs.declared.joining.Starting.{Starting}
 use Rattle.sdl_run.specs.declared.room.Opened.{Opened}
 use Rattle.sdl_run.specs.Room.{IsReadyToRun}
 use Rattle.sdl_run.proofs.Begin.{are_new, ends_count}
@@ -116,18 +116,18 @@ environment_as s t rows table w v a b ends x from y to e f h i j k kept =
     (subst (λ y'. KeepsEnvironment t table v b ends from from y' to) (sym k) kept)))))
 
 -- the workers that start, as a driver of one thread has them
-abbrev pub started : {S K I : Type 0} {F : I → Type 0} {g : _} → Starting S K I F g → Opened S K I F g → Driver S K I F g
-started x o = record { checked = x.checked; routes = x.routes; blocks = x.blocks; environment = x.environment; forwarders = o.forwarders; board = []; budget = x.budget }
+abbrev pub started : {S K I : Type 0} {F : I → Type 0} {g : _} → System (BlockWorker S K I F g) → Opened S K I F g → Driver S K I F g
+started x o = record { system = x; environment = o.environment; forwarders = o.forwarders; board = [] }
 
-module _ {S K I : Type 0} {F : I → Type 0} {g : _} (may : ℕ → Frame → Step → Type 0) (x : Starting S K I F g) (o : Opened S K I F g) where
+module _ {S K I : Type 0} {F : I → Type 0} {g : _} (may : ℕ → Frame → Step → Type 0) (x : System (BlockWorker S K I F g)) (o : Opened S K I F g) where
   abbrev d : Driver S K I F g
   d = started x o
 
   abbrev pub KeepsBlock : BlockThread S K I F g → Type 0
-  KeepsBlock w = CanFire may (behaviours_of w.block) × IsPuttingOut may (system_around w.block d.routes) (worker_of w.block) w.ends
+  KeepsBlock w = CanFire may (behaviours_of w.block) × IsPuttingOut may (system_around w.block d.system.routes) (worker_of w.block) w.ends
 
   abbrev pub KeepsForwarder : ForwarderThread → Type 0
-  KeepsForwarder w = IsHandingOn d.routes w.forwarder w.ends
+  KeepsForwarder w = IsHandingOn d.system.routes w.forwarder w.ends
 
   module _ (ready : IsReadyToRun may x o)
       (keep : (plan : Plan) (site : Site) (all : List WorkerEnds) (shelf : List (Station × ℕ)) → IsPlan plan → AreOpen plan.structure plan.routes all shelf → AreNew may plan site → HaveComeBack may plan site None all) where
@@ -137,63 +137,60 @@ module _ {S K I : Type 0} {F : I → Type 0} {g : _} (may : ℕ → Frame → St
     abbrev shelf : List (Station × ℕ)
     shelf = o.shelf
 
-    abbrev structure : IsStructure d.checked
-    structure = ready.structure
+    abbrev structure : IsStructure d.system.checked
+    structure = ready.started.structure
 
-    abbrev table : IsTable d.routes
-    table = ready.table
+    abbrev table : IsTable d.system.routes
+    table = ready.started.table
 
-    abbrev system : AreOneSystem may d.checked d.routes (map behaviours_of d.blocks.items)
-    system = ready.system
+    abbrev system : AreOneSystem may d.system.checked d.system.routes (map behaviours_of d.system.blocks.items)
+    system = ready.started.system
 
-    abbrev new : AllByRecursion (IsNew may d.checked d.budget) d.blocks.items
-    new = ready.new
+    abbrev fire : All (λ w. CanFire may (behaviours_of w)) d.system.blocks.items
+    fire = ready.started.fire
 
-    abbrev fire : All (λ w. CanFire may (behaviours_of w)) d.blocks.items
-    fire = ready.fire
+    abbrev environment : IsEnvFresh (length d.system.checked.blocks) d.environment
+    environment = ready.opened.environment
 
-    abbrev environment : IsEnvFresh (length d.checked.blocks) d.environment
-    environment = ready.environment
-
-    abbrev forwarders : d.forwarders.items ≡ map idle_at (lines_from 0 d.checked.channels)
+    abbrev forwarders : d.forwarders.items ≡ map idle_at (lines_from 0 d.system.checked.channels)
     forwarders = ready.opened.forwarders
 
-    abbrev opened : AreOpen d.checked d.routes all shelf
+    abbrev opened : AreOpen d.system.checked d.system.routes all shelf
     opened = ready.opened.opening
 
-    pub is_plan : IsPlan (plan_of d)
+    pub is_plan : IsPlan (plan_of d.system)
     is_plan = record { structure = structure; routes = system.routes_are; table = table }
 
-    kept : HaveComeBack may (plan_of d) (site_of d) None all
-    kept = keep (plan_of d) (site_of d) all shelf is_plan opened (are_new may d new system environment forwarders)
+    kept : HaveComeBack may (plan_of d.system) (site_of d) None all
+    kept = keep (plan_of d.system) (site_of d) all shelf is_plan opened (are_new may d ready.started environment forwarders)
 
-    pub blocks_known : length d.blocks.items ≡ length d.checked.blocks
-    blocks_known = sym (length-map d.blocks.items behaviours_of) ∙ system.distributed.blocks_are
+    pub blocks_known : length d.system.blocks.items ≡ length d.system.checked.blocks
+    blocks_known = started_count may d.system ready.started
 
     -- there are ends for each block, each forwarder and the environment
-    pub ends_enough : length all ≡ length d.blocks.items + (length d.forwarders.items + 1)
-    ends_enough = (let a = ends_count d.checked d.routes all shelf d.forwarders.items opened forwarders in let b = blocks_known in omega (arith, a, b))
+    pub ends_enough : length all ≡ length d.system.blocks.items + (length d.forwarders.items + 1)
+    ends_enough = (let a = ends_count d.system.checked d.system.routes all shelf d.forwarders.items opened forwarders in let b = blocks_known in omega (arith, a, b))
 
-    pub few_workers : length d.blocks.items + length d.forwarders.items ≤ 192
-    few_workers = (let a = ends_enough in let b = workers_few (plan_of d) is_plan in let c = opened.number in omega (arith, a, b, c))
+    pub few_workers : length d.system.blocks.items + length d.forwarders.items ≤ 192
+    few_workers = (let a = ends_enough in let b = workers_few (plan_of d.system) is_plan in let c = opened.number in omega (arith, a, b, c))
 
-    module _ (ws : List (Kind (BlockThread S K I F g) ForwarderThread)) (own : WorkerEnds) (given : GivesOut d.budget d.blocks.items d.forwarders.items all ws own) where
+    module _ (ws : List (Kind (BlockThread S K I F g) ForwarderThread)) (own : WorkerEnds) (given : GivesOut d.system.budget d.system.blocks.items d.forwarders.items all ws own) where
       -- each worker keeps at the start what its steps keep
-      block_keeps : (k : ℕ) (w : BlockThread S K I F g) → slice_get (paired (block_thread d.budget) d.blocks.items given.of_blocks) k ≡ Some w → KeepsBlock w
+      block_keeps : (k : ℕ) (w : BlockThread S K I F g) → slice_get (paired (block_thread d.system.budget) d.system.blocks.items given.of_blocks) k ≡ Some w → KeepsBlock w
       block_keeps k w at =
-          let (b, e, at_b, at_e, is) = at_paired (block_thread d.budget) d.blocks.items given.of_blocks k w at in
+          let (b, e, at_b, at_e, is) = at_paired (block_thread d.system.budget) d.system.blocks.items given.of_blocks k w at in
           subst (λ v. KeepsBlock v) is
-          (site.block_starts may (plan_of d) d.blocks.items d.budget refl d.forwarders.items (site_of d) refl refl all given.of_blocks given.of_forwarders own given.cut given.block_count given.forwarder_count kept fire k b e at_b at_e)
+          (site.block_starts may (plan_of d.system) d.system.blocks.items d.system.budget refl d.forwarders.items (site_of d) refl refl all given.of_blocks given.of_forwarders own given.cut given.block_count given.forwarder_count kept fire k b e at_b at_e)
 
       forwarder_keeps : (k : ℕ) (w : ForwarderThread) → slice_get (paired forwarder_thread d.forwarders.items given.of_forwarders) k ≡ Some w → KeepsForwarder w
       forwarder_keeps k w at =
           let (f, e, at_f, at_e, is) = at_paired forwarder_thread d.forwarders.items given.of_forwarders k w at in
           subst (λ v. KeepsForwarder v) is
-          (site.forwarder_starts may (plan_of d) d.blocks.items d.budget refl d.forwarders.items (site_of d) refl refl all given.of_blocks given.of_forwarders own given.cut given.block_count given.forwarder_count kept fire k f e at_f at_e)
+          (site.forwarder_starts may (plan_of d.system) d.system.blocks.items d.system.budget refl d.forwarders.items (site_of d) refl refl all given.of_blocks given.of_forwarders own given.cut given.block_count given.forwarder_count kept fire k f e at_f at_e)
 
       pub workers_keep : All (KeepsOneOf KeepsBlock KeepsForwarder) ws
       workers_keep =
-          let bs = paired (block_thread d.budget) d.blocks.items given.of_blocks in
+          let bs = paired (block_thread d.system.budget) d.system.blocks.items given.of_blocks in
           let fs = paired forwarder_thread d.forwarders.items given.of_forwarders in
           subst (All (KeepsOneOf KeepsBlock KeepsForwarder)) (sym given.workers_are)
           (all_of (KeepsOneOf KeepsBlock KeepsForwarder) (map Block bs ++ map Forwarder fs)
@@ -201,42 +198,42 @@ module _ {S K I : Type 0} {F : I → Type 0} {g : _} (may : ℕ → Frame → St
           (all_mapped (KeepsOneOf KeepsBlock KeepsForwarder) Block bs (all_places KeepsBlock bs block_keeps))
           (all_mapped (KeepsOneOf KeepsBlock KeepsForwarder) Forwarder fs (all_places KeepsForwarder fs forwarder_keeps))))
 
-      pub environment_keeps : (from to : Option (List ℕ)) → KeepsEnvironment d.checked d.routes d.environment None own from from to to
+      pub environment_keeps : (from to : Option (List ℕ)) → KeepsEnvironment d.system.checked d.system.routes d.environment None own from from to to
       environment_keeps from to =
           record {
             structure = structure;
             routes = system.routes_are;
-            putting = site.environment_starts may (plan_of d) d.blocks.items d.budget refl d.forwarders.items (site_of d) refl refl all given.of_blocks given.of_forwarders own given.cut given.block_count given.forwarder_count kept fire;
-            reading = reads_none d.checked d.routes (length d.checked.blocks) d.environment environment from;
-            writing = writes_none d.checked d.routes (length d.checked.blocks) d.environment environment to;
+            putting = site.environment_starts may (plan_of d.system) d.system.blocks.items d.system.budget refl d.forwarders.items (site_of d) refl refl all given.of_blocks given.of_forwarders own given.cut given.block_count given.forwarder_count kept fire;
+            reading = reads_none d.system.checked d.system.routes (length d.system.checked.blocks) d.environment environment from;
+            writing = writes_none d.system.checked d.system.routes (length d.system.checked.blocks) d.environment environment to;
           }
 
-      pub workers_number : length ws ≡ length d.blocks.items + length d.forwarders.items
+      pub workers_number : length ws ≡ length d.system.blocks.items + length d.forwarders.items
       workers_number =
-          let bs = paired (block_thread d.budget) d.blocks.items given.of_blocks in
+          let bs = paired (block_thread d.system.budget) d.system.blocks.items given.of_blocks in
           let fs = paired forwarder_thread d.forwarders.items given.of_forwarders in
           let a = ap length given.workers_are in
           let b = length-append (map Block bs) (map Forwarder fs) in
           let c = length-map {B = Kind (BlockThread S K I F g) ForwarderThread} bs Block in
           let e = length-map {B = Kind (BlockThread S K I F g) ForwarderThread} fs Forwarder in
-          let f = paired_length (block_thread d.budget) d.blocks.items given.of_blocks given.block_count in
+          let f = paired_length (block_thread d.system.budget) d.system.blocks.items given.of_blocks given.block_count in
           let h = paired_length forwarder_thread d.forwarders.items given.of_forwarders given.forwarder_count in
           omega (arith, a, b, c, e, f, h)
 
       -- when all have come back
       module _ (done : List (Returned (Kind (BlockThread S K I F g) ForwarderThread))) (came : AllZip (ComesFrom (KeepsOneOf KeepsBlock KeepsForwarder) (SameOneOf IsSameBlock IsSameForwarder)) ws done)
-          (now : EnvWorking) (astray : Option Item) (own_now : WorkerEnds) (environment_came : IsEnvPuttingOut d.checked d.routes (length d.checked.blocks) now astray own_now) (same_own : IsSameEnds own own_now) where
-        pairs : AllZip (CameBack KeepsBlock IsSameBlock) (paired (block_thread d.budget) d.blocks.items given.of_blocks) (blocks_back done)
+          (now : EnvWorking) (astray : Option Item) (own_now : WorkerEnds) (environment_came : IsEnvPuttingOut d.system.checked d.system.routes (length d.system.checked.blocks) now astray own_now) (same_own : IsSameEnds own own_now) where
+        pairs : AllZip (CameBack KeepsBlock IsSameBlock) (paired (block_thread d.system.budget) d.system.blocks.items given.of_blocks) (blocks_back done)
             × AllZip (CameBack KeepsForwarder IsSameForwarder) (paired forwarder_thread d.forwarders.items given.of_forwarders) (forwarders_back done)
         pairs =
-            all_come KeepsBlock IsSameBlock KeepsForwarder IsSameForwarder (paired (block_thread d.budget) d.blocks.items given.of_blocks) (paired forwarder_thread d.forwarders.items given.of_forwarders) done
+            all_come KeepsBlock IsSameBlock KeepsForwarder IsSameForwarder (paired (block_thread d.system.budget) d.system.blocks.items given.of_blocks) (paired forwarder_thread d.forwarders.items given.of_forwarders) done
             (subst (λ us. AllZip (ComesFrom (KeepsOneOf KeepsBlock KeepsForwarder) (SameOneOf IsSameBlock IsSameForwarder)) us done) given.workers_are came)
 
-        pub done_number : length done ≡ length d.blocks.items + length d.forwarders.items
+        pub done_number : length done ≡ length d.system.blocks.items + length d.forwarders.items
         done_number = AllZip-long _ ws done came ∙ workers_number
 
-        pub blocks_number : length (blocks_back done) ≡ length d.blocks.items
-        blocks_number = (let a = AllZip-long _ (paired (block_thread d.budget) d.blocks.items given.of_blocks) (blocks_back done) pairs.0 in let b = paired_length (block_thread d.budget) d.blocks.items given.of_blocks given.block_count in omega (arith, a, b))
+        pub blocks_number : length (blocks_back done) ≡ length d.system.blocks.items
+        blocks_number = (let a = AllZip-long _ (paired (block_thread d.system.budget) d.system.blocks.items given.of_blocks) (blocks_back done) pairs.0 in let b = paired_length (block_thread d.system.budget) d.system.blocks.items given.of_blocks given.block_count in omega (arith, a, b))
 
         pub lines_number : length (forwarders_back done) ≡ length d.forwarders.items
         lines_number = (let a = AllZip-long _ (paired forwarder_thread d.forwarders.items given.of_forwarders) (forwarders_back done) pairs.1 in let b = paired_length forwarder_thread d.forwarders.items given.of_forwarders given.forwarder_count in omega (arith, a, b))
@@ -244,17 +241,17 @@ module _ {S K I : Type 0} {F : I → Type 0} {g : _} (may : ℕ → Frame → St
         -- the lemmas of the site, of these workers
         pub used_now : AreUsed all (ends_back own_now done)
         used_now = site.used
-            may (plan_of d) d.blocks.items d.budget refl d.forwarders.items (site_of d) refl refl all given.of_blocks given.of_forwarders own given.cut given.block_count given.forwarder_count kept fire
+            may (plan_of d.system) d.system.blocks.items d.system.budget refl d.forwarders.items (site_of d) refl refl all given.of_blocks given.of_forwarders own given.cut given.block_count given.forwarder_count kept fire
             KeepsBlock IsSameBlock KeepsForwarder IsSameForwarder (λ v k. k) (λ u v s. (s.parts, (s.rest, s.ends))) (λ v k. k) (λ u v s. (s.hop, s.ends)) (blocks_back done) (forwarders_back done) pairs.0 pairs.1 now astray own_now [] environment_came same_own
 
-        behaviours_now : map behaviours_of (map (λ (t : BlockThread S K I F g). t.block) (blocks_back done)) ≡ map behaviours_of d.blocks.items
+        behaviours_now : map behaviours_of (map (λ (t : BlockThread S K I F g). t.block) (blocks_back done)) ≡ map behaviours_of d.system.blocks.items
         behaviours_now = site.behaviours_now
-            may (plan_of d) d.blocks.items d.budget refl d.forwarders.items (site_of d) refl refl all given.of_blocks given.of_forwarders own given.cut given.block_count given.forwarder_count kept fire
+            may (plan_of d.system) d.system.blocks.items d.system.budget refl d.forwarders.items (site_of d) refl refl all given.of_blocks given.of_forwarders own given.cut given.block_count given.forwarder_count kept fire
             KeepsBlock IsSameBlock KeepsForwarder IsSameForwarder (λ v k. k) (λ u v s. (s.parts, (s.rest, s.ends))) (λ v k. k) (λ u v s. (s.hop, s.ends)) (blocks_back done) (forwarders_back done) pairs.0 pairs.1 now astray own_now [] environment_came same_own
 
         fires_now : All (λ w. CanFire may (behaviours_of w)) (map (λ (t : BlockThread S K I F g). t.block) (blocks_back done))
         fires_now = site.fires_now
-            may (plan_of d) d.blocks.items d.budget refl d.forwarders.items (site_of d) refl refl all given.of_blocks given.of_forwarders own given.cut given.block_count given.forwarder_count kept fire
+            may (plan_of d.system) d.system.blocks.items d.system.budget refl d.forwarders.items (site_of d) refl refl all given.of_blocks given.of_forwarders own given.cut given.block_count given.forwarder_count kept fire
             KeepsBlock IsSameBlock KeepsForwarder IsSameForwarder (λ v k. k) (λ u v s. (s.parts, (s.rest, s.ends))) (λ v k. k) (λ u v s. (s.hop, s.ends)) (blocks_back done) (forwarders_back done) pairs.0 pairs.1 now astray own_now [] environment_came same_own
 
         module _ (rests : List (Station × Rest)) (rejoined : AreRejoined (ends_back own_now done) (map (λ (x : Station × ℕ). x.0) shelf) rests) where
@@ -267,33 +264,26 @@ module _ {S K I : Type 0} {F : I → Type 0} {g : _} (may : ℕ → Frame → St
                 board = lists_of rests;
               }
 
-          back : HaveComeBack may (plan_of d) joined astray (ends_back own_now done)
+          back : HaveComeBack may (plan_of d.system) joined astray (ends_back own_now done)
           back = site.come_back
-              may (plan_of d) d.blocks.items d.budget refl d.forwarders.items (site_of d) refl refl all given.of_blocks given.of_forwarders own given.cut given.block_count given.forwarder_count kept fire
+              may (plan_of d.system) d.system.blocks.items d.system.budget refl d.forwarders.items (site_of d) refl refl all given.of_blocks given.of_forwarders own given.cut given.block_count given.forwarder_count kept fire
               KeepsBlock IsSameBlock KeepsForwarder IsSameForwarder (λ v k. k) (λ u v s. (s.parts, (s.rest, s.ends))) (λ v k. k) (λ u v s. (s.hop, s.ends)) (blocks_back done) (forwarders_back done) pairs.0 pairs.1 now astray own_now rests environment_came same_own
 
           pub none : ((plan : Plan) (site : Site) (astray : Option Item) (all now : List WorkerEnds) (shelf : List (Station × ℕ)) (rests : List (Station × Rest)) → IsPlan plan → AreOpen plan.structure plan.routes all shelf → AreUsed all now
               → AreRejoined now (map (λ (x : Station × ℕ). x.0) shelf) rests → site.board ≡ lists_of rests → HaveComeBack may plan site astray now → astray ≡ None) → astray ≡ None
-          none strays = strays (plan_of d) joined astray all (ends_back own_now done) shelf rests is_plan opened used_now rejoined refl back
+          none strays = strays (plan_of d.system) joined astray all (ends_back own_now done) shelf rests is_plan opened used_now rejoined refl back
 
           -- they stand as between two steps, as those of a run that has stopped
-          module _ (p : Parked S K I F g) (checked : p.checked ≡ d.checked) (routes : p.routes ≡ d.routes) (budget : p.budget ≡ d.budget) (blocks : p.blocks.items ≡ map (λ (t : BlockThread S K I F g). t.block) (blocks_back done))
+          module _ (p : Parked S K I F g) (checked : p.system.checked ≡ d.system.checked) (routes : p.system.routes ≡ d.system.routes) (budget : p.system.budget ≡ d.system.budget) (blocks : p.system.blocks.items ≡ map (λ (t : BlockThread S K I F g). t.block) (blocks_back done))
               (lines : p.forwarders.items ≡ map (λ (t : ForwarderThread). t.forwarder) (forwarders_back done)) (at_last : p.environment ≡ now) (left : p.rests.items ≡ rests) where
-            pub workers_are : length (workers_of (plan_of_parked p)) ≡ length d.blocks.items + (length d.forwarders.items + 1)
+            pub workers_are : length (workers_of (plan_of p.system)) ≡ length d.system.blocks.items + (length d.forwarders.items + 1)
             workers_are = ap (λ (s : Structure). length (workers_in s)) checked ∙ (sym opened.number ∙ ends_enough)
 
-            pub behaviours_same : map behaviours_of p.blocks.items ≡ map behaviours_of d.blocks.items
+            pub behaviours_same : map behaviours_of p.system.blocks.items ≡ map behaviours_of d.system.blocks.items
             behaviours_same = ap (map behaviours_of) blocks ∙ behaviours_now
 
-            rules_same : map (λ w. block_rules (behaviours_of w)) p.blocks.items ≡ map (λ w. block_rules (behaviours_of w)) d.blocks.items
-            rules_same = sym (map_map block_rules behaviours_of p.blocks.items) ∙ (ap (map block_rules) behaviours_same ∙ map_map block_rules behaviours_of d.blocks.items)
-
-            pub plan_same : plan_of_parked p ≡ plan_of d
-            plan_same =
-                ap (λ (s : Structure). record { structure = s; routes = p.routes; rules = map (λ w. block_rules (behaviours_of w)) p.blocks.items; budget = p.budget }) checked
-                ∙ (ap (λ (rows : List TableRow). record { structure = d.checked; routes = rows; rules = map (λ w. block_rules (behaviours_of w)) p.blocks.items; budget = p.budget }) routes
-                ∙ (ap (λ (rs : List (List Rules)). record { structure = d.checked; routes = d.routes; rules = rs; budget = p.budget }) rules_same
-                ∙ ap (λ (n : ℕ). record { structure = d.checked; routes = d.routes; rules = map (λ w. block_rules (behaviours_of w)) d.blocks.items; budget = n }) budget))
+            pub plan_same : plan_of p.system ≡ plan_of d.system
+            plan_same = same_plan d.system p.system (record { checked = checked; routes = routes; budget = budget; behaviours = behaviours_same })
 
             site_same : site_of_parked p ≡ joined
             site_same =
@@ -305,9 +295,9 @@ module _ {S K I : Type 0} {F : I → Type 0} {g : _} (may : ℕ → Frame → St
             pub parked : ((plan : Plan) (site : Site) (astray : Option Item) (all now : List WorkerEnds) (shelf : List (Station × ℕ)) (rests : List (Station × Rest)) → IsPlan plan → AreOpen plan.structure plan.routes all shelf → AreUsed all now
                 → AreRejoined now (map (λ (x : Station × ℕ). x.0) shelf) rests → site.board ≡ lists_of rests → HaveComeBack may plan site astray now → IsAtWork may plan site) → IsParked may p
             parked stand =
-                let work = stand (plan_of d) joined astray all (ends_back own_now done) shelf rests is_plan opened used_now rejoined refl back in
+                let work = stand (plan_of d.system) joined astray all (ends_back own_now done) shelf rests is_plan opened used_now rejoined refl back in
                 record {
                   plan = subst IsPlan (sym plan_same) is_plan;
-                  work = subst (λ (q : Plan). IsAtWork may q (site_of_parked p)) (sym plan_same) (subst (IsAtWork may (plan_of d)) (sym site_same) work);
+                  work = subst (λ (q : Plan). IsAtWork may q (site_of_parked p)) (sym plan_same) (subst (IsAtWork may (plan_of d.system)) (sym site_same) work);
                   fire = subst (All (λ w. CanFire may (behaviours_of w))) (sym blocks) fires_now;
                 }

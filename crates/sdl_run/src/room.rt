@@ -1,6 +1,5 @@
 //! What a run in threads takes before its blocks start.
 ghost use Rattle.std.specs.Prelude.{◌≡◌, ◌<◌, ◌≤◌, ◌^◌, [], length, IfOk};
-ghost use Rattle.sdl_driver.specs.Closings.{HasRoom};
 ghost use Rattle.sdl_routes.specs.Routes.{AreRoutesOf};
 ghost use Rattle.sdl_settling.specs.Room.{HasApartRoom};
 ghost use Rattle.sdl_run.specs.Room.{IsOpened, IsThreadRoom};
@@ -14,16 +13,18 @@ use sdl_log::{Event, Keeps};
 use sdl_opening::ends_open;
 use sdl_parts::Checked;
 use sdl_routes::Routes;
-use sdl_serial_run::start::forwarders_of;
+use sdl_serial_run::start::{forwarders_of, make_room};
 use sdl_settling::rejoining::ApartRoom;
 use sdl_threads::{AtWork, Returned};
 use sdl_transition::Agents;
 use std::alloc::{AllocError, Global};
 use std::sync::Wait;
 
-/// The forwarders, all ends, and lists with room for all that is to come into them.
+/// The environment, the forwarders and all ends, and lists with room for all that is to come into them.
 #[derive(Drop)]
 pub struct Opened<S, K: Keeps = Vec<Event>> {
+    /// The environment's worker.
+    pub environment: EnvWorker,
     /// A forwarder for each delaying path that carries a signal.
     pub forwarders: Vec<Forwarder>,
     /// The ends of all workers, by number.
@@ -35,15 +36,13 @@ pub struct Opened<S, K: Keeps = Vec<Event>> {
     /// Room for them as they come back.
     pub done: Vec<Returned<AtWork<S, K>>>,
     /// Room for them as they are taken apart.
-    pub room: ApartRoom<S, K>,
+    pub apart: ApartRoom<S, K>,
 }
 
 /// What a run in threads takes before its blocks start.
 #[derive(Drop)]
 pub struct ThreadRoom<S, K: Keeps = Vec<Event>> {
     pub opened: Opened<S, K>,
-    /// The environment's worker.
-    pub environment: EnvWorker,
     /// Room for the closing.
     pub room: Room<S, K>,
     /// Room for the blocks as they start.
@@ -69,28 +68,7 @@ fn make_apart_room<S: Agents, K: Keeps>(
     })
 }
 
-/// Empty lists, with room for what so many blocks and so many workers leave.
-fn make_closing_room<S: Agents, K: Keeps>(
-    alloc: Global,
-    blocks: usize,
-    workers: usize,
-) -> Result<Room<S, K>, AllocError>
-    ensures empty { IfOk result (λ r. (r.parts.items ≡ []) × (r.logs.items ≡ []) × (r.hands.items ≡ [])) }
-    ensures room { IfOk result (λ r. HasRoom blocks workers r) }
-{
-    let parts = Vec::with_capacity(alloc, blocks)?;
-    let logs = Vec::with_capacity(alloc, blocks)?;
-    let counts = Vec::with_capacity(alloc, blocks)?;
-    let hands = Vec::with_capacity(alloc, workers)?;
-    Ok(Room {
-        parts,
-        logs,
-        counts,
-        hands,
-    })
-}
-
-/// Opens the ends of all workers, and takes the room for so many blocks, the forwarders and the environment.
+/// Makes the environment and the forwarders, opens the ends of all workers, and takes the room for them and so many blocks.
 fn open_all<S: Agents, K: Keeps, T: Wait>(
     rt: &T,
     alloc: Global,
@@ -105,14 +83,16 @@ fn open_all<S: Agents, K: Keeps, T: Wait>(
     let forwarders = forwarders_of(alloc, checked.structure().channels())?;
     let (ends, shelf) = ends_open(rt, alloc, checked, routes)?;
     let lines = forwarders.len();
-    let room = make_apart_room(alloc, blocks, lines)?;
+    let environment = EnvWorker::new(alloc, blocks as u32)?;
+    let apart = make_apart_room(alloc, blocks, lines)?;
     Ok(Opened {
+        environment,
         forwarders,
         ends,
         shelf,
         workers: Vec::with_capacity(alloc, blocks + lines)?,
         done: Vec::with_capacity(alloc, blocks + lines)?,
-        room,
+        apart,
     })
 }
 
@@ -129,13 +109,10 @@ pub fn make_thread_room<S: Agents, K: Keeps, T: Wait>(
     ensures { IfOk result (IsThreadRoom checked.now routes.now) }
 {
     let opened = open_all(rt, alloc, checked, routes, blocks)?;
-    let room = make_closing_room(alloc, blocks, blocks + 1 + opened.forwarders.len())?;
-    checked.structure();
-    let environment = EnvWorker::new(alloc, blocks as u32)?;
+    let room = make_room(alloc, blocks, blocks + 1 + opened.forwarders.len())?;
     let started = Vec::with_capacity(alloc, blocks)?;
     Ok(ThreadRoom {
         opened,
-        environment,
         room,
         started,
     })

@@ -4,18 +4,17 @@ ghost use Rattle.sdl_transition.specs.Bound.{AreOneSystem, IsBound};
 ghost use Rattle.sdl_driver.specs.Closings.{HasReadIn, HasWrittenIn, StopsByMemory, IsSameBound, outcome_in, plan_of_bound};
 ghost use Rattle.sdl_driver.specs.Ended.{HasEnded};
 ghost use Rattle.sdl_outcome.specs.Lists.{items_in};
-ghost use Rattle.sdl_serial_run.specs.Serial.{IsBoundOf, IsBackIn, plan_of_parts};
+ghost use Rattle.sdl_driver.specs.Systems.{plan_of_parts, IsBoundOf};
+ghost use Rattle.sdl_serial_run.specs.Serial.{IsBackIn};
 ghost use Rattle.sdl_run.specs.Room.{IsThreadRoom};
 ghost use Rattle.sdl_run.specs.Stops.{EndsAsTheyCame};
 
-use crate::joining::{Starting, run_apart};
+use crate::joining::run_apart;
 use crate::room::{ThreadRoom, make_thread_room};
 use sdl_driver::closing::{Closing, StartFault};
-use sdl_instances::bounds::parts_are_bound;
-use sdl_log::{Event, FilledAhead, Keeps};
-use sdl_parts::Checked;
-use sdl_routes::Routes;
-use sdl_serial_run::blocks::{gather, start_blocks};
+use sdl_driver::system::{System, bound_again, with_budget};
+use sdl_log::{FilledAhead, Keeps};
+use sdl_serial_run::blocks::start_system;
 use sdl_serial_run::lists::{in_lists, room_for_lists};
 use sdl_settling::settling::{Stopped, settle};
 use sdl_threads::Gate;
@@ -26,28 +25,19 @@ use std::snapshot::Snapshot;
 use std::sync::Wait;
 use std::thread::Threads;
 
-/// A bound system, taken apart.
-#[derive(Drop)]
-struct System<S> {
-    checked: Checked,
-    routes: Routes,
-    blocks: Vec<BlockParts<S>>,
-    budget: u32,
-}
-
 /// A run in threads that has ended.
 #[derive(Drop)]
-pub struct Ended<S, K: Keeps = Vec<Event>> {
+pub struct Ended<S, K: Keeps> {
     pub closing: Closing<S, K>,
     /// Its workers as they stopped, before anything was settled; for contracts alone.
     pub stopped: Snapshot<Stopped<S, K>>,
 }
 
-/// Runs the blocks in threads, where they all start, and settles what they leave.
+/// Runs a system in threads, where all of its blocks start, and settles what they leave.
 fn run_in<S: Agents + Send, K: Keeps + Send, G: Gate, T: Threads + Wait + Sync, R: Read, W: Write>(
     rt: &T,
     alloc: Global,
-    system: System<S>,
+    system: System<BlockParts<S>>,
     thread_room: ThreadRoom<S, K>,
     gate: &G,
     input: &mut R,
@@ -56,52 +46,32 @@ fn run_in<S: Agents + Send, K: Keeps + Send, G: Gate, T: Threads + Wait + Sync, 
     requires budget { (1 ≤ system.budget) × (system.budget ≤ 1000000) }
     requires system { AreOneSystem S.may system.checked system.routes system.blocks.items }
     requires room { IsThreadRoom system.checked system.routes thread_room }
-    ensures ended { IfOk result (λ e. HasEnded S.may (plan_of_parts system.checked system.routes system.blocks.items system.budget) (outcome_in K.events e.closing) e.closing.end e.closing.ledger) }
-    ensures reading { IfOk result (λ e. HasReadIn (plan_of_parts system.checked system.routes system.blocks.items system.budget) (R.remaining input.old) (R.remaining input.new) e.closing) }
-    ensures writing { IfOk result (λ e. HasWrittenIn (plan_of_parts system.checked system.routes system.blocks.items system.budget) (W.contents output.old) (W.contents output.new) e.closing) }
+    ensures ended { IfOk result (λ e. HasEnded S.may (plan_of_parts system) (outcome_in K.events e.closing) e.closing.end e.closing.ledger) }
+    ensures reading { IfOk result (λ e. HasReadIn (plan_of_parts system) (R.remaining input.old) (R.remaining input.new) e.closing) }
+    ensures writing { IfOk result (λ e. HasWrittenIn (plan_of_parts system) (W.contents output.old) (W.contents output.new) e.closing) }
     ensures stopped { IfOk result (λ e. StopsByMemory e.closing.input e.closing.end) }
     // Where a worker came back that was refused memory or whose thread could not start, the end names the first, and nothing is
     // settled.
-    ensures named { IfOk result (λ e. EndsAsTheyCame K.events (length system.blocks.items) e) }
-    ensures bound { IfOk result (λ e. IsBoundOf system.checked system.routes system.blocks.items e.closing.bound) }
-    ensures back { IfErr result (λ b. IsBoundOf system.checked system.routes system.blocks.items b × IsBound S.may b) }
+    ensures named { IfOk result (λ e. EndsAsTheyCame K.events (length system.blocks.items) e.closing e.stopped.value) }
+    ensures bound { IfOk result (λ e. IsBoundOf system e.closing.bound) }
+    ensures back { IfErr result (λ b. IsBoundOf system b × IsBound S.may b) }
     ensures untouched { IfErr result (λ b. (input.new ≡ input.old) × (output.new ≡ output.old)) }
 {
-    let System {
-        checked,
-        routes,
-        blocks,
-        budget,
-    } = system;
-    checked.structure();
-    parts_are_bound(&checked, &routes, blocks.as_slice());
-    routes.len();
     let ThreadRoom {
         opened,
-        environment,
         room,
         started,
     } = thread_room;
-    match start_blocks(alloc, &checked, budget, blocks, started) {
-        Ok(blocks) => {
-            let starting = Starting {
-                checked,
-                routes,
-                blocks,
-                environment,
-                budget,
-            };
-            let stopped = run_apart(rt, starting, opened, gate, input, output);
+    match start_system(alloc, system, started, room) {
+        Ok((system, room)) => {
+            let stopped = run_apart(rt, system, opened, gate, input, output);
             let came = Snapshot::of(&stopped);
             Ok(Ended {
                 closing: settle(rt, stopped, room, input, output),
                 stopped: came,
             })
         }
-        Err((workers, refused, rest)) => {
-            let parts = gather(room.parts, workers, refused, rest);
-            Err(Bound::of_blocks(checked, routes, parts))
-        }
+        Err(bound) => Err(bound),
     }
 }
 
@@ -134,21 +104,19 @@ pub fn run_threads_keeping<
     ensures back { IfErr result (λ f. IsBackIn S.may bound f) }
     ensures untouched { IfErr result (λ f. (input.new ≡ input.old) × (output.new ≡ output.old)) }
 {
-    let (checked, routes, blocks) = bound.into_blocks();
-    match make_thread_room(rt, alloc, &checked, &routes, blocks.len()) {
-        Ok(thread_room) => {
-            let system = System {
-                checked,
-                routes,
-                blocks,
-                budget,
-            };
-            match run_in(rt, alloc, system, thread_room, gate, input, output) {
-                Ok(ended) => Ok(ended.closing),
-                Err(bound) => Err(StartFault::Memory(bound)),
-            }
-        }
-        Err(_) => Err(StartFault::Memory(Bound::of_blocks(checked, routes, blocks))),
+    let system = with_budget(bound, budget);
+    match make_thread_room(
+        rt,
+        alloc,
+        &system.checked,
+        &system.routes,
+        system.blocks.len(),
+    ) {
+        Ok(thread_room) => match run_in(rt, alloc, system, thread_room, gate, input, output) {
+            Ok(ended) => Ok(ended.closing),
+            Err(bound) => Err(StartFault::Memory(bound)),
+        },
+        Err(_) => Err(StartFault::Memory(bound_again(system))),
     }
 }
 

@@ -97,28 +97,16 @@ fn run_once<S: Agents + Drop>(
 
 /// What is left, without the system.
 fn left_by<S: Agents + Drop>(closing: Closing<S>, written: Vec<u8>) -> Left {
-    let Closing {
-        bound: _,
-        logs,
-        env_put,
-        env_received,
-        hands,
-        rests,
-        ledger,
-        end,
-        input,
-        output,
-    } = closing;
     Left {
-        logs,
-        env_put,
-        env_received,
-        hands,
-        rests,
-        ledger,
-        end,
-        input,
-        output,
+        logs: closing.logs,
+        env_put: closing.env_put,
+        env_received: closing.env_received,
+        hands: closing.hands,
+        rests: closing.rests,
+        ledger: closing.ledger,
+        end: closing.end,
+        input: closing.input,
+        output: closing.output,
         written,
     }
 }

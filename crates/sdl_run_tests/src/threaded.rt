@@ -153,28 +153,16 @@ fn stored_in<K: Keeps>(logs: &[K]) -> usize {
 
 /// What is left, without the system and its logs.
 fn left_by<S: Agents + Drop, K: Keeps>(closing: Closing<S, K>, written: Vec<u8>) -> LeftInThreads {
-    let Closing {
-        bound: _,
-        logs,
-        env_put,
-        env_received,
-        hands,
-        rests,
-        ledger,
-        end,
-        input,
-        output,
-    } = closing;
     LeftInThreads {
-        env_put,
-        env_received,
-        ledger,
-        end,
-        input,
-        output,
+        held: held_in(closing.hands.as_slice()),
+        resting: resting_in(closing.rests.as_slice()),
+        events: stored_in(closing.logs.as_slice()),
+        env_put: closing.env_put,
+        env_received: closing.env_received,
+        ledger: closing.ledger,
+        end: closing.end,
+        input: closing.input,
+        output: closing.output,
         written,
-        held: held_in(hands.as_slice()),
-        resting: resting_in(rests.as_slice()),
-        events: stored_in(logs.as_slice()),
     }
 }

@@ -1,17 +1,13 @@
 -- The forwarders of the first channels, and those that are still to be made.
-use Rattle.std.proofs.Common.{ℕ, suc, ◌+◌, ◌<◌, ◌≤◌, true, false, cond, List, [], ◌∷◌, ◌++◌, length, map, drop, get_or, ◌≡◌, refl, ap, sym, ◌∙◌, add-one, drop-cons, append_assoc}
+use Rattle.std.proofs.Common.{ℕ, suc, ◌+◌, ◌<◌, ◌≤◌, true, false, cond, List, [], ◌++◌, length, map, drop, get_or, ◌≡◌, ap, sym, ◌∙◌, add-one, drop-cons, append_assoc}
 use Rattle.std.proofs.lemmas.Bool.{cond-true, cond-false}
-use Rattle.std.proofs.lemmas.List.{append-nil}
+use Rattle.std.proofs.lemmas.List.{append-nil, map-append}
 use Rattle.std.proofs.lemmas.List.{drop_all}
 use Rattle.sdl_parts.specs.declared.parts.Channel.{Channel}
 use Rattle.sdl_routes.specs.declared.route.Hop.{Hop}
 use Rattle.sdl_forward.specs.Forwards.{Forwarding}
 use Rattle.sdl_outcome.specs.Plan.{path_line, lines_from}
 use Rattle.sdl_serial_run.specs.Starting.{idle_at}
-
-map_append : {X Y : Type 0} (f : X → Y) (xs ys : List X) → map f (xs ++ ys) ≡ map f xs ++ map f ys
-map_append f [] ys = refl
-map_append f (x ∷ xs) ys = ap (λ zs. f x ∷ zs) (map_append f xs ys)
 
 abbrev pub lines_at : ℕ → Channel → List Hop
 lines_at n c = cond c.nodelay [] (path_line n false c.forth.items ++ path_line n true c.back.items)
@@ -26,7 +22,7 @@ module _ (made all : List Forwarding) (cs : List Channel) (n : ℕ) (c : Channel
   more_made : (made ++ map idle_at (lines_at n c)) ++ map idle_at (lines_from (n + 1) (drop (n + 1) cs)) ≡ all
   more_made =
       let a = append_assoc made (map idle_at (lines_at n c)) (map idle_at (lines_from (n + 1) (drop (n + 1) cs))) in
-      let b = map_append idle_at (lines_at n c) (lines_from (n + 1) (drop (n + 1) cs)) in
+      let b = map-append idle_at (lines_at n c) (lines_from (n + 1) (drop (n + 1) cs)) in
       let d = ap (map idle_at) (lines_here cs n c less is) in
       cc
 
@@ -44,7 +40,7 @@ module _ (made all : List Forwarding) (cs : List Channel) (n : ℕ) (c : Channel
       → two ++ map idle_at (lines_from (n + 1) (drop (n + 1) cs)) ≡ all
   both_made one two e f h =
       let some : lines_at n c ≡ path_line n false c.forth.items ++ path_line n true c.back.items = cond-false c.nodelay [] (path_line n false c.forth.items ++ path_line n true c.back.items) e in
-      let a = map_append idle_at (path_line n false c.forth.items) (path_line n true c.back.items) in
+      let a = map-append idle_at (path_line n false c.forth.items) (path_line n true c.back.items) in
       let b = append_assoc made (map idle_at (path_line n false c.forth.items)) (map idle_at (path_line n true c.back.items)) in
       let d = more_made in
       let g = ap (map idle_at) some in

@@ -28,7 +28,7 @@ one_over done later all x rest fewer e h before =
 pub room_for : {X Z : Type 0} (v : Vec X Z) (n m : ℕ) → n ≤ m → vec_len v + m ≤ vec_capacity v → vec_len v + n ≤ vec_capacity v
 room_for v n m less h = omega (arith, less, h)
 
-nothing : {X : Type 0} (xs : List X) → length xs ≡ 0 → xs ≡ []
+pub nothing : {X : Type 0} (xs : List X) → length xs ≡ 0 → xs ≡ []
 nothing [] e = refl
 nothing (x ∷ xs) e = absurd (omega (arith, e))
 

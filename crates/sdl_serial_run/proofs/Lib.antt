@@ -2,3 +2,4 @@ pub mod Beginning
 pub mod Begins
 pub mod Fresh
 pub mod Listed
+pub mod OfBound

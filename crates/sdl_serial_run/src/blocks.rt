@@ -1,17 +1,21 @@
 //! The blocks of a run, started and given back.
 ghost use Rattle.std.specs.Prelude.{◌≡◌, ℕ, ◌+◌, ◌≤◌, ◌++◌, ◌∷◌, [], All, map, length, vec_len, vec_capacity, IfOk, IfErr};
 ghost use Rattle.std.specs.List.{AllByRecursion};
+ghost use Rattle.sdl_transition.specs.Bound.{AreOneSystem, IsBound};
 ghost use Rattle.sdl_transition.specs.Rules.{block_rules};
 ghost use Rattle.sdl_instances.specs.Core.{IsBoundIn, signals_of, sets_of};
 ghost use Rattle.sdl_block.specs.Workers.{behaviours_of};
-ghost use Rattle.sdl_serial_run.specs.Serial.{IsNew};
+ghost use Rattle.sdl_driver.specs.Systems.{IsBoundOf};
+ghost use Rattle.sdl_serial_run.specs.Serial.{IsNew, HasStarted, IsStartOf};
 
 use sdl_block::BlockWorker;
-use sdl_driver::closing::take_first;
+use sdl_driver::System;
+use sdl_driver::closing::{Room, take_first};
 use sdl_instances::BlockCore;
+use sdl_instances::bounds::parts_are_bound;
 use sdl_log::Keeps;
 use sdl_parts::Checked;
-use sdl_transition::{Agents, BlockParts};
+use sdl_transition::{Agents, BlockParts, Bound};
 use std::alloc::Global;
 
 /// Puts an element behind the others of a list that has room for it.
@@ -28,7 +32,7 @@ pub fn put_last<T: Drop>(list: &mut Vec<T>, element: T)
 
 /// Makes a worker of each block, in order. A refusal hands back the workers so far, the parts that were refused, and the
 /// parts of the blocks behind.
-pub fn start_blocks<S: Agents, K: Keeps>(
+fn start_blocks<S: Agents, K: Keeps>(
     alloc: Global,
     checked: &Checked,
     budget: u32,
@@ -83,7 +87,7 @@ fn take_all<T: Drop>(list: &mut Vec<T>, more: Vec<T>)
 }
 
 /// The parts of all blocks, in order, where some have started.
-pub fn gather<S: Agents, K: Keeps>(
+fn gather<S: Agents, K: Keeps>(
     empty: Vec<BlockParts<S>>,
     workers: Vec<BlockWorker<S, K>>,
     refused: BlockParts<S>,
@@ -98,4 +102,49 @@ pub fn gather<S: Agents, K: Keeps>(
     put_last(&mut parts, refused);
     take_all(&mut parts, rest);
     parts
+}
+
+/// Starts all blocks of a system, for whose workers there is room. Where memory is refused, the system comes back as it was bound, in
+/// the list that the room has for its parts.
+pub fn start_system<S: Agents, K: Keeps>(
+    alloc: Global,
+    system: System<BlockParts<S>>,
+    workers: Vec<BlockWorker<S, K>>,
+    room: Room<S, K>,
+) -> Result<(System<BlockWorker<S, K>>, Room<S, K>), Bound<S>>
+    requires budget { (1 ≤ system.budget) × (system.budget ≤ 1000000) }
+    requires system { AreOneSystem S.may system.checked system.routes system.blocks.items }
+    requires empty { (workers.items ≡ []) × (room.parts.items ≡ []) }
+    requires workers { vec_len workers + length system.blocks.items ≤ vec_capacity workers }
+    requires parts { vec_len room.parts + length system.blocks.items ≤ vec_capacity room.parts }
+    ensures started { IfOk result (λ s. HasStarted S.may s.0) }
+    ensures same { IfOk result (λ s. IsStartOf system s.0) }
+    ensures room { IfOk result (λ s. s.1 ≡ room) }
+    ensures back { IfErr result (λ b. IsBoundOf system b × IsBound S.may b) }
+{
+    let System {
+        checked,
+        routes,
+        blocks,
+        budget,
+    } = system;
+    // These calls do nothing: what they ensure of the system is used below.
+    checked.structure();
+    parts_are_bound(&checked, &routes, blocks.as_slice());
+    routes.len();
+    match start_blocks(alloc, &checked, budget, blocks, workers) {
+        Ok(blocks) => {
+            let system = System {
+                checked,
+                routes,
+                blocks,
+                budget,
+            };
+            Ok((system, room))
+        }
+        Err((workers, refused, rest)) => {
+            let parts = gather(room.parts, workers, refused, rest);
+            Err(Bound::of_blocks(checked, routes, parts))
+        }
+    }
 }

@@ -39,30 +39,18 @@ pub fn in_lists<S>(closing: Closing<S, FilledAhead>, lists: Vec<Vec<Event>>) -> 
     ensures writing { (result.env_received ≡ closing.env_received) × (result.output ≡ closing.output) }
     ensures end { (result.end ≡ closing.end) × (result.ledger ≡ closing.ledger) }
 {
-    let Closing {
-        bound,
-        logs,
-        env_put,
-        env_received,
-        hands,
-        rests,
-        ledger,
-        end,
-        input,
-        output,
-    } = closing;
     let mut lists = lists;
-    add_lists(&mut lists, logs);
+    add_lists(&mut lists, closing.logs);
     Closing {
-        bound,
+        bound: closing.bound,
         logs: lists,
-        env_put,
-        env_received,
-        hands,
-        rests,
-        ledger,
-        end,
-        input,
-        output,
+        env_put: closing.env_put,
+        env_received: closing.env_received,
+        hands: closing.hands,
+        rests: closing.rests,
+        ledger: closing.ledger,
+        end: closing.end,
+        input: closing.input,
+        output: closing.output,
     }
 }

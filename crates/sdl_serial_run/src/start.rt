@@ -27,7 +27,7 @@ pub(crate) struct StartRoom<S, K: Keeps = Vec<Event>> {
 }
 
 /// Empty lists, with room for what so many blocks and so many workers leave.
-fn make_room<S: Agents, K: Keeps>(
+pub fn make_room<S: Agents, K: Keeps>(
     alloc: Global,
     blocks: usize,
     workers: usize,

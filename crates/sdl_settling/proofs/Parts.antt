@@ -1,5 +1,5 @@
 -- The workers that come back, parted by their kinds.
-use Rattle.std.proofs.Common.{◌+◌, List, [], ◌∷◌, ◌++◌, length, map, ◌≡◌, refl, ap, sym, ◌∙◌, arith, append_assoc}
+use Rattle.std.proofs.Common.{◌+◌, List, [], ◌∷◌, ◌++◌, length, map, ◌≡◌, refl, ap, sym, ◌∙◌, append_assoc}
 use Rattle.std.proofs.lemmas.List.{append-nil, length-append}
 use Rattle.sdl_ends.specs.Ends.{WorkerEnds}
 use Rattle.sdl_threads.specs.declared.workers.BlockThread.{BlockThread}
@@ -9,6 +9,7 @@ use Rattle.sdl_threads.specs.declared.kinds.Kind.{Kind}
 use Rattle.sdl_threads.specs.declared.kinds.Kind.TheVariants.{Block, Forwarder}
 use Rattle.sdl_threads.specs.Back.{worker_in}
 use Rattle.sdl_settling.specs.Coming.{block_if, forwarder_if, blocks_back, forwarders_back, ends_back}
+use Rattle.sdl_serial_run.proofs.Begins.{nothing}
 
 block_first : {B F : Type 0} (k : Kind B F) (bs : List B) → block_if k bs ≡ block_if k [] ++ bs
 block_first (Block b) bs = refl
@@ -35,10 +36,6 @@ none_over done all rest e before = sym (append-nil done) ∙ (ap (λ zs. done ++
 
 pub count_over : {X : Type 0} (more rest fewer : List X) → rest ≡ more ++ fewer → length rest ≡ length more + length fewer
 count_over more rest fewer e = ap length e ∙ length-append more fewer
-
-nothing : {X : Type 0} (xs : List X) → length xs ≡ 0 → xs ≡ []
-nothing [] e = refl
-nothing (x ∷ xs) e = absurd (omega (arith, e))
 
 pub no_blocks : {B F : Type 0} (rest : List (Returned (Kind B F))) → length rest ≡ 0 → blocks_back rest ≡ []
 no_blocks rest e = ap blocks_back (nothing rest e)

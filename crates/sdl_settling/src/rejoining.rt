@@ -28,29 +28,22 @@ pub struct ApartRoom<S, K: Keeps = Vec<Event>> {
     pub ends: Vec<Ends>,
 }
 
-/// The blocks and forwarders that came back, and what is left at each station.
-#[derive(Drop)]
-pub struct Joined<S, K: Keeps = Vec<Event>> {
-    pub blocks: Vec<BlockWorker<S, K>>,
-    pub forwarders: Vec<Forwarder>,
-    pub rests: Vec<(Station, Rest)>,
-}
-
-/// Takes the workers that came back apart, and puts the queues together again.
+/// Takes the workers that came back apart, and puts the queues together again. It answers the blocks and the forwarders, and what is
+/// left at each station.
 pub fn join_ends<S: Agents, K: Keeps, T: Wait>(
     rt: &T,
     room: ApartRoom<S, K>,
     done: Vec<Returned<AtWork<S, K>>>,
     own: Ends,
     shelf: Shelf,
-) -> Joined<S, K>
+) -> (Vec<BlockWorker<S, K>>, Vec<Forwarder>, Vec<(Station, Rest)>)
     requires room { HasApartRoom (length (blocks_back done.items)) (length (forwarders_back done.items)) room }
     requires once { EachOnce (map (λ x. x.0) shelf) }
     requires all { AreAllEndsOf (map (λ x. x.0) shelf) (ends_back own done.items) }
     requires enough { AllByRecursion (λ x. length (column x.0 (ends_back own done.items)) ≤ x.1) shelf }
-    ensures blocks { result.blocks.items ≡ map (λ t. t.block) (blocks_back done.items) }
-    ensures forwarders { result.forwarders.items ≡ map (λ t. t.forwarder) (forwarders_back done.items) }
-    ensures rests { AreRejoined (ends_back own done.items) (map (λ x. x.0) shelf) result.rests.items }
+    ensures blocks { result.0.items ≡ map (λ t. t.block) (blocks_back done.items) }
+    ensures forwarders { result.1.items ≡ map (λ t. t.forwarder) (forwarders_back done.items) }
+    ensures rests { AreRejoined (ends_back own done.items) (map (λ x. x.0) shelf) result.2.items }
 {
     let ApartRoom {
         mut block_threads,
@@ -64,9 +57,5 @@ pub fn join_ends<S: Agents, K: Keeps, T: Wait>(
     put_last(&mut ends, own);
     take_forwarders(&mut forwarders, &mut ends, forwarder_threads);
     let rests = ends_rejoin(rt, ends, shelf);
-    Joined {
-        blocks,
-        forwarders,
-        rests,
-    }
+    (blocks, forwarders, rests)
 }

@@ -1,13 +1,12 @@
 //! What joined workers leave is settled on one thread, and the run is closed.
 ghost use Rattle.std.specs.Prelude.{◌≡◌, ℕ, List, Option, Some, ◌+◌, ◌<◌, [], length, map, slice_get, MatchOption, ⊤};
-ghost use Rattle.sdl_transition.specs.Bound.{AreOneSystem};
-ghost use Rattle.sdl_block.specs.Workers.{behaviours_of};
 ghost use Rattle.sdl_outcome.specs.Plan.{blocks_in, workers_of};
 ghost use Rattle.sdl_outcome.specs.EnvironmentWork.{HasReadSoFar, HasWrittenSoFar};
-ghost use Rattle.sdl_driver.specs.Closings.{HasRoom, HasReadIn, HasWrittenIn, StopsByMemory, NamesRefused, IsSystemOf, outcome_in};
-ghost use Rattle.sdl_driver.specs.Drivers.{plan_of, IsDriving};
+ghost use Rattle.sdl_driver.specs.Closings.{HasRoom, HasReadIn, HasWrittenIn, StopsByMemory, NamesRefused, outcome_in};
+ghost use Rattle.sdl_driver.specs.Drivers.{IsDriving};
 ghost use Rattle.sdl_driver.specs.Ended.{HasEnded};
-ghost use Rattle.sdl_driver.specs.Stopped.{plan_of_parked, site_of_parked, IsParked, IsSystemOfParked};
+ghost use Rattle.sdl_driver.specs.Stopped.{site_of_parked, IsParked};
+ghost use Rattle.sdl_driver.specs.Systems.{plan_of, IsOneSystem, IsSystemOf};
 ghost use Rattle.sdl_order.specs.Driver.{outcome_of};
 ghost use Rattle.sdl_opening.specs.Workers.{Among, taker};
 ghost use Rattle.sdl_settling.specs.Takers.{workers_with};
@@ -66,16 +65,16 @@ fn drive_on<S: Agents, K: Keeps, R: Read, W: Write>(
     output: &mut W,
 ) -> Closing<S, K>
     requires driving { IsDriving S.may driver }
-    requires system { AreOneSystem S.may driver.checked driver.routes (map behaviours_of driver.blocks.items) }
-    requires room { HasRoom (length driver.blocks.items) (length driver.blocks.items + (length driver.forwarders.items + 1)) room }
+    requires system { IsOneSystem S.may driver.system }
+    requires room { HasRoom (length driver.system.blocks.items) (length driver.system.blocks.items + (length driver.forwarders.items + 1)) room }
     requires empty { (room.parts.items ≡ []) × (room.logs.items ≡ []) × (room.hands.items ≡ []) }
-    ensures ended { HasEnded S.may (plan_of driver) (outcome_in K.events result) result.end result.ledger }
-    ensures reading { (start : Option (List ℕ)) → HasReadSoFar driver.checked driver.routes (blocks_in (plan_of driver)) start (R.remaining input.old) driver.environment
-        → HasReadIn (plan_of driver) start (R.remaining input.new) result }
-    ensures writing { (start : Option (List ℕ)) → HasWrittenSoFar driver.checked driver.routes (blocks_in (plan_of driver)) start (W.contents output.old) driver.environment
-        → HasWrittenIn (plan_of driver) start (W.contents output.new) result }
+    ensures ended { HasEnded S.may (plan_of driver.system) (outcome_in K.events result) result.end result.ledger }
+    ensures reading { (start : Option (List ℕ)) → HasReadSoFar driver.system.checked driver.system.routes (blocks_in (plan_of driver.system)) start (R.remaining input.old) driver.environment
+        → HasReadIn (plan_of driver.system) start (R.remaining input.new) result }
+    ensures writing { (start : Option (List ℕ)) → HasWrittenSoFar driver.system.checked driver.system.routes (blocks_in (plan_of driver.system)) start (W.contents output.old) driver.environment
+        → HasWrittenIn (plan_of driver.system) start (W.contents output.new) result }
     ensures stopped { StopsByMemory result.input result.end }
-    ensures bound { IsSystemOf driver result.bound }
+    ensures bound { IsSystemOf driver.system result.bound }
 {
     let mut driver = driver;
     let refused = driver.run(&[], input, output);
@@ -92,49 +91,44 @@ fn settle_rests<S: Agents, K: Keeps, T: Wait, R: Read, W: Write>(
     output: &mut W,
 ) -> Closing<S, K>
     requires parked { IsParked S.may parked }
-    requires system { AreOneSystem S.may parked.checked parked.routes (map behaviours_of parked.blocks.items) }
-    requires room { HasRoom (length parked.blocks.items) (length parked.blocks.items + (length parked.forwarders.items + 1)) room }
+    requires system { IsOneSystem S.may parked.system }
+    requires room { HasRoom (length parked.system.blocks.items) (length parked.system.blocks.items + (length parked.forwarders.items + 1)) room }
     requires empty { (room.parts.items ≡ []) × (room.logs.items ≡ []) × (room.hands.items ≡ []) }
-    ensures ended { HasEnded S.may (plan_of_parked parked) (outcome_in K.events result) result.end result.ledger }
-    ensures reading { (start : Option (List ℕ)) → HasReadSoFar parked.checked parked.routes (blocks_in (plan_of_parked parked)) start (R.remaining input.old) parked.environment
-        → HasReadIn (plan_of_parked parked) start (R.remaining input.new) result }
-    ensures writing { (start : Option (List ℕ)) → HasWrittenSoFar parked.checked parked.routes (blocks_in (plan_of_parked parked)) start (W.contents output.old) parked.environment
-        → HasWrittenIn (plan_of_parked parked) start (W.contents output.new) result }
+    ensures ended { HasEnded S.may (plan_of parked.system) (outcome_in K.events result) result.end result.ledger }
+    ensures reading { (start : Option (List ℕ)) → HasReadSoFar parked.system.checked parked.system.routes (blocks_in (plan_of parked.system)) start (R.remaining input.old) parked.environment
+        → HasReadIn (plan_of parked.system) start (R.remaining input.new) result }
+    ensures writing { (start : Option (List ℕ)) → HasWrittenSoFar parked.system.checked parked.system.routes (blocks_in (plan_of parked.system)) start (W.contents output.old) parked.environment
+        → HasWrittenIn (plan_of parked.system) start (W.contents output.new) result }
     ensures stopped { StopsByMemory result.input result.end }
-    ensures bound { IsSystemOfParked parked result.bound }
+    ensures bound { IsSystemOf parked.system result.bound }
 {
     let Parked {
-        checked,
-        routes,
-        blocks,
+        system,
         environment,
         forwarders,
         rests,
-        budget,
     } = parked;
     match Board::adopt(rt, rests) {
         Ok(board) => {
             let driver = Driver {
-                checked,
-                routes,
-                blocks,
+                system,
                 environment,
                 forwarders,
                 board,
-                budget,
             };
             drive_on(driver, room, input, output)
         }
         Err((rests, station)) => {
-            let worker = number_of_taker(station, blocks.len() as u32, forwarders.as_slice());
+            let worker = number_of_taker(
+                station,
+                system.blocks.len() as u32,
+                forwarders.as_slice(),
+            );
             let parked = Parked {
-                checked,
-                routes,
-                blocks,
+                system,
                 environment,
                 forwarders,
                 rests,
-                budget,
             };
             parked.close(room, Some(worker))
         }
@@ -150,30 +144,23 @@ pub fn settle<S: Agents, K: Keeps, T: Wait, R: Read, W: Write>(
     output: &mut W,
 ) -> Closing<S, K>
     requires parked { IsParked S.may stopped.parked }
-    requires system { AreOneSystem S.may stopped.parked.checked stopped.parked.routes (map behaviours_of stopped.parked.blocks.items) }
-    requires room { HasRoom (length stopped.parked.blocks.items) (length stopped.parked.blocks.items + (length stopped.parked.forwarders.items + 1)) room }
+    requires system { IsOneSystem S.may stopped.parked.system }
+    requires room { HasRoom (length stopped.parked.system.blocks.items) (length stopped.parked.system.blocks.items + (length stopped.parked.forwarders.items + 1)) room }
     requires empty { (room.parts.items ≡ []) × (room.logs.items ≡ []) × (room.hands.items ≡ []) }
-    requires refused { MatchOption stopped.refused ⊤ (λ w. w < length (workers_of (plan_of_parked stopped.parked))) }
-    ensures ended { HasEnded S.may (plan_of_parked stopped.parked) (outcome_in K.events result) result.end result.ledger }
-    ensures reading { (start : Option (List ℕ)) → HasReadSoFar stopped.parked.checked stopped.parked.routes (blocks_in (plan_of_parked stopped.parked)) start (R.remaining input.old) stopped.parked.environment
-        → HasReadIn (plan_of_parked stopped.parked) start (R.remaining input.new) result }
-    ensures writing { (start : Option (List ℕ)) → HasWrittenSoFar stopped.parked.checked stopped.parked.routes (blocks_in (plan_of_parked stopped.parked)) start (W.contents output.old) stopped.parked.environment
-        → HasWrittenIn (plan_of_parked stopped.parked) start (W.contents output.new) result }
+    requires refused { MatchOption stopped.refused ⊤ (λ w. w < length (workers_of (plan_of stopped.parked.system))) }
+    ensures ended { HasEnded S.may (plan_of stopped.parked.system) (outcome_in K.events result) result.end result.ledger }
+    ensures reading { (start : Option (List ℕ)) → HasReadSoFar stopped.parked.system.checked stopped.parked.system.routes (blocks_in (plan_of stopped.parked.system)) start (R.remaining input.old) stopped.parked.environment
+        → HasReadIn (plan_of stopped.parked.system) start (R.remaining input.new) result }
+    ensures writing { (start : Option (List ℕ)) → HasWrittenSoFar stopped.parked.system.checked stopped.parked.system.routes (blocks_in (plan_of stopped.parked.system)) start (W.contents output.old) stopped.parked.environment
+        → HasWrittenIn (plan_of stopped.parked.system) start (W.contents output.new) result }
     ensures stopped { StopsByMemory result.input result.end }
     ensures refusal { MatchOption stopped.refused ⊤ (λ w. NamesRefused result.end (Some w)) }
     // Where one was refused, nothing is done after the workers have stopped: what the closing shows is what they left.
     ensures left { MatchOption stopped.refused ⊤ (λ w. outcome_in K.events result ≡ outcome_of (site_of_parked stopped.parked)) }
-    ensures bound { IsSystemOfParked stopped.parked result.bound }
+    ensures bound { IsSystemOf stopped.parked.system result.bound }
 {
-    let Stopped {
-        parked,
-        refused,
-        came,
-        way,
-    } = stopped;
-    drop(came);
-    drop(way);
-    match refused {
+    let parked = stopped.parked;
+    match stopped.refused {
         Some(worker) => parked.close(room, Some(worker)),
         None => settle_rests(rt, parked, room, input, output),
     }

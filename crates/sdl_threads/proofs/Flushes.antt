@@ -10,7 +10,7 @@ use Rattle.sdl_forward.specs.Forwards.{Forwarding}
 use Rattle.sdl_forward.specs.HandsOn.{IsHandingOn}
 use Rattle.sdl_hand.specs.Work.{Working}
 use Rattle.sdl_hand.specs.Apart.{IsPuttingOut}
-use Rattle.sdl_hand.proofs.FrontsApart.{has_feed_still}
+use Rattle.sdl_forward.specs.ByEnds.{has_feed_still}
 
 pub taken_same : (old new : WorkerEnds) → new.tap ≡ old.tap → taken_by new ≡ taken_by old
 taken_same old new tap = ap (λ o. taken_by (record { tap = o; feeds = [] })) tap

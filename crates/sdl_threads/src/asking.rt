@@ -30,24 +30,18 @@ impl Asking {
     pub(crate) fn may(&mut self, told: &Told, put: u64, steps: u64) -> bool {
         let may = told.words.all_but_one_rest() || self.has_waited(told, put, steps);
         if may {
-            let moved = told.moved.sum_of_all();
-            *self = Asking {
-                put,
-                steps,
-                moved,
-                naps: 0,
-            };
+            self.put = put;
+            self.steps = steps;
+            self.moved = told.moved.sum_of_all();
+            self.naps = 0;
         }
         may
     }
 
     fn has_waited(&self, told: &Told, put: u64, steps: u64) -> bool {
         let items = put.saturating_sub(self.put);
-        let many = items
-            .saturating_mul(STEPS_FOR_EACH)
-            .saturating_add(MANY_STEPS);
-        let few = self.naps >= FEW_NAPS;
-        (few && told.moved.sum_of_all().wrapping_sub(self.moved) >= many)
+        let many = MANY_STEPS.saturating_add(items.saturating_mul(STEPS_FOR_EACH));
+        (self.naps >= FEW_NAPS && told.moved.sum_of_all().wrapping_sub(self.moved) >= many)
             || self.naps >= MOST_NAPS
             || steps.saturating_sub(self.steps) >= many
     }

@@ -22,7 +22,7 @@ impl Lead {
         put.saturating_sub(self.put) > made.saturating_add(MOST_AHEAD)
     }
 
-    /// It has let them.
+    /// It has let others catch up.
     pub(crate) fn shrinks(&mut self, put: u64, taken: u64) {
         self.put = put.saturating_sub(CAUGHT_UP);
         self.taken = taken;

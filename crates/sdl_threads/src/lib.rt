@@ -2,6 +2,7 @@
 #![tactic(auto)]
 
 mod asking;
+mod driving;
 mod kinds;
 mod lead;
 mod pace;
@@ -13,8 +14,8 @@ mod words;
 mod work;
 mod workers;
 
+pub use driving::{Gate, OpenGate};
 pub use kinds::Kind;
-pub use pace::{Gate, OpenGate};
 pub use scope::{Team, run_all};
 pub use sdl_ends::Marks;
 pub use work::{Returned, Stepped, Work};

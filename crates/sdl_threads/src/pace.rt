@@ -1,32 +1,11 @@
-//! One worker's loop, and how it comes to rest.
-ghost use Rattle.std.specs.Prelude.{◌≡◌, false};
-
+//! At which pace a worker makes its steps, and how it comes to rest.
 use crate::asking::Asking;
 use crate::lead::Lead;
 use crate::pauses::Pauses;
 use crate::told::Told;
-use crate::work::{Stepped, Work};
 use sdl_ends::Marks;
-use sdl_parts::Structure;
-use sdl_routes::Routes;
 use std::sync::Wait;
 use std::sync::atomic::Ordering::Relaxed;
-
-/// Called once before each step of each worker in a thread. Steps are counted from 0, and the count stays at `u64::MAX` once it is
-/// there. Where the environment waits for the others before it reads, its next step was announced before: the step is made when
-/// something comes to it, or when it reads. It is for tests, which hold a step back until another was made.
-pub trait Gate: Sync {
-    /// The worker of this number is about to make the step of this number.
-    fn before(&self, worker: u32, step: u64);
-}
-
-/// The gate that lets each step through at once.
-#[derive(Clone, Copy)]
-pub struct OpenGate;
-
-impl Gate for OpenGate {
-    fn before(&self, _worker: u32, _step: u64) {}
-}
 
 /// After how many steps that did something a worker shows how many they are, and gives room where it takes: half a ring.
 const SHOWS_EVERY: u64 = 32;
@@ -44,7 +23,7 @@ const LONG_NAP: u64 = 16;
 
 /// What a worker keeps from step to step, so as to make them at a good pace.
 #[derive(Drop)]
-struct Pace {
+pub(crate) struct Pace {
     /// The mark of the worker's word.
     mark: u32,
     /// How many of its steps did something, and whether it paused since the last of them.
@@ -63,7 +42,7 @@ struct Pace {
 }
 
 impl Pace {
-    fn new(mark: u32) -> Pace {
+    pub(crate) fn new(mark: u32) -> Pace {
         Pace {
             mark,
             steps: 0,
@@ -79,7 +58,7 @@ impl Pace {
     }
 
     /// Its steps put so many items, and lately some at the stations with these marks.
-    fn puts(&mut self, stations: Marks, put: u64) {
+    pub(crate) fn puts(&mut self, stations: Marks, put: u64) {
         self.untold.join(stations);
         self.stations.join(stations);
         self.put = put;
@@ -87,7 +66,7 @@ impl Pace {
 
     /// Whether the worker may ask outside the system now, where it could wait long: not before what it did has come to its end,
     /// and all that comes of it. So it may where all others are at rest, and where it has waited for that long enough.
-    fn may_ask(&mut self, told: &Told) -> bool {
+    pub(crate) fn may_ask(&mut self, told: &Told) -> bool {
         self.tells(told);
         self.untold = Marks::none();
         self.asking.may(told, self.put, self.steps)
@@ -95,7 +74,7 @@ impl Pace {
 
     /// A step did something. It says whether the worker is to look round now.
     #[inline(always)]
-    fn stirs(&mut self, told: &Told) -> bool {
+    pub(crate) fn stirs(&mut self, told: &Told) -> bool {
         self.steps = self.steps.saturating_add(1);
         if self.has_paused {
             self.goes_on(told);
@@ -115,7 +94,7 @@ impl Pace {
 
     /// What is due after some steps.
     #[inline(never)]
-    fn looks_round<R: Wait>(&mut self, rt: &R, told: &Told) {
+    pub(crate) fn looks_round<R: Wait>(&mut self, rt: &R, told: &Told) {
         self.shows(told);
         if self.steps % TELLS_EVERY == 0 {
             self.tells(told);
@@ -155,7 +134,7 @@ impl Pace {
 
     /// A step did nothing. The worker pauses, or says that it is about to sleep and looks once more, or sleeps. Where what it put
     /// still waits for room, it is not at rest, and asks for room. Where it may not ask yet, it is not, and waits for the others.
-    fn pauses<R: Wait>(&mut self, rt: &R, told: &Told, flushed: bool, asks: bool) {
+    pub(crate) fn pauses<R: Wait>(&mut self, rt: &R, told: &Told, flushed: bool, asks: bool) {
         self.has_paused = true;
         if flushed {
             self.tells(told);
@@ -185,67 +164,4 @@ impl Pace {
         let naps = if is_quiet { LONG_NAP } else { 1 };
         told.words.rests(rt, self.mark, naps);
     }
-}
-
-/// Lets the worker of this number make steps until all are told to stop, and at least one. It says whether memory was refused to
-/// the last. All are told to stop where it is, and where the worker has made as many turns as it may. It is never put inline: the
-/// recursion that starts the threads would take its stack for each of them.
-#[inline(never)]
-pub(crate) fn drive<W: Work, G: Gate, R: Wait>(
-    rt: &R,
-    worker: &mut W,
-    number: u32,
-    structure: &Structure,
-    routes: &Routes,
-    gate: &G,
-    told: &Told,
-) -> bool
-    requires { W.keeps structure.now routes.now worker.old }
-    ensures keeps { W.keeps structure.now routes.now worker.new }
-    ensures same { W.same worker.old worker.new }
-    ensures hand { result ≡ false → W.empty_handed worker.old → W.empty_handed worker.new }
-{
-    let mut pace = Pace::new(worker.mark());
-    let mut step = 0u64;
-    let mut is_announced = false;
-    for _ in rt.forever() {
-        let flushed = worker.flush();
-        let asks = worker.asks_outside();
-        if asks {
-            pace.puts(worker.touched(), worker.puts());
-        }
-        let may_ask = !asks || (flushed && pace.may_ask(told));
-        if !is_announced {
-            gate.before(number, step);
-            is_announced = true;
-        }
-        // (after the greatest pick the least one comes again: which picks there are is open)
-        let pick = (step % 4_294_967_296) as u32;
-        let stepped = worker.step(rt, structure, routes, pick, may_ask);
-        if may_ask || !flushed || stepped != Stepped::Idle {
-            step = step.saturating_add(1);
-            is_announced = false;
-        }
-        match stepped {
-            Stepped::Did => if pace.stirs(told) {
-                pace.puts(worker.touched(), worker.puts());
-                pace.looks_round(rt, told);
-            }
-            Stepped::Idle => {
-                pace.puts(worker.touched(), worker.puts());
-                pace.pauses(rt, told, flushed, asks);
-            }
-            Stepped::Memory => {
-                told.stop();
-                return true;
-            }
-        }
-        if worker.is_spent() {
-            told.stop();
-        }
-        if told.words.is_stopped() {
-            return false;
-        }
-    }
-    false
 }

@@ -7,8 +7,8 @@ ghost use Rattle.sdl_threads.specs.declared.work.Returned.{Returned};
 ghost use Rattle.sdl_threads.specs.declared.kinds.Kind.{Kind};
 ghost use Rattle.sdl_threads.specs.Kinds.{KeepsOneOf, SameOneOf};
 
+use crate::driving::{Gate, drive};
 use crate::kinds::Kind;
-use crate::pace::{Gate, drive};
 use crate::told::Told;
 use crate::work::{Returned, Work};
 use sdl_parts::Structure;
@@ -132,7 +132,7 @@ fn start_one<
     match started {
         Ok(thread) => Ok(thread),
         Err(refused) => {
-            told.stop();
+            told.words.stop();
             told.turn_away(number);
             Err((refused.value)())
         }

@@ -37,12 +37,8 @@ impl Table {
         sum
     }
 
-    /// The sum of all.
     pub(crate) fn sum_of_all(&self) -> u64 {
-        let mut sum: u64 = 0;
-        for mark in 0..MARKS {
-            sum = sum.wrapping_add(self.at(mark as u32).load(Relaxed));
-        }
-        sum
+        let numbers = self.numbers.iter();
+        numbers.fold(0u64, |sum, number| sum.wrapping_add(number.load(Relaxed)))
     }
 }

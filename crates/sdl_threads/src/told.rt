@@ -5,8 +5,7 @@ use crossbeam_utils::CachePadded;
 use std::sync::atomic::AtomicU64;
 use std::sync::atomic::Ordering::SeqCst;
 
-/// What the threads tell each other. These are hints, and no claim rests on them: however they come, a worker comes back with
-/// what its steps keep.
+/// These are hints, and no claim rests on them: however they come, a worker comes back with what its steps keep.
 #[derive(Drop)]
 pub(crate) struct Told {
     pub(crate) words: Words,
@@ -27,11 +26,6 @@ impl Told {
             crowded: CachePadded::new(AtomicU64::new(1)),
             turned_away: AtomicU64::new(0),
         }
-    }
-
-    /// Tells all to stop.
-    pub(crate) fn stop(&self) {
-        self.words.stop();
     }
 
     /// The worker of this number is called on this thread, as its own could not start.

@@ -4,15 +4,12 @@ use crossbeam_utils::CachePadded;
 use sdl_ends::{MARKS, Marks, mark_of};
 use sdl_routes::Station;
 use std::sync::Wait;
-use std::sync::atomic::AtomicU64;
 use std::sync::atomic::Ordering::SeqCst;
+use std::sync::atomic::{AtomicI64, AtomicU64};
 use std::time::Duration;
 
 /// A sleep ends after this time, since a hint may be missed. A longer one takes so many times as much.
 const NAP_MICROS: u64 = 8_000;
-
-/// The count of those at rest while there are none. It lies above zero, as a worker may be woken before it is counted.
-const NONE_RESTS: u64 = 4_294_967_296;
 
 /// What a worker's word says of it.
 #[derive(Clone, Copy)]
@@ -33,9 +30,9 @@ enum State {
 pub(crate) struct Words {
     /// By the mark of the station where a worker takes: no two workers have one mark (`run_workers` asks for it).
     words: Table,
-    /// How many are at rest, counted from `NONE_RESTS`, and how many are where all rest.
-    resting: AtomicU64,
-    all_rest: u64,
+    /// How many are at rest, which is below 0 while one was woken before it was counted; and how many there are.
+    resting: AtomicI64,
+    workers: i64,
     /// For each station, the mark of the worker that waits for room there, and one more. 0 where none does.
     rooms: Table,
     /// How many sleeps ended by themselves. While a worker sleeps that nobody wakes, this is a clock: threads have no other one.
@@ -48,8 +45,8 @@ impl Words {
     pub(crate) fn new(workers: u32) -> Words {
         Words {
             words: Table::new(),
-            resting: AtomicU64::new(NONE_RESTS),
-            all_rest: NONE_RESTS + workers as u64,
+            resting: AtomicI64::new(0),
+            workers: workers as i64,
             rooms: Table::new(),
             naps: CachePadded::new(AtomicU64::new(0)),
             stop: AtomicU64::new(0),
@@ -68,13 +65,12 @@ impl Words {
         self.stop.load(SeqCst) != 0
     }
 
-    /// How many workers are at rest.
     pub(crate) fn resting(&self) -> u64 {
-        self.resting.load(SeqCst).saturating_sub(NONE_RESTS)
+        self.resting.load(SeqCst).max(0) as u64
     }
 
     pub(crate) fn all_but_one_rest(&self) -> bool {
-        self.resting.load(SeqCst).wrapping_add(1) >= self.all_rest
+        self.resting.load(SeqCst).wrapping_add(1) >= self.workers
     }
 
     /// How many sleeps ended by themselves so far, a longer one counted as so many.
@@ -98,7 +94,6 @@ impl Words {
         }
     }
 
-    /// Wakes the workers with these marks.
     pub(crate) fn wakes_each(&self, marks: Marks) {
         let mut left = marks;
         for _ in 0..MARKS {
@@ -130,9 +125,8 @@ impl Words {
     /// to stop where it is the last. Where it is the last but one, the environment is woken that waits for that.
     pub(crate) fn rests<R: Wait>(&self, rt: &R, mark: u32, naps: u64) {
         if self.moves(mark, State::Drowsy, State::Asleep) {
-            let resting = self.resting.fetch_add(1, SeqCst).wrapping_add(1);
             let environment = mark_of(Station::Outlet);
-            if resting >= self.all_rest {
+            if self.resting.fetch_add(1, SeqCst).wrapping_add(1) >= self.workers {
                 self.stop();
             } else if self.all_but_one_rest()
                 && self.moves(environment, State::Waiting, State::Awake)

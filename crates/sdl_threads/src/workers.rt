@@ -5,8 +5,8 @@ ghost use Rattle.sdl_routes.specs.Routes.{EachOnce};
 ghost use Rattle.sdl_ends.specs.Marks.{mark};
 ghost use Rattle.sdl_threads.specs.Back.{ComesFrom, HandStaysEmpty};
 
+use crate::driving::Gate;
 use crate::kinds::Kind;
-use crate::pace::Gate;
 use crate::scope::{Team, run_all};
 use crate::work::{Returned, Stepped, Work};
 use sdl_block::BlockWorker;

@@ -18,7 +18,7 @@ use Rattle.sdl_ends.specs.Ends.{WorkerEnds, IsSameEnds, AreFresh, HasFeed}
 use Rattle.sdl_ends.specs.Ways.{HasGateWays}
 use Rattle.sdl_forward.specs.Carries.{HasWaysOn}
 use Rattle.sdl_hand.specs.Apart.{StartsIn, HasOwnWays}
-use Rattle.sdl_hand.proofs.FrontsApart.{has_feed_still}
+use Rattle.sdl_forward.specs.ByEnds.{has_feed_still}
 use Rattle.sdl_opening.specs.declared.worker.Worker.{Worker}
 use Rattle.sdl_opening.specs.declared.worker.Worker.TheVariants.{Block, Environment, Forwarder}
 use Rattle.sdl_opening.specs.Workers.{first, starter, workers_in, ways_in}

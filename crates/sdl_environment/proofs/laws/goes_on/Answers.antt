@@ -1,4 +1,5 @@
-use Rattle.sdl_environment.proofs.EnvAgain.{fresh_read, fresh_written, fresh_sound, sound_after, outlet_after}
+use Rattle.sdl_outcome.proofs.Environment.{fresh_sound}
+use Rattle.sdl_environment.proofs.EnvAgain.{fresh_read, fresh_written, sound_after, outlet_after}
 use Rattle.sdl_environment.proofs.laws.goes_on.Goals as goal
 
 pub returns-clause-read : goal.returns-clause-read

@@ -31,7 +31,7 @@ run_beside-done-requires-clause-sound g c κs outlives =
 
 pub run_beside-done-requires-clause-sound_environment : goal.run_beside-done-requires-clause-sound_environment
 run_beside-done-requires-clause-sound_environment g c κs outlives =
-    environment_as c.structure-structure.result.now c.args.system.checked c.args.system.routes c.args.system.routes c.new.result.worker c.args.system.environment c.new.result.astray None c.give_out-workers.result.1
+    environment_as c.structure-structure.result.now c.args.system.checked c.args.system.routes c.args.system.routes c.new.result.worker c.args.opened.environment c.new.result.astray None c.give_out-workers.result.1
     (g.R.Read.remaining c.args.input.now) (g.R.Read.remaining c.args.input.now) (g.W.Write.contents c.args.output.now) (g.W.Write.contents c.args.output.now)
     c.structure-structure.ensures.structure refl c.new.ensures.worker c.new.ensures.astray refl refl
     (environment_keeps g.S.Agents.may c.args.system c.args.opened c.requires.ready c.new_workers_keep.ensures.keep
@@ -72,8 +72,8 @@ name_refused-refused-requires-clause-number g c =
     let e = c.len-number.ensures in
     omega (arith, b, d, e)
 
-pub join_ends-joined-requires-clause-room : goal.join_ends-joined-requires-clause-room
-join_ends-joined-requires-clause-room g c =
+pub join_ends-blocks-requires-clause-room : goal.join_ends-blocks-requires-clause-room
+join_ends-blocks-requires-clause-room g c =
     let putting = subst (λ s. IsEnvPuttingOut s c.args.system.routes (length s.blocks) c.run_beside-done.result.1.worker c.run_beside-done.result.1.astray c.run_beside-done.result.2) c.structure-structure.ensures.structure c.run_beside-done.ensures.keeps.putting in
     let a = blocks_known g.S.Agents.may c.args.system c.args.opened c.requires.ready c.new_workers_keep.ensures.keep in
     let b = blocks_number g.S.Agents.may c.args.system c.args.opened c.requires.ready c.new_workers_keep.ensures.keep
@@ -82,22 +82,22 @@ join_ends-joined-requires-clause-room g c =
     let d = lines_number g.S.Agents.may c.args.system c.args.opened c.requires.ready c.new_workers_keep.ensures.keep
     c.give_out-workers.result.0.items c.give_out-workers.result.1 c.give_out-workers.ensures
     c.run_beside-done.result.0.items c.run_beside-done.ensures.workers c.run_beside-done.result.1.worker c.run_beside-done.result.1.astray c.run_beside-done.result.2 putting c.run_beside-done.ensures.ends in
-    room_of c.args.opened.room (length c.args.system.checked.blocks) (length c.args.opened.forwarders.items) (length (blocks_back c.run_beside-done.result.0.items)) (length (forwarders_back c.run_beside-done.result.0.items)) (sym (b ∙ a)) (sym d) c.requires.ready.opened.room
+    room_of c.args.opened.apart (length c.args.system.checked.blocks) (length c.args.opened.forwarders.items) (length (blocks_back c.run_beside-done.result.0.items)) (length (forwarders_back c.run_beside-done.result.0.items)) (sym (b ∙ a)) (sym d) c.requires.ready.opened.apart
 
-pub join_ends-joined-requires-clause-once : goal.join_ends-joined-requires-clause-once
-join_ends-joined-requires-clause-once g c =
+pub join_ends-blocks-requires-clause-once : goal.join_ends-blocks-requires-clause-once
+join_ends-blocks-requires-clause-once g c =
     c.used_ends_come_back.ensures.once c.args.system.checked c.args.system.routes c.args.opened.ends.items c.args.opened.shelf c.requires.ready.opened.opening
 
-pub join_ends-joined-requires-clause-all : goal.join_ends-joined-requires-clause-all
-join_ends-joined-requires-clause-all g c =
+pub join_ends-blocks-requires-clause-all : goal.join_ends-blocks-requires-clause-all
+join_ends-blocks-requires-clause-all g c =
     let putting = subst (λ s. IsEnvPuttingOut s c.args.system.routes (length s.blocks) c.run_beside-done.result.1.worker c.run_beside-done.result.1.astray c.run_beside-done.result.2) c.structure-structure.ensures.structure c.run_beside-done.ensures.keeps.putting in
     c.used_ends_come_back.ensures.whole c.args.system.checked c.args.system.routes c.args.opened.ends.items (ends_back c.run_beside-done.result.2 c.run_beside-done.result.0.items) c.args.opened.shelf c.requires.ready.opened.opening
     (used_now g.S.Agents.may c.args.system c.args.opened c.requires.ready c.new_workers_keep.ensures.keep
     c.give_out-workers.result.0.items c.give_out-workers.result.1 c.give_out-workers.ensures
     c.run_beside-done.result.0.items c.run_beside-done.ensures.workers c.run_beside-done.result.1.worker c.run_beside-done.result.1.astray c.run_beside-done.result.2 putting c.run_beside-done.ensures.ends)
 
-pub join_ends-joined-requires-clause-enough : goal.join_ends-joined-requires-clause-enough
-join_ends-joined-requires-clause-enough g c =
+pub join_ends-blocks-requires-clause-enough : goal.join_ends-blocks-requires-clause-enough
+join_ends-blocks-requires-clause-enough g c =
     let putting = subst (λ s. IsEnvPuttingOut s c.args.system.routes (length s.blocks) c.run_beside-done.result.1.worker c.run_beside-done.result.1.astray c.run_beside-done.result.2) c.structure-structure.ensures.structure c.run_beside-done.ensures.keeps.putting in
     c.used_ends_come_back.ensures.room c.args.system.checked c.args.system.routes c.args.opened.ends.items (ends_back c.run_beside-done.result.2 c.run_beside-done.result.0.items) c.args.opened.shelf c.requires.ready.opened.opening
     (used_now g.S.Agents.may c.args.system c.args.opened c.requires.ready c.new_workers_keep.ensures.keep
@@ -110,7 +110,7 @@ unreachable-requires g c =
     let gone = none g.S.Agents.may c.args.system c.args.opened c.requires.ready c.new_workers_keep.ensures.keep
     c.give_out-workers.result.0.items c.give_out-workers.result.1 c.give_out-workers.ensures
     c.run_beside-done.result.0.items c.run_beside-done.ensures.workers c.run_beside-done.result.1.worker c.run_beside-done.result.1.astray c.run_beside-done.result.2 putting c.run_beside-done.ensures.ends
-    c.join_ends-joined.result.rests.items c.join_ends-joined.ensures.rests c.joined_workers_stand.ensures.none in
+    c.join_ends-blocks.result.2.items c.join_ends-blocks.ensures.rests c.joined_workers_stand.ensures.none in
     some_none c.into_parts-environment.result.1 c.is_some.result (c.into_parts-environment.ensures.astray ∙ gone) c.is_some.ensures c.if-is_some.true
 
 pub returns-clause-parked : goal.returns-clause-parked
@@ -119,8 +119,8 @@ returns-clause-parked g c =
     parked g.S.Agents.may c.args.system c.args.opened c.requires.ready c.new_workers_keep.ensures.keep
     c.give_out-workers.result.0.items c.give_out-workers.result.1 c.give_out-workers.ensures
     c.run_beside-done.result.0.items c.run_beside-done.ensures.workers c.run_beside-done.result.1.worker c.run_beside-done.result.1.astray c.run_beside-done.result.2 putting c.run_beside-done.ensures.ends
-    c.join_ends-joined.result.rests.items c.join_ends-joined.ensures.rests
-    (record { checked = c.args.system.checked; routes = c.args.system.routes; blocks = c.join_ends-joined.result.blocks; environment = c.into_parts-environment.result.0; forwarders = c.join_ends-joined.result.forwarders; rests = c.join_ends-joined.result.rests; budget = c.args.system.budget }) refl refl refl c.join_ends-joined.ensures.blocks c.join_ends-joined.ensures.forwarders c.into_parts-environment.ensures.worker refl c.joined_workers_stand.ensures.work
+    c.join_ends-blocks.result.2.items c.join_ends-blocks.ensures.rests
+    (record { system = record { checked = c.args.system.checked; routes = c.args.system.routes; blocks = c.join_ends-blocks.result.0; budget = c.args.system.budget }; environment = c.into_parts-environment.result.0; forwarders = c.join_ends-blocks.result.1; rests = c.join_ends-blocks.result.2 }) refl refl refl c.join_ends-blocks.ensures.blocks c.join_ends-blocks.ensures.forwarders c.into_parts-environment.ensures.worker refl c.joined_workers_stand.ensures.work
 
 pub returns-clause-same : goal.returns-clause-same
 returns-clause-same g c =
@@ -132,8 +132,8 @@ returns-clause-same g c =
       behaviours = behaviours_same g.S.Agents.may c.args.system c.args.opened c.requires.ready c.new_workers_keep.ensures.keep
           c.give_out-workers.result.0.items c.give_out-workers.result.1 c.give_out-workers.ensures
           c.run_beside-done.result.0.items c.run_beside-done.ensures.workers c.run_beside-done.result.1.worker c.run_beside-done.result.1.astray c.run_beside-done.result.2 putting c.run_beside-done.ensures.ends
-          c.join_ends-joined.result.rests.items c.join_ends-joined.ensures.rests
-          (record { checked = c.args.system.checked; routes = c.args.system.routes; blocks = c.join_ends-joined.result.blocks; environment = c.into_parts-environment.result.0; forwarders = c.join_ends-joined.result.forwarders; rests = c.join_ends-joined.result.rests; budget = c.args.system.budget }) refl refl refl c.join_ends-joined.ensures.blocks c.join_ends-joined.ensures.forwarders c.into_parts-environment.ensures.worker refl;
+          c.join_ends-blocks.result.2.items c.join_ends-blocks.ensures.rests
+          (record { system = record { checked = c.args.system.checked; routes = c.args.system.routes; blocks = c.join_ends-blocks.result.0; budget = c.args.system.budget }; environment = c.into_parts-environment.result.0; forwarders = c.join_ends-blocks.result.1; rests = c.join_ends-blocks.result.2 }) refl refl refl c.join_ends-blocks.ensures.blocks c.join_ends-blocks.ensures.forwarders c.into_parts-environment.ensures.worker refl;
     }
 
 pub returns-clause-refused : goal.returns-clause-refused
@@ -142,8 +142,8 @@ returns-clause-refused g c =
     let number = workers_are g.S.Agents.may c.args.system c.args.opened c.requires.ready c.new_workers_keep.ensures.keep
     c.give_out-workers.result.0.items c.give_out-workers.result.1 c.give_out-workers.ensures
     c.run_beside-done.result.0.items c.run_beside-done.ensures.workers c.run_beside-done.result.1.worker c.run_beside-done.result.1.astray c.run_beside-done.result.2 putting c.run_beside-done.ensures.ends
-    c.join_ends-joined.result.rests.items c.join_ends-joined.ensures.rests
-    (record { checked = c.args.system.checked; routes = c.args.system.routes; blocks = c.join_ends-joined.result.blocks; environment = c.into_parts-environment.result.0; forwarders = c.join_ends-joined.result.forwarders; rests = c.join_ends-joined.result.rests; budget = c.args.system.budget }) refl refl refl c.join_ends-joined.ensures.blocks c.join_ends-joined.ensures.forwarders c.into_parts-environment.ensures.worker refl in
+    c.join_ends-blocks.result.2.items c.join_ends-blocks.ensures.rests
+    (record { system = record { checked = c.args.system.checked; routes = c.args.system.routes; blocks = c.join_ends-blocks.result.0; budget = c.args.system.budget }; environment = c.into_parts-environment.result.0; forwarders = c.join_ends-blocks.result.1; rests = c.join_ends-blocks.result.2 }) refl refl refl c.join_ends-blocks.ensures.blocks c.join_ends-blocks.ensures.forwarders c.into_parts-environment.ensures.worker refl in
     let few = few_workers g.S.Agents.may c.args.system c.args.opened c.requires.ready c.new_workers_keep.ensures.keep in
     let count = done_number g.S.Agents.may c.args.system c.args.opened c.requires.ready c.new_workers_keep.ensures.keep
     c.give_out-workers.result.0.items c.give_out-workers.result.1 c.give_out-workers.ensures

@@ -1,5 +1,4 @@
 use Rattle.std.proofs.Common.{arith, length}
-use Rattle.sdl_serial_run.proofs.Fresh.{env_fresh}
 use Rattle.sdl_driver.proofs.Rooms.{room_as}
 use Rattle.sdl_run.proofs.room.make_thread_room.Goals as goal
 
@@ -9,7 +8,6 @@ returns g c =
     let lines = c.len.ensures in
     record {
       opened = c.in_ok-opened.ensures;
-      environment = env_fresh c.args.blocks (length c.args.checked.now.blocks) c.in_ok-environment.environment count c.in_ok-environment.ensures;
       room = room_as c.in_ok-room.room c.args.blocks _ _ _ count (omega (arith, lines, count)) c.in_ok-room.ensures.room;
       room_empty = c.in_ok-room.ensures.empty;
       started_empty = c.in_ok-started.ensures.items;

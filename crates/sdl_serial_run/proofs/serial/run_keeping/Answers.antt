@@ -1,26 +1,32 @@
-use Rattle.sdl_driver.specs.Closings.{outcome_in}
-use Rattle.sdl_serial_run.proofs.Fresh.{ended_bound, run_bound, reading_bound, writing_bound}
+use Rattle.std.proofs.Common.{subst}
+use Rattle.sdl_outcome.specs.Plan.{Plan}
+use Rattle.sdl_driver.specs.Closings.{IsRunOf, outcome_in}
+use Rattle.sdl_driver.specs.Ended.{HasEnded}
+use Rattle.sdl_driver.proofs.Systems.{bound_plan}
+use Rattle.sdl_serial_run.proofs.Fresh.{same_bound}
+use Rattle.sdl_serial_run.proofs.OfBound.{reading_bound, writing_bound}
 use Rattle.sdl_serial_run.proofs.serial.run_keeping.Goals as goal
 
 pub returns-in-Ok-run_in-clause-ended : goal.returns-in-Ok-run_in-clause-ended
 returns-in-Ok-run_in-clause-ended g c =
-    ended_bound g.S.Agents.may c.args.bound c.into_blocks-checked.result.0 c.into_blocks-checked.result.1 c.into_blocks-checked.result.2.items c.args.budget
-    (outcome_in g.K.Keeps.events c.in-Ok-run_in.closing) c.in-Ok-run_in.closing.end c.in-Ok-run_in.closing.ledger c.into_blocks-checked.ensures.structure c.into_blocks-checked.ensures.routes c.into_blocks-checked.ensures.blocks c.in-Ok-run_in.ensures.ended
+    let x = c.in-Ok-run_in.closing in
+    let same = c.with_budget-system.ensures in
+    subst (λ (p : Plan). HasEnded g.S.Agents.may p (outcome_in g.K.Keeps.events x) x.end x.ledger) (bound_plan c.with_budget-system.result c.args.bound c.args.budget same.same same.budget) c.in-Ok-run_in.ensures.ended
 
 pub returns-in-Ok-run_in-clause-reading : goal.returns-in-Ok-run_in-clause-reading
 returns-in-Ok-run_in-clause-reading g c =
-    reading_bound g.S.Agents.may c.args.bound c.into_blocks-checked.result.0 c.into_blocks-checked.result.1 c.into_blocks-checked.result.2.items c.args.budget c.in-Ok-run_in.closing _ _
-    c.into_blocks-checked.ensures.structure c.into_blocks-checked.ensures.routes c.in-Ok-run_in.ensures.reading
+    let same = c.with_budget-system.ensures in
+    reading_bound c.with_budget-system.result c.args.bound c.args.budget same.same same.budget c.in-Ok-run_in.closing _ _ c.in-Ok-run_in.ensures.reading
 
 pub returns-in-Ok-run_in-clause-writing : goal.returns-in-Ok-run_in-clause-writing
 returns-in-Ok-run_in-clause-writing g c =
-    writing_bound g.S.Agents.may c.args.bound c.into_blocks-checked.result.0 c.into_blocks-checked.result.1 c.into_blocks-checked.result.2.items c.args.budget c.in-Ok-run_in.closing _ _
-    c.into_blocks-checked.ensures.structure c.into_blocks-checked.ensures.routes c.in-Ok-run_in.ensures.writing
+    let same = c.with_budget-system.ensures in
+    writing_bound c.with_budget-system.result c.args.bound c.args.budget same.same same.budget c.in-Ok-run_in.closing _ _ c.in-Ok-run_in.ensures.writing
 
 pub returns-in-Ok-run_in-clause-run : goal.returns-in-Ok-run_in-clause-run
 returns-in-Ok-run_in-clause-run g c =
-    run_bound g.S.Agents.may c.args.bound c.into_blocks-checked.result.0 c.into_blocks-checked.result.1 c.into_blocks-checked.result.2.items c.args.budget c.args.schedule.now g.K.Keeps.events c.in-Ok-run_in.closing
-    c.into_blocks-checked.ensures.structure c.into_blocks-checked.ensures.routes c.into_blocks-checked.ensures.blocks c.in-Ok-run_in.ensures.run
+    let same = c.with_budget-system.ensures in
+    subst (λ (p : Plan). IsRunOf g.S.Agents.may p c.args.schedule.now g.K.Keeps.events c.in-Ok-run_in.closing) (bound_plan c.with_budget-system.result c.args.bound c.args.budget same.same same.budget) c.in-Ok-run_in.ensures.run
 
-pub run_in-requires-clause-system : goal.run_in-requires-clause-system
-run_in-requires-clause-system g c = c.into_blocks-checked.ensures.system c.requires.bound
+pub returns-in-Ok-run_in-clause-bound : goal.returns-in-Ok-run_in-clause-bound
+returns-in-Ok-run_in-clause-bound g c = same_bound c.with_budget-system.result c.args.bound c.in-Ok-run_in.closing.bound c.with_budget-system.ensures.same c.in-Ok-run_in.ensures.bound

@@ -2,7 +2,8 @@ use Rattle.std.proofs.Common.{◌≡◌, ℕ, List, Contains, map, length, ap, s
 use Rattle.std.proofs.lemmas.List.{length-map}
 use Rattle.sdl_block.specs.Workers.{worker_of}
 use Rattle.sdl_driver.proofs.Drives.{workers_count, workers_few}
-use Rattle.sdl_driver.specs.Stopped.{plan_of_parked, site_of_parked}
+use Rattle.sdl_driver.specs.Stopped.{site_of_parked}
+use Rattle.sdl_driver.specs.Systems.{plan_of}
 use Rattle.sdl_routes.specs.declared.route.Station.{Station}
 use Rattle.sdl_forward.specs.Boards.{stations_of, lists_of}
 use Rattle.sdl_forward.specs.Forwards.{Forwarding}
@@ -20,8 +21,8 @@ drive_on-requires-clause-driving g c = on_board g.S.Agents.may c.args.parked c.r
 
 pub number_of_taker-worker-requires-clause-few : goal.number_of_taker-worker-requires-clause-few
 number_of_taker-worker-requires-clause-few g c =
-    let a = workers_count g.S.Agents.may (plan_of_parked c.args.parked) (site_of_parked c.args.parked) c.requires.parked.work in
-    let b = workers_few (plan_of_parked c.args.parked) c.requires.parked.plan in
+    let a = workers_count g.S.Agents.may (plan_of c.args.parked.system) (site_of_parked c.args.parked) c.requires.parked.work in
+    let b = workers_few (plan_of c.args.parked.system) c.requires.parked.plan in
     let d = ap length c.as_slice.ensures.value in
     omega (arith, a, b, d)
 
@@ -29,7 +30,7 @@ pub number_of_taker-worker-requires-clause-taken : goal.number_of_taker-worker-r
 number_of_taker-worker-requires-clause-taken g c =
     let taken = taker_left g.S.Agents.may c.args.parked c.requires.parked c.in-Err.station c.in-Err.ensures.lists.1 in
     let told = c.len.ensures in
-    let count : c.len.result ≡ length c.args.parked.blocks.items = first_of (omega (arith, told), search rules) in
+    let count : c.len.result ≡ length c.args.parked.system.blocks.items = first_of (omega (arith, told), search rules) in
     subst (λ (fs : List Forwarding). Among (taker c.in-Err.station) (workers_with c.len.result (hops_of fs))) (sym c.as_slice.ensures.value)
     (subst (λ (n : ℕ). Among (taker c.in-Err.station) (workers_with n (hops_of c.args.parked.forwarders.items))) (sym count) taken)
 
@@ -38,10 +39,10 @@ close-requires-clause-driving g c = on_board g.S.Agents.may c.args.parked c.requ
 
 pub close-requires-clause-refused : goal.close-requires-clause-refused
 close-requires-clause-refused g c =
-    let a = workers_count g.S.Agents.may (plan_of_parked c.args.parked) (site_of_parked c.args.parked) c.requires.parked.work in
-    let b = workers_few (plan_of_parked c.args.parked) c.requires.parked.plan in
+    let a = workers_count g.S.Agents.may (plan_of c.args.parked.system) (site_of_parked c.args.parked) c.requires.parked.work in
+    let b = workers_few (plan_of c.args.parked.system) c.requires.parked.plan in
     let d = ap length c.as_slice.ensures.value in
-    let e = length-map c.args.parked.blocks.items worker_of in
+    let e = length-map c.args.parked.system.blocks.items worker_of in
     let f = c.number_of_taker-worker.ensures.bound in
     let h = c.len.ensures in
     omega (arith, a, b, d, e, f, h)

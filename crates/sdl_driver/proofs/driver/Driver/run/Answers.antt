@@ -1,4 +1,5 @@
-use Rattle.sdl_driver.specs.Drivers.{site_of, plan_of}
+use Rattle.sdl_driver.specs.Drivers.{site_of}
+use Rattle.sdl_driver.specs.Systems.{plan_of}
 use Rattle.sdl_driver.proofs.Drives.{reads_on, writes_on}
 use Rattle.sdl_driver.proofs.Rounds.{same_itself, same_still}
 use Rattle.sdl_driver.proofs.Running.{no_steps, scheduled_on, scheduled_stops, scheduled_settles}
@@ -9,8 +10,8 @@ pub loop-number-init : goal.loop-number-init
 loop-number-init g c =
     record {
       driving = c.requires.driving;
-      same = same_itself c.args.self.now;
-      steps = no_steps g.S.Agents.may (plan_of c.args.self.now) (site_of c.args.self.now);
+      same = same_itself c.args.self.now.system;
+      steps = no_steps g.S.Agents.may (plan_of c.args.self.now.system) (site_of c.args.self.now);
       reading = λ start h. h;
       writing = λ start h. h;
     }
@@ -23,7 +24,7 @@ loop-number-preserved g c =
     let inv = c.loop-number.invariant in
     record {
       driving = c.step.ensures.driving;
-      same = same_still start now next inv.same c.step.ensures.same;
+      same = same_still start.system now.system next.system inv.same c.step.ensures.same;
       steps = elim c.match-step.branch [
         | in-Did w ↦ scheduled_on g.S.Agents.may start now next inv.same c.args.schedule.now c.loop-number.number-index c.workers-workers.result c.workers-workers.ensures.count c.loop-number-test.true inv.steps c.step.result (λ e. cc) c.step.ensures.step
         | in-Idle w ↦ scheduled_on g.S.Agents.may start now next inv.same c.args.schedule.now c.loop-number.number-index c.workers-workers.result c.workers-workers.ensures.count c.loop-number-test.true inv.steps c.step.result (λ e. cc) c.step.ensures.step

@@ -1,6 +1,7 @@
 use Rattle.std.proofs.Common.{ap, subst}
 use Rattle.sdl_driver.specs.declared.driver.Round.{Round}
-use Rattle.sdl_driver.specs.Drivers.{site_of, plan_of, AllFree, RoundAnswers}
+use Rattle.sdl_driver.specs.Drivers.{site_of, AllFree, RoundAnswers}
+use Rattle.sdl_driver.specs.Systems.{plan_of}
 use Rattle.sdl_driver.proofs.Drives.{reads_on, writes_on}
 use Rattle.sdl_driver.proofs.Rounds.{less_by, same_itself, same_still}
 use Rattle.sdl_driver.specs.declared.driver.Round.TheVariants as round
@@ -14,7 +15,7 @@ loop-worker-smaller g c =
     let now = c.loop-worker.self in
     let next = c.round.new.self in
     less_by c.args.self.now now next c.loop-worker.invariant.same
-    (subst (λ (a : Round). RoundAnswers (plan_of now) a (site_of now) (site_of next)) c.in-Did.is c.round.ensures.answer)
+    (subst (λ (a : Round). RoundAnswers (plan_of now.system) a (site_of now) (site_of next)) c.in-Did.is c.round.ensures.answer)
 
 pub loop-worker-preserved : goal.loop-worker-preserved
 loop-worker-preserved g c =
@@ -24,7 +25,7 @@ loop-worker-preserved g c =
     let inv = c.loop-worker.invariant in
     record {
       driving = c.round.ensures.driving;
-      same = same_still start now next inv.same c.round.ensures.same;
+      same = same_still start.system now.system next.system inv.same c.round.ensures.same;
       free = λ free. c.round.ensures.free (ap refused_in c.in-Did.is) free;
       steps = round_after g.S.Agents.may start now next inv.same round.Did c.round.result c.in-Did.is inv.steps c.round.ensures.steps;
       reading = reads_on start now next inv.same _ _ _ inv.reading c.round.ensures.reading;
@@ -47,9 +48,9 @@ pub loop-worker-init : goal.loop-worker-init
 loop-worker-init g c =
     record {
       driving = c.requires.driving;
-      same = same_itself c.args.self.now;
+      same = same_itself c.args.self.now.system;
       free = free_of c.are_free-free.result (AllFree (site_of c.args.self.now)) c.are_free-free.ensures;
-      steps = none_settled g.S.Agents.may (plan_of c.args.self.now) (site_of c.args.self.now);
+      steps = none_settled g.S.Agents.may (plan_of c.args.self.now.system) (site_of c.args.self.now);
       reading = λ start h. h;
       writing = λ start h. h;
     }

@@ -10,16 +10,16 @@ pub returns-then-not-is_settled : goal.returns-then-not-is_settled
 returns-then-not-is_settled g c = (
   c.loop-number.number,
   worker_of c.index.result.now,
-  mapped_in worker_of c.args.self.now.blocks.items c.args.self.now.blocks.items refl c.loop-number.number c.index.result.now (omega (arith, c.loop-number-test.true, c.len-number-end.ensures)) c.index.ensures,
+  mapped_in worker_of c.args.self.now.system.blocks.items c.args.self.now.system.blocks.items refl c.loop-number.number c.index.result.now (omega (arith, c.loop-number-test.true, c.len-number-end.ensures)) c.index.ensures,
   λ done. false≢true (sym c.if-not-is_settled.true ∙ c.is_settled.ensures.1 done),
 )
 
 pub loop-number-preserved : goal.loop-number-preserved
 loop-number-preserved g c =
     one_further AreDone (site_of_parked c.args.self.now).blocks c.loop-number.number (worker_of c.index.result.now)
-    (mapped_in worker_of c.args.self.now.blocks.items c.args.self.now.blocks.items refl c.loop-number.number c.index.result.now (omega (arith, c.loop-number-test.true, c.len-number-end.ensures)) c.index.ensures)
+    (mapped_in worker_of c.args.self.now.system.blocks.items c.args.self.now.system.blocks.items refl c.loop-number.number c.index.result.now (omega (arith, c.loop-number-test.true, c.len-number-end.ensures)) c.index.ensures)
     (c.is_settled.ensures.0 c.if-not-is_settled.false) c.loop-number.invariant
 
 pub returns : goal.returns
 returns g c = all_seen AreDone (site_of_parked c.args.self.now).blocks c.loop-number.number
-    (past_in worker_of c.args.self.now.blocks.items c.args.self.now.blocks.items refl c.loop-number.number (omega (arith, c.loop-number-test.false, c.len-number-end.ensures))) c.loop-number.invariant
+    (past_in worker_of c.args.self.now.system.blocks.items c.args.self.now.system.blocks.items refl c.loop-number.number (omega (arith, c.loop-number-test.false, c.len-number-end.ensures))) c.loop-number.invariant

@@ -10,7 +10,7 @@ pub returns-then-made-self : goal.returns-then-made-self
 returns-then-made-self g c = (
   (
     worker_of c.index.result.now,
-    mapped_in worker_of c.args.self.now.blocks.items c.args.self.now.blocks.items refl c.loop-number.number c.index.result.now (omega (arith, c.loop-number-test.true, c.len-number-end.ensures)) c.index.ensures,
+    mapped_in worker_of c.args.self.now.system.blocks.items c.args.self.now.system.blocks.items refl c.loop-number.number c.index.result.now (omega (arith, c.loop-number-test.true, c.len-number-end.ensures)) c.index.ensures,
     sym c.made.ensures ∙ c.if-made-self.true,
   ),
   λ a v less at used. c.loop-number.invariant a v less at used,
@@ -18,10 +18,10 @@ returns-then-made-self g c = (
 
 pub loop-number-preserved : goal.loop-number-preserved
 loop-number-preserved g c =
-    one_further (λ (w : Working). turns w.core.log ≡ c.args.self.now.budget → ⊥) (site_of_parked c.args.self.now).blocks c.loop-number.number (worker_of c.index.result.now)
-    (mapped_in worker_of c.args.self.now.blocks.items c.args.self.now.blocks.items refl c.loop-number.number c.index.result.now (omega (arith, c.loop-number-test.true, c.len-number-end.ensures)) c.index.ensures)
+    one_further (λ (w : Working). turns w.core.log ≡ c.args.self.now.system.budget → ⊥) (site_of_parked c.args.self.now).blocks c.loop-number.number (worker_of c.index.result.now)
+    (mapped_in worker_of c.args.self.now.system.blocks.items c.args.self.now.system.blocks.items refl c.loop-number.number c.index.result.now (omega (arith, c.loop-number-test.true, c.len-number-end.ensures)) c.index.ensures)
     (λ used. c.if-made-self.false (c.made.ensures ∙ used)) c.loop-number.invariant
 
 pub returns : goal.returns
-returns g c = all_seen (λ (w : Working). turns w.core.log ≡ c.args.self.now.budget → ⊥) (site_of_parked c.args.self.now).blocks c.loop-number.number
-    (past_in worker_of c.args.self.now.blocks.items c.args.self.now.blocks.items refl c.loop-number.number (omega (arith, c.loop-number-test.false, c.len-number-end.ensures))) c.loop-number.invariant
+returns g c = all_seen (λ (w : Working). turns w.core.log ≡ c.args.self.now.system.budget → ⊥) (site_of_parked c.args.self.now).blocks c.loop-number.number
+    (past_in worker_of c.args.self.now.system.blocks.items c.args.self.now.system.blocks.items refl c.loop-number.number (omega (arith, c.loop-number-test.false, c.len-number-end.ensures))) c.loop-number.invariant

@@ -5,4 +5,4 @@ use Rattle.sdl_driver.specs.Stopped.{site_of_parked}
 use Rattle.sdl_driver.proofs.parked.Parked.first_spent.Given as goal
 
 abbrev pub invariant-loop-number : goal.invariant-loop-number
-invariant-loop-number g l = (n : ℕ) (w : Working) → n < l.number → slice_get (site_of_parked l.self).blocks n ≡ Some w → turns w.core.log ≡ l.self.budget → ⊥
+invariant-loop-number g l = (n : ℕ) (w : Working) → n < l.number → slice_get (site_of_parked l.self).blocks n ≡ Some w → turns w.core.log ≡ l.self.system.budget → ⊥

@@ -23,9 +23,9 @@ take_forwarders-requires g c =
 pub of_blocks-requires : goal.of_blocks-requires
 of_blocks-requires g c =
     let d = c.args.self in
-    system_kept g.S.Agents.may d.checked d.routes (map behaviours_of d.blocks.items) c.take_forwarders.new.room.parts.items
+    system_kept g.S.Agents.may d.system.checked d.system.routes (map behaviours_of d.system.blocks.items) c.take_forwarders.new.room.parts.items
     (ap (λ v. v.items) (c.take_forwarders.ensures.parts ∙ c.take_hand.ensures.parts)
-    ∙ filled c.args.room.parts.items c.take_blocks.new.room.parts.items (map behaviours_of d.blocks.items) c.requires.empty.0 c.take_blocks.ensures.parts)
+    ∙ filled c.args.room.parts.items c.take_blocks.new.room.parts.items (map behaviours_of d.system.blocks.items) c.requires.empty.0 c.take_blocks.ensures.parts)
     c.requires.system
 
 pub returns-clause-outcome : goal.returns-clause-outcome
@@ -35,19 +35,19 @@ returns-clause-outcome g c =
     let room = c.take_forwarders.new.room in
     let logs = map g.K.Keeps.events room.logs.items in
     let hands = map held_in room.hands.items in
-    let logs_are : logs ≡ map (λ w. (worker_of w).core.log) d.blocks.items =
+    let logs_are : logs ≡ map (λ w. (worker_of w).core.log) d.system.blocks.items =
     ap (λ v. map g.K.Keeps.events v.items) (c.take_forwarders.ensures.logs ∙ c.take_hand.ensures.logs)
-    ∙ filled (map g.K.Keeps.events c.args.room.logs.items) (map g.K.Keeps.events c.take_blocks.new.room.logs.items) (map (λ w. (worker_of w).core.log) d.blocks.items) (ap (map g.K.Keeps.events) c.requires.empty.1) c.take_blocks.ensures.logs in
-    let blocks_are : map held_in c.take_blocks.new.room.hands.items ≡ map (λ w. block_hand (worker_of w)) d.blocks.items =
-    filled (map held_in c.args.room.hands.items) (map held_in c.take_blocks.new.room.hands.items) (map (λ w. block_hand (worker_of w)) d.blocks.items) (ap (map held_in) c.requires.empty.2) c.take_blocks.ensures.hands in
+    ∙ filled (map g.K.Keeps.events c.args.room.logs.items) (map g.K.Keeps.events c.take_blocks.new.room.logs.items) (map (λ w. (worker_of w).core.log) d.system.blocks.items) (ap (map g.K.Keeps.events) c.requires.empty.1) c.take_blocks.ensures.logs in
+    let blocks_are : map held_in c.take_blocks.new.room.hands.items ≡ map (λ w. block_hand (worker_of w)) d.system.blocks.items =
+    filled (map held_in c.args.room.hands.items) (map held_in c.take_blocks.new.room.hands.items) (map (λ w. block_hand (worker_of w)) d.system.blocks.items) (ap (map held_in) c.requires.empty.2) c.take_blocks.ensures.hands in
     let parts = c.into_parts-env.result in
     let env : WorkerHand = held_in parts.hand in
     let env_is : env ≡ env_hand d.environment = hand_is parts.hand.kept None parts.hand.outgoing.items d.environment.outgoing c.into_parts-env.ensures.kept c.into_parts-env.ensures.outgoing in
-    let with_env : map held_in c.take_hand.new.self.hands.items ≡ map (λ w. block_hand (worker_of w)) d.blocks.items ++ env ∷ [] =
+    let with_env : map held_in c.take_hand.new.self.hands.items ≡ map (λ w. block_hand (worker_of w)) d.system.blocks.items ++ env ∷ [] =
     ap (map held_in) c.take_hand.ensures.hands ∙ (map_push held_in c.take_blocks.new.room.hands.items _ ∙ ap (λ (hs : List WorkerHand). hs ++ env ∷ []) blocks_are) in
-    let hands_are : hands ≡ (map (λ w. block_hand (worker_of w)) d.blocks.items ++ env_hand d.environment ∷ []) ++ map forwarder_hand d.forwarders.items =
-    joined (map (λ w. block_hand (worker_of w)) d.blocks.items) (map held_in c.take_hand.new.self.hands.items) hands (map forwarder_hand d.forwarders.items) env (env_hand d.environment) with_env env_is c.take_forwarders.ensures.hands in
-    same_outcome d.blocks.items d.environment d.forwarders.items d.rests.items logs parts.put.items parts.received.items hands logs_are c.into_parts-env.ensures.put c.into_parts-env.ensures.received hands_are
+    let hands_are : hands ≡ (map (λ w. block_hand (worker_of w)) d.system.blocks.items ++ env_hand d.environment ∷ []) ++ map forwarder_hand d.forwarders.items =
+    joined (map (λ w. block_hand (worker_of w)) d.system.blocks.items) (map held_in c.take_hand.new.self.hands.items) hands (map forwarder_hand d.forwarders.items) env (env_hand d.environment) with_env env_is c.take_forwarders.ensures.hands in
+    same_outcome d.system.blocks.items d.environment d.forwarders.items d.rests.items logs parts.put.items parts.received.items hands logs_are c.into_parts-env.ensures.put c.into_parts-env.ensures.received hands_are
 
 pub returns-clause-counted : goal.returns-clause-counted
 returns-clause-counted g c =

@@ -7,7 +7,7 @@ use Rattle.sdl_forward.specs.Boards.{stations_of, waiting, lists_of, AreAllStati
 use Rattle.sdl_forward.specs.Serials.{AreSerial}
 use Rattle.sdl_forward.proofs.Entries.{stations-lists}
 use Rattle.sdl_forward.proofs.Fresh.{empty_queue, stations_fresh, serial_fresh, waiting_fresh}
-use Rattle.sdl_forward.proofs.Places.{once_in_order}
+use Rattle.sdl_opening.proofs.Opened.{order_once}
 use Rattle.sdl_forward.proofs.board.Board.new.Goals as goal
 
 pub of-requires-clause-once : goal.of-requires-clause-once
@@ -15,7 +15,7 @@ of-requires-clause-once c =
     let ss : List Station = c.in_ok-stations.stations.items in
     let rests : List (Station × Rest) = c.in_ok-empty_queues.field-0.items in
     let are : rests ≡ map empty_queue ss = c.in_ok-empty_queues.ensures ∙ ap (map empty_queue) c.as_slice.ensures.value in
-    subst EachOnce (sym (ap stations_of are ∙ stations_fresh ss)) (once_in_order ss c.in_ok-stations.ensures.order)
+    subst EachOnce (sym (ap stations_of are ∙ stations_fresh ss)) (order_once ss c.in_ok-stations.ensures.order)
 
 pub of-requires-clause-serial : goal.of-requires-clause-serial
 of-requires-clause-serial c =

@@ -87,7 +87,7 @@ environment_first : (blocks : ℕ) (cs : List Channel) → IsRising (number bloc
 unfolding number
 environment_first blocks cs = (omega arith, rising_from (number blocks) (blocks + 1) (blocks + 1 + 2 * 0) (map Forwarder (lines_from 0 cs)) (omega arith) (lines_rise blocks 0 cs))
 
-workers_once : (s : Structure) → EachOnce (workers_in s)
+pub workers_once : (s : Structure) → EachOnce (workers_in s)
 workers_once s =
     let blocks = length s.blocks in
     rising_once (number blocks) 0 (workers_in s)

@@ -1,6 +1,6 @@
 use Rattle.std.proofs.Common.{◌≡◌, length}
 use Rattle.sdl_hand.proofs.Fronts.{IsPutting}
-use Rattle.sdl_hand.proofs.hand.Hand.put_out_over.Given as goal
+use Rattle.sdl_hand.proofs.hand.Hand.put_out.Given as goal
 
 -- the items in front of those that are left are put
 abbrev pub invariant-loop-self : goal.invariant-loop-self
