@@ -33,7 +33,7 @@ use Rattle.sdl_driver.specs.declared.closing.Room.{Room}
 use Rattle.sdl_driver.specs.Closings.{HasRoom, StopsByMemory, NamesRefused, end_by}
 use Rattle.sdl_outcome.specs.Lists.{held_in}
 use Rattle.sdl_driver.proofs.Drives.{map_map}
-use Rattle.sdl_balance.proofs.Balanced.{counts_fit}
+use Rattle.sdl_ledger.proofs.Balanced.{counts_fit}
 use Rattle.sdl_driver.proofs.Finish.{ended, traced, limited}
 use Rattle.sdl_driver.proofs.Readings.{never_stopped}
 use Rattle.sdl_driver.proofs.Stops.{knows, some_undone, ends_by}

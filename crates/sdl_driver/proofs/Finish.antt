@@ -15,7 +15,7 @@ use Rattle.sdl_order.specs.Driver.{Site, IsAtWork, outcome_of, finals_of}
 use Rattle.sdl_outcome.proofs.Lists.{all_weaker}
 use Rattle.sdl_order.proofs.Whole.{headline}
 use Rattle.sdl_order.proofs.Ending.{complete, cores, lawful, lefts, within_from, outgoing_same, outcome_in_order, forwarders_put}
-use Rattle.sdl_balance.proofs.Balanced.{balanced}
+use Rattle.sdl_ledger.proofs.Balanced.{balanced}
 use Rattle.sdl_driver.proofs.Meeting.{bound_at, turns_few, outputs_few}
 
 module _ (may : ℕ → Frame → Step → Type 0) (plan : Plan) (ok : IsPlan plan) (site : Site) (work : IsAtWork may plan site) where

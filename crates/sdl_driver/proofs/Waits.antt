@@ -14,7 +14,7 @@ use Rattle.sdl_outcome.specs.Plan.{Plan, IsPlan}
 use Rattle.sdl_order.specs.Driver.{Site, IsAtWork, outcome_of, finals_of}
 use Rattle.sdl_driver.proofs.Drives.{map_map}
 use Rattle.sdl_ledger.proofs.Adding.{sum_map}
-use Rattle.sdl_balance.proofs.Balanced.{few_waits}
+use Rattle.sdl_ledger.proofs.Balanced.{few_waits}
 use Rattle.sdl_driver.proofs.Finish.{traced, limited}
 
 -- what waits at a block

@@ -4,3 +4,4 @@ pub mod Ending
 pub mod Changed
 pub mod Altered
 pub mod Picking
+pub mod Serving

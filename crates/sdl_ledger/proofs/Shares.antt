@@ -17,7 +17,7 @@ use Rattle.sdl_outcome.proofs.Lists.{all_weaker, all_map}
 use Rattle.sdl_outcome.proofs.Comparisons.{same_station_is, same_station_itself, other_station, same_worker_is, same_worker_itself, other_worker}
 use Rattle.sdl_outcome.proofs.Workers.{place_apart, taker_place}
 use Rattle.sdl_outcome.proofs.Sums.{sum_same, sum_none}
-use Rattle.sdl_balance.proofs.Spread.{all_apart}
+use Rattle.sdl_ledger.proofs.Spread.{all_apart}
 
 apart_from : {X : Type 0} (x : X) (ys : List X) → AllByRecursion (λ y. x ≢ y) ys → (y : X) → Among y ys → x ≢ y
 apart_from x [] h y m = absurd m

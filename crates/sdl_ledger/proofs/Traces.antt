@@ -40,8 +40,8 @@ use Rattle.sdl_outcome.proofs.Workers.{count_blocks}
 use Rattle.sdl_outcome.proofs.Workers.{workers_once}
 use Rattle.sdl_outcome.proofs.Sums.{sum_same, sum_both}
 use Rattle.sdl_ledger.proofs.Adding.{sum_map}
-use Rattle.sdl_balance.proofs.Spread.{below, below_less, number, number_all, number_none, sum_over, sum_swap, sum_reverse}
-use Rattle.sdl_balance.proofs.Shares.{AreAt, at_none, at_next, all_workers, no_worker, over_workers, no_station, over_stations, once_each, places_once, among_places}
+use Rattle.sdl_ledger.proofs.Spread.{below, below_less, number, number_all, number_none, sum_over, sum_swap, sum_reverse}
+use Rattle.sdl_ledger.proofs.Shares.{AreAt, at_none, at_next, all_workers, no_worker, over_workers, no_station, over_stations, once_each, places_once, among_places}
 
 number_append : (r : ℕ) (xs ys : List Item) → number r (xs ++ ys) ≡ number r xs + number r ys
 number_append r xs ys = ap length (filter-append (λ (i : Item). eqb i.route.0 r) xs ys) ∙ length-append (of_route r xs) (of_route r ys)

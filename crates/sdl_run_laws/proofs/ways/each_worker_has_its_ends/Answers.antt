@@ -1,5 +1,5 @@
 use Rattle.sdl_opening.proofs.Standing.{own_ends}
-use Rattle.sdl_ways.proofs.laws.each_worker_has_its_ends.Goals as goal
+use Rattle.sdl_run_laws.proofs.ways.each_worker_has_its_ends.Goals as goal
 
 pub returns : goal.returns
 returns c = own_ends

@@ -23,8 +23,8 @@ use Rattle.sdl_outcome.specs.Outcome.{WorkerHand, Outcome, AreRunsFrom}
 use Rattle.sdl_ledger.specs.Counts.{IsTraced, IsLimited, IsLedgerOf, Balances, CountsFit, output_by, no_route_by, no_route_at, entered_in, no_instance_in, gone_in, fired_in, implicit_in, stopped_in, items_held, over_events, all_output, all_no_route, all_entered, all_left, waiting_in, most_outputs}
 use Rattle.sdl_outcome.proofs.Sums.{sum_both}
 use Rattle.sdl_ledger.proofs.Adding.{sum_map}
-use Rattle.sdl_balance.proofs.Ports.{ports_balance}
-use Rattle.sdl_balance.proofs.Traces.{nothing_lost}
+use Rattle.sdl_ledger.proofs.Ports.{ports_balance}
+use Rattle.sdl_ledger.proofs.Traces.{nothing_lost}
 
 -- an output was sent, or no route fits
 done_sent : (ds : List Done) → sum_by output_by ds ≡ length (flat_map sent_by ds) + sum_by no_route_by ds

@@ -1,5 +1,5 @@
-use Rattle.sdl_ways.proofs.Serving.{own_kept, on_kept, gate_kept}
-use Rattle.sdl_ways.proofs.laws.used_ends_keep_their_ways.Goals as goal
+use Rattle.sdl_run_laws.proofs.Serving.{own_kept, on_kept, gate_kept}
+use Rattle.sdl_run_laws.proofs.ways.used_ends_keep_their_ways.Goals as goal
 
 pub returns-clause-blocks : goal.returns-clause-blocks
 returns-clause-blocks c = own_kept

@@ -1,4 +1,0 @@
-//! The ledger of every run balances.
-#![tactic(auto)]
-
-pub mod balance;
