@@ -14,6 +14,7 @@ use sdl_log::{Counts, Event, Keeps};
 use sdl_outcome::{EnvOut, RunEnd};
 use sdl_queue::Rest;
 use sdl_routes::Station;
+use sdl_signal::lists::take_first;
 use sdl_signal::{BlockId, InputEnd, Item, OutputEnd};
 use sdl_transition::{Agents, BlockParts, Bound};
 
@@ -135,14 +136,6 @@ pub fn end_of(refused: Option<u32>, spent: Option<u32>, quiet: bool) -> RunEnd
             },
         },
     }
-}
-
-/// Takes the first element of a list.
-pub fn take_first<T>(list: &mut Vec<T>) -> T
-    requires { 0 < length list.old.items }
-    ensures { list.old.items ≡ result ∷ list.new.items }
-{
-    list.remove(0)
 }
 
 /// Takes what all blocks leave, in order.

@@ -1,15 +1,16 @@
 //! The ends of all workers come back.
 ghost use Rattle.std.specs.Option.{option_to_list};
-ghost use Rattle.std.specs.Prelude.{◌≡◌, ◌≢◌, ℕ, ◌+◌, ◌<◌, ◌≤◌, [], ◌∷◌, ◌++◌, None, Some, length, map, vec_len, vec_capacity, MatchOption, OnOk};
+ghost use Rattle.std.specs.Prelude.{◌≡◌, ℕ, ◌+◌, ◌<◌, ◌≤◌, [], ◌∷◌, ◌++◌, None, Some, length, map, vec_len, vec_capacity, OnOk};
 ghost use Rattle.std.specs.List.{AllByRecursion};
 ghost use Rattle.sdl_routes.specs.declared.route.Station.{Station};
 ghost use Rattle.sdl_routes.specs.Routes.{EachOnce};
-ghost use Rattle.sdl_ends.specs.Ends.{WorkerEnds, feed_at, tap_at, column, taps, IsWholeAt, AreAllEndsOf, IsRejoinedAt, AreRejoined};
+ghost use Rattle.sdl_ends.specs.Ends.{feed_at, tap_at, column, IsWholeAt, AreAllEndsOf, IsRejoinedAt, AreRejoined};
 ghost use Rattle.sdl_ends.specs.Shelves.{drop_feed, drop_tap, without, later_of};
 
 use crate::Ends;
 use sdl_queue::{AnyFeed, AnyTap, Rest, any_rejoin};
 use sdl_routes::Station;
+use sdl_signal::lists::{put_last, take_first};
 use std::alloc::{AllocError, Global};
 use std::marker::Model;
 use std::sync::Wait;
@@ -89,26 +90,6 @@ impl Ends {
             }
             None => None,
         }
-    }
-}
-
-/// Takes the first element of a list.
-fn take_first<T>(list: &mut Vec<T>) -> T
-    requires { 0 < length list.old.items }
-    ensures { list.old.items ≡ result ∷ list.new.items }
-{
-    list.remove(0)
-}
-
-/// Puts an element behind the others of a list that has room for it.
-fn put_last<T: Drop>(list: &mut Vec<T>, element: T)
-    requires { vec_len list.old + 1 ≤ vec_capacity list.old }
-    ensures items { list.new.items ≡ list.old.items ++ element ∷ [] }
-    ensures room { (more : ℕ) → vec_len list.old + (more + 1) ≤ vec_capacity list.old → vec_len list.new + more ≤ vec_capacity list.new }
-{
-    match list.push(element) {
-        Ok(()) => {}
-        Err(_) => unreachable!(),
     }
 }
 

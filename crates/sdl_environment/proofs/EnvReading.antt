@@ -1,6 +1,5 @@
 -- The outputs of the lines that were read, and what was read so far.
 use Rattle.std.proofs.Common.{◌≡◌, ℕ, suc, ◌+◌, ◌≤◌, List, [], ◌∷◌, ◌++◌, length, Option, Some, None, flat_map, inl, inr, refl, sym, ap, ◌∙◌, subst, append_assoc, append-nil, arith}
-use Rattle.std.specs.List.{AllByRecursion}
 use Rattle.std.specs.Io.KnownBytes.{Consumes}
 use Rattle.sdl_signal.specs.declared.values.EnvLine.{EnvLine}
 use Rattle.sdl_signal.specs.declared.ends.InputEnd.{InputEnd}
@@ -8,8 +7,9 @@ use Rattle.sdl_signal.specs.declared.ends.InputEnd.TheVariants as input
 use Rattle.sdl_signal.specs.declared.environment.EnvRead.TheVariants as env
 use Rattle.sdl_signal.specs.Names.{Lexicon}
 use Rattle.sdl_lines.specs.Source.{Source}
-use Rattle.sdl_lines.specs.Bytes.{HasNoNewline, BeginsWithLines, ended_line}
+use Rattle.sdl_lines.specs.Bytes.{BeginsWithLines, ended_line}
 use Rattle.sdl_signal.specs.Environment.{Reading, AreRead, HasCarried, HasCome, HasRead, GoesOn, most_lines}
+use Rattle.sdl_signal.proofs.Carried.{begins_flat, nil_left}
 use Rattle.sdl_parts.specs.Structure.{Structure, lexicon_of}
 use Rattle.sdl_routes.specs.declared.route.TableRow.{TableRow}
 use Rattle.sdl_outcome.specs.declared.environment_output.EnvOut.{EnvOut}
@@ -56,15 +56,6 @@ read_same names rows worker start now old new ended put reading (lines, outs, re
     (lines, subst (AreOutputsOf rows worker 0 lines) (sym put) outs, subst Q (sym reading) (subst P (sym ended) read))
 
 -- What was handed out stands at the beginning of the input.
-begins_flat : (lines : List (List ℕ)) (rest : List ℕ) → AllByRecursion HasNoNewline lines → BeginsWithLines (flat_map ended_line lines ++ rest) lines rest
-begins_flat [] rest h = refl
-begins_flat (l ∷ lines) rest h =
-    (flat_map ended_line lines ++ rest, (h.0, inl (append_assoc (ended_line l) (flat_map ended_line lines) rest)), begins_flat lines rest h.1)
-
-nil_behind : (xs ys : List ℕ) → xs ++ ys ≡ [] → ys ≡ []
-nil_behind [] ys e = e
-nil_behind (x ∷ xs) ys e = cc
-
 stands_first : (given : List ℕ) (lines : List (List ℕ)) (source : Source) (left : List ℕ) → HasCome given lines source left → (rest : List ℕ) × BeginsWithLines given lines rest
 stands_first given lines source left (inl (unended, split, each)) =
     (source.ahead ++ left, subst (λ (xs : List ℕ). BeginsWithLines xs lines (source.ahead ++ left)) (sym split) (begins_flat lines (source.ahead ++ left) each))
@@ -74,7 +65,7 @@ gave : (given : List ℕ) (lines : List (List ℕ)) (source : Source) (left : Li
 gave given lines source left (inl (unended, split, each)) =
     (flat_map ended_line lines ++ source.ahead, split ∙ sym (append_assoc (flat_map ended_line lines) source.ahead left))
 gave given lines source left (inr (done, whole, none)) =
-    (given, sym (append-nil given) ∙ ap (λ (l : List ℕ). given ++ l) (sym (nil_behind source.ahead left none)))
+    (given, sym (append-nil given) ∙ ap (λ (l : List ℕ). given ++ l) (sym (nil_left source.ahead left none)))
 
 read_count : (names : Lexicon) (lines : List (List ℕ)) (carried : List EnvLine) → AreRead names lines carried → length lines ≡ length carried
 read_count names [] [] h = refl

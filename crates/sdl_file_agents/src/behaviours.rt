@@ -1,24 +1,14 @@
 //! The behaviours of the sets, made of the stored transitions in their order.
-ghost use Rattle.std.specs.Prelude.{◌≡◌, ◌+◌, ◌<◌, ◌≤◌, [], ◌∷◌, ◌++◌, map, length, IfOk};
+ghost use Rattle.std.specs.Prelude.{◌≡◌, ◌+◌, ◌<◌, ◌≤◌, ◌++◌, map, length, IfOk};
 ghost use Rattle.std.specs.List.{AllByRecursion};
 ghost use Rattle.sdl_file_agents.specs.Parts.{head_parts, behaviour_head, transitions_in, all_transitions, count_of, IsByOffer};
 
 use crate::faults::ListingFault;
 use crate::laying::{Head, push_last};
 use sdl_behaviour::{Behaviour, Row, Transition};
+use sdl_signal::lists::take_front;
 use std::alloc::Global;
 use std::collections::VecDeque;
-
-/// Takes the first of the transitions that are left.
-fn take_first<S>(left: &mut VecDeque<Transition<S>>) -> Transition<S>
-    requires { 0 < length left.old.items }
-    ensures { left.old.items ≡ result ∷ left.new.items }
-{
-    match left.pop_front() {
-        Some(first) => first,
-        None => unreachable!(),
-    }
-}
 
 /// The row of a transition, for the state and the signal of its offer.
 fn row_of<S>(transition: Transition<S>) -> Result<Row<S>, ListingFault>
@@ -49,7 +39,7 @@ fn take_row<S>(
     ensures less { length left.old.items ≡ length left.new.items + 1 }
     ensures by_offer { AllByRecursion IsByOffer rows.old.items → IfOk result (λ _. AllByRecursion IsByOffer rows.new.items) }
 {
-    let row = row_of(take_first(left))?;
+    let row = row_of(take_front(left))?;
     push_last(rows, row)?;
     Ok(())
 }
@@ -93,7 +83,7 @@ fn behaviour_of<S>(
         saves,
         rows: count,
     } = head;
-    let start = take_first(left);
+    let start = take_front(left);
     let mut rows = Vec::new(alloc);
     take_rows(&mut rows, left, count)?;
     Ok(Behaviour {

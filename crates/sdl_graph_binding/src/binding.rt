@@ -10,13 +10,14 @@ ghost use Rattle.sdl_graph_binding.specs.Transitions.{transitions_in, all_transi
 use crate::agents::GraphAgents;
 use crate::faults::GraphFault;
 use crate::misfits::misfit_of;
-use crate::set_behaviour::{set_named, take_first, with_rows, with_saves, with_states, with_uses};
+use crate::set_behaviour::{set_named, with_rows, with_saves, with_states, with_uses};
 use crate::sets::{Design, SetDesign, Use};
 use arrayvec::ArrayVec;
 use sdl_behaviour::{Behaviour, Transition};
 use sdl_graph::Graph;
 use sdl_parts::{Checked, Structure};
 use sdl_routes::Routes;
+use sdl_signal::lists::take_first;
 use sdl_signal::{Name, SetId, Value};
 use sdl_transition::{Bound, bind};
 use std::alloc::Global;

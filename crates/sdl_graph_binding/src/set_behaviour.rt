@@ -1,5 +1,5 @@
 //! The behaviour of a set, made of the first of the transitions that are left.
-ghost use Rattle.std.specs.Prelude.{◌≡◌, ◌+◌, ◌<◌, ◌≤◌, [], ◌∷◌, ◌++◌, map, length, position, bytes_eq, IfOk, IfSome, IfNone};
+ghost use Rattle.std.specs.Prelude.{◌≡◌, ◌+◌, ◌<◌, [], ◌∷◌, ◌++◌, map, length, position, bytes_eq, IfOk, IfSome, IfNone};
 ghost use Rattle.std.specs.List.{AllByRecursion};
 ghost use Rattle.sdl_signal.specs.Reading.{IsNamedAt, IsNowhere};
 ghost use Rattle.sdl_behaviour.specs.Transitions.{IsAllowedBehaviour};
@@ -14,6 +14,7 @@ use sdl_graph::Graph;
 use sdl_parts::Set;
 use sdl_parts::limits::{MOST_ROWS, MOST_USES};
 use sdl_saves::MOST_SAVES;
+use sdl_signal::lists::take_first;
 use sdl_signal::{Name, SetId, SignalId, StateId, name};
 
 /// The place of the first set whose name is `text`.
@@ -165,16 +166,6 @@ fn with_row<G: Graph>(
         Ok(()) => Ok(behaviour),
         Err(_) => Err(GraphFault::Memory),
     }
-}
-
-/// Takes the first transition out of the list.
-pub fn take_first<G: Graph>(
-    left: &mut Vec<Transition<GraphAgents<G>>>,
-) -> Transition<GraphAgents<G>>
-    requires { 0 < length left.old.items }
-    ensures { left.old.items ≡ result ∷ left.new.items }
-{
-    left.remove(0)
 }
 
 /// The row of the first of the transitions that are left, for a set.

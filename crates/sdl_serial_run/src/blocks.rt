@@ -10,25 +10,14 @@ ghost use Rattle.sdl_serial_run.specs.Serial.{IsNew, HasStarted, IsStartOf};
 
 use sdl_block::BlockWorker;
 use sdl_driver::System;
-use sdl_driver::closing::{Room, take_first};
+use sdl_driver::closing::Room;
 use sdl_instances::BlockCore;
 use sdl_instances::bounds::parts_are_bound;
 use sdl_log::Keeps;
 use sdl_parts::Checked;
+use sdl_signal::lists::{put_last, take_first};
 use sdl_transition::{Agents, BlockParts, Bound};
 use std::alloc::Global;
-
-/// Puts an element behind the others of a list that has room for it.
-pub fn put_last<T: Drop>(list: &mut Vec<T>, element: T)
-    requires { vec_len list.old + 1 ≤ vec_capacity list.old }
-    ensures items { list.new.items ≡ list.old.items ++ element ∷ [] }
-    ensures room { (more : ℕ) → vec_len list.old + (more + 1) ≤ vec_capacity list.old → vec_len list.new + more ≤ vec_capacity list.new }
-{
-    match list.push(element) {
-        Ok(()) => {}
-        Err(_) => unreachable!(),
-    }
-}
 
 /// Makes a worker of each block, in order. A refusal hands back the workers so far, the parts that were refused, and the
 /// parts of the blocks behind.

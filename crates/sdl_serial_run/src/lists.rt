@@ -4,8 +4,9 @@ ghost use Rattle.sdl_transition.specs.Bound.{structure_of};
 ghost use Rattle.sdl_driver.specs.Closings.{outcome_in};
 ghost use Rattle.sdl_outcome.specs.Lists.{items_in};
 
-use sdl_driver::closing::{Closing, take_first};
+use sdl_driver::closing::Closing;
 use sdl_log::{Event, FilledAhead};
+use sdl_signal::lists::take_first;
 use sdl_transition::Bound;
 use std::alloc::{AllocError, Global};
 

@@ -8,7 +8,7 @@ use sdl_block::BlockWorker;
 use sdl_ends::Ends;
 use sdl_forward::Forwarder;
 use sdl_log::Keeps;
-use sdl_serial_run::blocks::put_last;
+use sdl_signal::lists::{put_last, take_front};
 use sdl_threads::{AtWork, BlockThread, ForwarderThread, Kind, Returned};
 use sdl_transition::Agents;
 use std::collections::VecDeque;
@@ -107,14 +107,6 @@ fn put_behind(list: &mut Vec<Ends>, ends: Ends)
     ensures room { (more : ℕ) → vec_len list.old + (more + 1) ≤ vec_capacity list.old → vec_len list.new + more ≤ vec_capacity list.new }
 {
     put_last(list, ends)
-}
-
-/// Takes the first element of a list, whose others stay where they are.
-pub fn take_front<T>(list: &mut VecDeque<T>) -> T
-    requires { 0 < length list.old.items }
-    ensures { list.old.items ≡ result ∷ list.new.items }
-{
-    list.pop_front().unwrap()
 }
 
 /// Parts the blocks from the forwarders, in order.

@@ -1,5 +1,5 @@
 //! The workers that came back are taken apart, and the queues put together again.
-ghost use Rattle.std.specs.Prelude.{◌≡◌, ◌+◌, ◌≤◌, length, map};
+ghost use Rattle.std.specs.Prelude.{◌≡◌, ◌≤◌, length, map};
 ghost use Rattle.std.specs.List.{AllByRecursion};
 ghost use Rattle.sdl_routes.specs.Routes.{EachOnce};
 ghost use Rattle.sdl_ends.specs.Ends.{column, AreAllEndsOf, AreRejoined};
@@ -13,7 +13,7 @@ use sdl_forward::Forwarder;
 use sdl_log::{Event, Keeps};
 use sdl_queue::Rest;
 use sdl_routes::Station;
-use sdl_serial_run::blocks::put_last;
+use sdl_signal::lists::put_last;
 use sdl_threads::{AtWork, BlockThread, ForwarderThread, Returned};
 use sdl_transition::Agents;
 use std::sync::Wait;

@@ -33,7 +33,7 @@ AreRead-push names [] (c ∷ cs) line l h t f = absurd h
 AreRead-push names (x ∷ lines) [] line l h t f = absurd h
 AreRead-push names (x ∷ lines) (c ∷ cs) line l h t f = (h.0, h.1, AreRead-push names lines cs line l h.2 t f)
 
-begins_flat : (lines : List (List ℕ)) (rest : List ℕ) → AllByRecursion HasNoNewline lines → BeginsWithLines (flat_map ended_line lines ++ rest) lines rest
+pub begins_flat : (lines : List (List ℕ)) (rest : List ℕ) → AllByRecursion HasNoNewline lines → BeginsWithLines (flat_map ended_line lines ++ rest) lines rest
 begins_flat [] rest h = refl
 begins_flat (l ∷ lines) rest h =
     (flat_map ended_line lines ++ rest, (h.0, inl (append_assoc (ended_line l) (flat_map ended_line lines) rest)), begins_flat lines rest h.1)
@@ -45,7 +45,7 @@ begins_more : (bytes : List ℕ) (lines : List (List ℕ)) (mid line rest : List
 begins_more bytes [] mid line rest b f = (rest, subst (λ xs. IsFirstLine xs line rest) (sym b) f, refl)
 begins_more bytes (l ∷ lines) mid line rest b f = (b.0, b.1, begins_more b.0 lines mid line rest b.2 f)
 
-nil_left : (xs ys : List ℕ) → xs ++ ys ≡ [] → ys ≡ []
+pub nil_left : (xs ys : List ℕ) → xs ++ ys ≡ [] → ys ≡ []
 nil_left [] ys e = e
 nil_left (x ∷ xs) ys e = cc
 

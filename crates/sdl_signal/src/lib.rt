@@ -5,6 +5,7 @@ pub mod ends;
 pub mod environment;
 pub mod ids;
 pub mod laws;
+pub mod lists;
 pub mod naming;
 pub mod reading;
 pub mod values;

@@ -1,10 +1,11 @@
 //! Hold with a save more, which mostly does not fit.
-ghost use Rattle.std.specs.Prelude.{◌≡◌, ◌<◌, ◌∷◌, length, IfSome};
+ghost use Rattle.std.specs.Prelude.{IfSome};
 ghost use Rattle.std.specs.List.{AllByRecursion};
 ghost use Rattle.sdl_behaviour.specs.Transitions.{IsAllowedBehaviour};
 
 use sdl_agents::{Runner, hold};
 use sdl_examples::HOLD;
+use sdl_signal::lists::take_first;
 use sdl_signal::{SetId, SignalId, StateId};
 use sdl_test_systems::routes_of;
 use sdl_transition::{Agents, Behaviour, BindFault, Bound, Unbound, bind};
@@ -35,14 +36,6 @@ fn bind_hold<S: Agents + Drop>(alloc: Global, behaviours: Vec<Behaviour<S>>) -> 
         Ok((checked, routes)) => Some(fault_of(bind(alloc, checked, routes, behaviours))),
         Err(_) => None,
     }
-}
-
-/// Takes the first of the behaviours.
-fn take_first<S>(behaviours: &mut Vec<Behaviour<S>>) -> Behaviour<S>
-    requires { 0 < length behaviours.old.items }
-    ensures { behaviours.old.items ≡ result ∷ behaviours.new.items }
-{
-    behaviours.remove(0)
 }
 
 /// The first of the behaviours alone, with the save more. Hold's one behaviour has one save.
