@@ -6,13 +6,13 @@ use Rattle.sdl_signal.specs.declared.values.Value.TheVariants as value
 use Rattle.sdl_signal.specs.declared.values.Pid.{Pid}
 use Rattle.sdl_signal.specs.declared.values.Signal.{Signal}
 use Rattle.sdl_routes.specs.declared.route.Via.TheVariants as via
-use Rattle.sdl_behaviour.specs.declared.step.Frame.{Frame}
-use Rattle.sdl_behaviour.specs.declared.step.Dest.{Dest}
-use Rattle.sdl_behaviour.specs.declared.step.Dest.TheVariants as dest
-use Rattle.sdl_behaviour.specs.declared.step.Action.{Action}
-use Rattle.sdl_behaviour.specs.declared.step.Action.TheVariants.{Output, Create}
-use Rattle.sdl_behaviour.specs.declared.step.Next.TheVariants.{State, Stop}
-use Rattle.sdl_behaviour.specs.declared.step.Step.{Step}
+use Rattle.sdl_transition_behaviour.specs.declared.step.Frame.{Frame}
+use Rattle.sdl_transition_behaviour.specs.declared.step.Dest.{Dest}
+use Rattle.sdl_transition_behaviour.specs.declared.step.Dest.TheVariants as dest
+use Rattle.sdl_transition_behaviour.specs.declared.step.Action.{Action}
+use Rattle.sdl_transition_behaviour.specs.declared.step.Action.TheVariants.{Output, Create}
+use Rattle.sdl_transition_behaviour.specs.declared.step.Next.TheVariants.{State, Stop}
+use Rattle.sdl_transition_behaviour.specs.declared.step.Step.{Step}
 
 -- the step does these actions, and leads to idle
 pub record LeadsToIdle (done : List Action) (step : Step) : Type 0 where

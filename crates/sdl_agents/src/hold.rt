@@ -2,7 +2,7 @@
 ghost use Rattle.std.specs.Prelude.{◌≡◌, [], ◌∷◌, Some, None, IfOk, map};
 ghost use Rattle.std.specs.List.{AllByRecursion};
 ghost use Rattle.sdl_signal.specs.declared.values.Sort.TheVariants as sort;
-ghost use Rattle.sdl_behaviour.specs.Transitions.{IsAllowed, IsAllowedBehaviour};
+ghost use Rattle.sdl_transition_behaviour.specs.Transitions.{IsAllowed, IsAllowedBehaviour};
 ghost use Rattle.sdl_agents.specs.Handed.{handled, handled_by_hold};
 ghost use Rattle.sdl_agents.specs.Tables.{HoldMay, LeadsTo, forwarded};
 ghost use Rattle.sdl_agents.specs.Offered.{IsOfferTo, OffersTo, offered, sorted};
@@ -12,10 +12,10 @@ use crate::offers::{no_sorts, on, one_integer, one_output};
 use crate::runner::Runner;
 use crate::steps::{add_forwarded, values};
 use arrayvec::ArrayVec;
-use sdl_behaviour::{
+use sdl_signal::{SetId, SignalId, StateId};
+use sdl_transition_behaviour::{
     Agents, Behaviour, Frame, Kind, Next, Offer, OfferedOutput, Run, SignalSorts, Step, Transition,
 };
-use sdl_signal::{SetId, SignalId, StateId};
 use std::alloc::{AllocError, Global};
 
 /// The agents of Hold.

@@ -1,8 +1,8 @@
 //! `sdlrun`: systems of communicating agents with the structure and signalling of SDL-2010.
 #![tactic(auto)]
 
-use sdl_program::program;
-use sdl_program::streams::{Input, Output, shared_buffer};
+use sdl_app_program::program;
+use sdl_app_program::streams::{Input, Output, shared_buffer};
 use std::process::ExitCode;
 
 fn main(rt: HostRuntime) -> ExitCode {

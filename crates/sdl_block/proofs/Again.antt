@@ -4,17 +4,17 @@ use Rattle.std.proofs.lemmas.List.Elements.{All-append}
 use Rattle.sdl_signal.specs.declared.values.Item.{Item}
 use Rattle.sdl_routes.specs.declared.route.TableRow.{TableRow}
 use Rattle.sdl_routes.specs.declared.route.Station.{Station}
-use Rattle.sdl_behaviour.specs.declared.step.Frame.{Frame}
-use Rattle.sdl_behaviour.specs.declared.step.Step.{Step}
+use Rattle.sdl_transition_behaviour.specs.declared.step.Frame.{Frame}
+use Rattle.sdl_transition_behaviour.specs.declared.step.Step.{Step}
 use Rattle.sdl_transition.specs.Rules.{Rules}
 use Rattle.sdl_instances.specs.Machine.{System}
 use Rattle.sdl_instances.specs.Run.{sent}
 use Rattle.sdl_instances.specs.Core.{IsSound, IsLegalIn, system_of}
 use Rattle.sdl_forward.specs.Boards.{IsBoardOf, AreAllStations}
-use Rattle.sdl_hand.specs.declared.hand.Stepped.{Stepped}
-use Rattle.sdl_hand.specs.declared.hand.Stepped.TheVariants.{Did, Idle, Memory}
-use Rattle.sdl_hand.specs.Work.{Working, Works, StepsAs}
-use Rattle.sdl_hand.proofs.Through.{all_behind}
+use Rattle.sdl_block_hand.specs.declared.hand.Stepped.{Stepped}
+use Rattle.sdl_block_hand.specs.declared.hand.Stepped.TheVariants.{Did, Idle, Memory}
+use Rattle.sdl_block_hand.specs.Work.{Working, Works, StepsAs}
+use Rattle.sdl_block_hand.proofs.Through.{all_behind}
 use Rattle.sdl_block.proofs.OnBoard.{works_none}
 use Rattle.sdl_block.proofs.Systems.{same_system}
 

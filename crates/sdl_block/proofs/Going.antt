@@ -7,24 +7,24 @@ use Rattle.sdl_signal.specs.declared.ids.BlockId.{BlockId}
 use Rattle.sdl_signal.specs.declared.values.Item.{Item}
 use Rattle.sdl_routes.specs.declared.route.TableRow.{TableRow}
 use Rattle.sdl_routes.specs.declared.route.Station.TheVariants as station
-use Rattle.sdl_behaviour.specs.declared.step.Frame.{Frame}
-use Rattle.sdl_behaviour.specs.declared.step.Step.{Step}
-use Rattle.sdl_log.specs.declared.event.Event.{Event}
-use Rattle.sdl_log.specs.declared.event.Event.TheVariants as event
-use Rattle.sdl_log.specs.declared.event.Arrival.{Arrival}
-use Rattle.sdl_log.specs.declared.event.Arrival.TheVariants as arrival
+use Rattle.sdl_transition_behaviour.specs.declared.step.Frame.{Frame}
+use Rattle.sdl_transition_behaviour.specs.declared.step.Step.{Step}
+use Rattle.sdl_instances_log.specs.declared.event.Event.{Event}
+use Rattle.sdl_instances_log.specs.declared.event.Event.TheVariants as event
+use Rattle.sdl_instances_log.specs.declared.event.Arrival.{Arrival}
+use Rattle.sdl_instances_log.specs.declared.event.Arrival.TheVariants as arrival
 use Rattle.sdl_instances.specs.Machine.{System}
 use Rattle.sdl_instances.specs.Run.{arrived, sent, turns, turn_in}
 use Rattle.sdl_instances.specs.Core.{Core, IsSound, IsLegalIn, arrival_event}
-use Rattle.sdl_instances.specs.Calls.{KeepsRest}
+use Rattle.sdl_instances.specs.Calls.{LeavesOthers}
 use Rattle.sdl_forward.specs.Queues.{Relations, Fills}
-use Rattle.sdl_hand.specs.declared.hand.Refused.{Refused}
-use Rattle.sdl_hand.specs.Work.{Working, beginning_at}
-use Rattle.sdl_hand.specs.PutsBy.{PutsOutBy}
-use Rattle.sdl_hand.proofs.Through.{nil_left}
+use Rattle.sdl_block_hand.specs.declared.hand.Refused.{Refused}
+use Rattle.sdl_block_hand.specs.Work.{Working, beginning_at}
+use Rattle.sdl_block_hand.specs.PutsBy.{PutsOutBy}
+use Rattle.sdl_block_hand.proofs.Through.{nil_left}
 use Rattle.sdl_block.specs.Phases.{IsSpent, ArrivesOrStays, MakesTurn}
 use Rattle.sdl_block.specs.Around.{Queues, TakesBy, PutsBy, LetsBy, around}
-use Rattle.sdl_hand.specs.Puts.{AreRouted}
+use Rattle.sdl_block_hand.specs.Puts.{AreRouted}
 use Rattle.sdl_block.proofs.Parts.{Part, part_then, keeps-same}
 
 abbrev is_cons : {X : Type 0} → List X → Bool
@@ -155,7 +155,7 @@ module _ (may : ℕ → Frame → Step → Type 0) (sys : System) {B : Type 0} (
   -- an item is taken, and arrives or is kept
   pub taken_part : (old : Working) (before : B) (i : Item) (events : List Event) (new : Working) (after : B)
       → TakesBy q old before i after → arrived events ++ option_to_list new.kept ≡ i ∷ [] → new.outgoing ≡ old.outgoing → sent events ≡ []
-      → new.core.log ≡ old.core.log ++ events → IsSound may sys new.core → KeepsRest old.core new.core
+      → new.core.log ≡ old.core.log ++ events → IsSound may sys new.core → LeavesOthers old.core new.core
       → (taken : List Item) × (length taken ≤ 1) × Part may sys q old before [] taken events new after
   taken_part old before i events new after (inl (kept, same)) came out none log sound rest = (
     [],

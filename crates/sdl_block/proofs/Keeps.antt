@@ -9,24 +9,24 @@ use Rattle.sdl_signal.specs.declared.values.Item.{Item}
 use Rattle.sdl_routes.specs.declared.route.TableRow.{TableRow}
 use Rattle.sdl_routes.specs.declared.route.Station.{Station}
 use Rattle.sdl_routes.specs.declared.route.Station.TheVariants as station
-use Rattle.sdl_behaviour.specs.declared.step.Frame.{Frame}
-use Rattle.sdl_behaviour.specs.declared.step.Step.{Step}
+use Rattle.sdl_transition_behaviour.specs.declared.step.Frame.{Frame}
+use Rattle.sdl_transition_behaviour.specs.declared.step.Step.{Step}
 use Rattle.sdl_transition.specs.Rules.{Rules}
-use Rattle.sdl_log.specs.declared.event.Event.{Event}
+use Rattle.sdl_instances_log.specs.declared.event.Event.{Event}
 use Rattle.sdl_instances.specs.Machine.{State, System}
 use Rattle.sdl_instances.specs.Run.{Leads, arrived, sent, sent_by, done_in, all_done, initial}
 use Rattle.sdl_instances.specs.Core.{Core, IsSound, IsBoundIn, IsLegalIn, system_of}
 use Rattle.sdl_instances.proofs.Home.{IsHome, IsFromBlock, next_home, run_home}
-use Rattle.sdl_ends.specs.Ends.{WorkerEnds, IsSameEnds, HasFeed, put_at, taken_by}
+use Rattle.sdl_forward_ends.specs.Ends.{WorkerEnds, IsSameEnds, HasFeed, put_at, taken_by}
 use Rattle.sdl_forward.specs.Queues.{Relations}
 use Rattle.sdl_forward.specs.ByEnds.{by_ends, has_feed_still}
-use Rattle.sdl_hand.specs.declared.hand.Stepped.{Stepped}
-use Rattle.sdl_hand.specs.declared.hand.Stepped.TheVariants.{Did, Idle, Memory}
-use Rattle.sdl_hand.specs.Work.{Working, beginning_at, first_station, with_core}
-use Rattle.sdl_hand.specs.Apart.{WorksApart, IsIdleApart, StepsApart, HasOwnWays, IsPuttingOut, AreFresh, HasPutOut}
-use Rattle.sdl_hand.specs.PutsBy.{CanPutOut}
-use Rattle.sdl_hand.proofs.Fronts.{beginning-append}
-use Rattle.sdl_hand.proofs.Through.{sent-append, arrived-append, all_behind}
+use Rattle.sdl_block_hand.specs.declared.hand.Stepped.{Stepped}
+use Rattle.sdl_block_hand.specs.declared.hand.Stepped.TheVariants.{Did, Idle, Memory}
+use Rattle.sdl_block_hand.specs.Work.{Working, beginning_at, first_station, with_core}
+use Rattle.sdl_block_hand.specs.Apart.{WorksApart, IsIdleApart, StepsApart, HasOwnWays, IsPuttingOut, AreFresh, HasPutOut}
+use Rattle.sdl_block_hand.specs.PutsBy.{CanPutOut}
+use Rattle.sdl_block_hand.proofs.Fronts.{beginning-append}
+use Rattle.sdl_block_hand.proofs.Through.{sent-append, arrived-append, all_behind}
 use Rattle.sdl_block.specs.Phases.{TriesTurn}
 use Rattle.sdl_block.specs.Around.{HasWays, around}
 use Rattle.sdl_block.proofs.Going.{Going}

@@ -2,17 +2,17 @@
 use Rattle.std.proofs.Common.{◌≡◌, ℕ, inl, inr, Bool, true, false, Result, Ok, Err, refl, sym, ◌∙◌}
 use Rattle.sdl_signal.specs.declared.ids.BlockId.{BlockId}
 use Rattle.sdl_routes.specs.declared.route.Station.TheVariants as station
-use Rattle.sdl_behaviour.specs.declared.step.Frame.{Frame}
-use Rattle.sdl_behaviour.specs.declared.step.Step.{Step}
+use Rattle.sdl_transition_behaviour.specs.declared.step.Frame.{Frame}
+use Rattle.sdl_transition_behaviour.specs.declared.step.Step.{Step}
 use Rattle.sdl_instances.specs.Machine.{System}
 use Rattle.sdl_instances.specs.Core.{IsSound}
 use Rattle.sdl_forward.specs.Boards.{IsBoardOf}
 use Rattle.sdl_forward.specs.OnBoard.{Entries, on_board}
 use Rattle.sdl_forward.proofs.Onward.{first_passed}
-use Rattle.sdl_hand.specs.declared.hand.Stepped.{Stepped}
-use Rattle.sdl_hand.specs.declared.hand.Refused.{Refused}
-use Rattle.sdl_hand.specs.Work.{Working, Works, beginning_at}
-use Rattle.sdl_hand.specs.Puts.{answer_of}
+use Rattle.sdl_block_hand.specs.declared.hand.Stepped.{Stepped}
+use Rattle.sdl_block_hand.specs.declared.hand.Refused.{Refused}
+use Rattle.sdl_block_hand.specs.Work.{Working, Works, beginning_at}
+use Rattle.sdl_block_hand.specs.Puts.{answer_of}
 use Rattle.sdl_block.specs.Phases.{IsSpent, StepsTo, PutsFirst}
 use Rattle.sdl_block.specs.Rounds.{IsOneRound}
 use Rattle.sdl_block.specs.Around.{Queues, HasWays, GoesThrough, around}

@@ -4,24 +4,24 @@ use Rattle.std.specs.Option.{option_to_list}
 use Rattle.std.proofs.lemmas.List.Elements.{All-append, All-nil}
 use Rattle.std.proofs.lemmas.List.Sums.{sum_by-append}
 use Rattle.sdl_signal.specs.declared.values.Item.{Item}
-use Rattle.sdl_behaviour.specs.declared.step.Frame.{Frame}
-use Rattle.sdl_behaviour.specs.declared.step.Step.{Step}
-use Rattle.sdl_log.specs.declared.event.Event.{Event}
+use Rattle.sdl_transition_behaviour.specs.declared.step.Frame.{Frame}
+use Rattle.sdl_transition_behaviour.specs.declared.step.Step.{Step}
+use Rattle.sdl_instances_log.specs.declared.event.Event.{Event}
 use Rattle.sdl_instances.specs.Machine.{System}
 use Rattle.sdl_instances.specs.Run.{arrived, sent, turns, turn_in}
 use Rattle.sdl_instances.specs.Core.{Core, IsSound, IsLegalIn}
-use Rattle.sdl_instances.specs.Calls.{KeepsRest}
-use Rattle.sdl_hand.specs.Work.{Working}
-use Rattle.sdl_hand.proofs.Through.{sent-append, arrived-append, through}
+use Rattle.sdl_instances.specs.Calls.{LeavesOthers}
+use Rattle.sdl_block_hand.specs.Work.{Working}
+use Rattle.sdl_block_hand.proofs.Through.{sent-append, arrived-append, through}
 use Rattle.sdl_block.specs.Around.{Queues}
 
 pub turns-append : (xs ys : List Event) → turns (xs ++ ys) ≡ turns xs + turns ys
 turns-append xs ys = sum_by-append turn_in xs ys
 
-pub keeps-then : (a b c : Core) → KeepsRest a b → KeepsRest b c → KeepsRest a c
+pub keeps-then : (a b c : Core) → LeavesOthers a b → LeavesOthers b c → LeavesOthers a c
 keeps-then a b c h k = (k.0 ∙ h.0, k.1 ∙ h.1, k.2 ∙ h.2, k.3 ∙ h.3)
 
-pub keeps-same : (a : Core) → KeepsRest a a
+pub keeps-same : (a : Core) → LeavesOthers a a
 keeps-same a = (refl, refl, refl, refl)
 
 module _ (may : ℕ → Frame → Step → Type 0) (sys : System) {B : Type 0} (q : Queues B) where
@@ -32,7 +32,7 @@ module _ (may : ℕ → Frame → Step → Type 0) (sys : System) {B : Type 0} (
     pub went : put ++ new.outgoing ≡ old.outgoing ++ sent events
     pub log : new.core.log ≡ old.core.log ++ events
     pub sound : IsSound may sys new.core
-    pub rest : KeepsRest old.core new.core
+    pub rest : LeavesOthers old.core new.core
     pub legal : All (IsLegalIn sys) (sent events)
     pub few : length (sent events) ≤ 8 * turns events
 

@@ -3,16 +3,16 @@ use Rattle.std.proofs.Common.{◌≡◌, ℕ, inl, Bool, ◌||◌, Result, Ok, E
 use Rattle.std.specs.Result.{IsErr}
 use Rattle.sdl_signal.specs.declared.values.Item.{Item}
 use Rattle.sdl_routes.specs.declared.route.TableRow.{TableRow}
-use Rattle.sdl_behaviour.specs.declared.step.Frame.{Frame}
-use Rattle.sdl_behaviour.specs.declared.step.Step.{Step}
+use Rattle.sdl_transition_behaviour.specs.declared.step.Frame.{Frame}
+use Rattle.sdl_transition_behaviour.specs.declared.step.Step.{Step}
 use Rattle.sdl_instances.specs.Machine.{System}
 use Rattle.sdl_instances.specs.Core.{Core, IsSound}
-use Rattle.sdl_instances.specs.Calls.{KeepsRest}
+use Rattle.sdl_instances.specs.Calls.{LeavesOthers}
 use Rattle.sdl_forward.specs.Queues.{Relations}
-use Rattle.sdl_hand.specs.declared.hand.Refused.{Refused}
-use Rattle.sdl_hand.specs.Work.{Working}
-use Rattle.sdl_hand.specs.PutsBy.{PutsOutBy}
-use Rattle.sdl_hand.specs.Puts.{answer_of}
+use Rattle.sdl_block_hand.specs.declared.hand.Refused.{Refused}
+use Rattle.sdl_block_hand.specs.Work.{Working}
+use Rattle.sdl_block_hand.specs.PutsBy.{PutsOutBy}
+use Rattle.sdl_block_hand.specs.Puts.{answer_of}
 use Rattle.sdl_block.specs.Phases.{IsEmptyAfter}
 use Rattle.sdl_block.specs.Picks.{LetsInAt, TriesTurnAt, StepsAt}
 use Rattle.sdl_block.specs.Around.{Queues, LetsBy, Out, GoesThrough, around, at_put, at_arrival, at_turn, at_last, whole}
@@ -41,7 +41,7 @@ module _ (may : ℕ → Frame → Step → Type 0) (sys : System) {B : Type 0} (
   -- what holds before a turn
   pub record Arrived (arrived : Working) (taken : B) : Type 0 where
     pub sound : IsSound may sys arrived.core
-    pub rest : KeepsRest old.core arrived.core
+    pub rest : LeavesOthers old.core arrived.core
     pub empty : arrived.outgoing ≡ []
     pub going : Going may sys q 1 old before arrived taken
 

@@ -4,23 +4,23 @@ use Rattle.std.specs.Result.{IsErr}
 use Rattle.std.proofs.Math.Seq.{drop-append_seam}
 use Rattle.sdl_signal.specs.declared.values.Pid.{Pid}
 use Rattle.sdl_signal.specs.declared.values.Item.{Item}
-use Rattle.sdl_behaviour.specs.declared.step.Frame.{Frame}
-use Rattle.sdl_behaviour.specs.declared.step.Step.{Step}
-use Rattle.sdl_log.specs.declared.event.Event.{Event}
+use Rattle.sdl_transition_behaviour.specs.declared.step.Frame.{Frame}
+use Rattle.sdl_transition_behaviour.specs.declared.step.Step.{Step}
+use Rattle.sdl_instances_log.specs.declared.event.Event.{Event}
 use Rattle.sdl_instances.specs.Machine.{System}
 use Rattle.sdl_instances.specs.Run.{arrived, turns, turn_in}
 use Rattle.sdl_instances.specs.Core.{Core, IsReady, arrival_event}
-use Rattle.sdl_log.specs.declared.event.Arrival.{Arrival}
-use Rattle.sdl_log.specs.declared.event.Arrival.TheVariants as arrival
-use Rattle.sdl_hand.specs.declared.hand.Stepped.{Stepped}
-use Rattle.sdl_hand.specs.declared.hand.Stepped.TheVariants as stepped
-use Rattle.sdl_hand.specs.declared.hand.Refused.{Refused}
-use Rattle.sdl_hand.specs.Work.{Working}
-use Rattle.sdl_hand.specs.Puts.{answer_of}
+use Rattle.sdl_instances_log.specs.declared.event.Arrival.{Arrival}
+use Rattle.sdl_instances_log.specs.declared.event.Arrival.TheVariants as arrival
+use Rattle.sdl_block_hand.specs.declared.hand.Stepped.{Stepped}
+use Rattle.sdl_block_hand.specs.declared.hand.Stepped.TheVariants as stepped
+use Rattle.sdl_block_hand.specs.declared.hand.Refused.{Refused}
+use Rattle.sdl_block_hand.specs.Work.{Working}
+use Rattle.sdl_block_hand.specs.Puts.{answer_of}
 use Rattle.sdl_block.specs.Phases.{IsSpent, TriesTurn}
 use Rattle.sdl_block.specs.Rounds.{new_events, arrivals, turns_made}
 use Rattle.sdl_block.specs.Around.{Queues, TakesBy, LetsBy, PutsBy}
-use Rattle.sdl_hand.proofs.Through.{arrived-append}
+use Rattle.sdl_block_hand.proofs.Through.{arrived-append}
 use Rattle.sdl_block.proofs.Parts.{turns-append}
 use Rattle.sdl_block.proofs.Going.{arrived_one, arrived_none}
 use Rattle.sdl_block.proofs.Stepping.{holding}

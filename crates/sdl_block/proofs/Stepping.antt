@@ -5,15 +5,15 @@ use Rattle.std.specs.Result.{IsErr}
 use Rattle.std.proofs.lemmas.List.Elements.{All-nil}
 use Rattle.sdl_signal.specs.declared.values.Pid.{Pid}
 use Rattle.sdl_signal.specs.declared.values.Item.{Item}
-use Rattle.sdl_behaviour.specs.declared.step.Frame.{Frame}
-use Rattle.sdl_behaviour.specs.declared.step.Step.{Step}
+use Rattle.sdl_transition_behaviour.specs.declared.step.Frame.{Frame}
+use Rattle.sdl_transition_behaviour.specs.declared.step.Step.{Step}
 use Rattle.sdl_instances.specs.Machine.{System}
 use Rattle.sdl_instances.specs.Run.{arrived, sent}
 use Rattle.sdl_instances.specs.Core.{Core, IsReady, IsSound, IsLegalIn, arrival_event}
-use Rattle.sdl_instances.specs.Calls.{KeepsRest}
-use Rattle.sdl_hand.specs.declared.hand.Refused.{Refused}
-use Rattle.sdl_hand.specs.Work.{Working}
-use Rattle.sdl_hand.specs.Puts.{answer_of}
+use Rattle.sdl_instances.specs.Calls.{LeavesOthers}
+use Rattle.sdl_block_hand.specs.declared.hand.Refused.{Refused}
+use Rattle.sdl_block_hand.specs.Work.{Working}
+use Rattle.sdl_block_hand.specs.Puts.{answer_of}
 use Rattle.sdl_block.specs.Phases.{IsSpent, TriesTurn, PutsFirst, IsEmptyAfter}
 use Rattle.sdl_block.specs.Around.{Queues, LetsBy, PutsBy}
 use Rattle.sdl_block.proofs.Parts.{Part, no_part, keeps-same}
@@ -127,7 +127,7 @@ module _ (may : ℕ → Frame → Step → Type 0) (sys : System) {B : Type 0} (
       let core = ap (λ (w : Working). w.core) same in
       let (taken, few, part) =
       taken_part may sys q old before i [] new after takes (ap (λ (w : Working). option_to_list w.kept) same) (ap (λ (w : Working). w.outgoing) same) refl
-      (ap (λ (c : Core). c.log) core ∙ sym (append-nil old.core.log)) (subst (λ (c : Core). IsSound may sys c) (sym core) sound) (subst (λ (c : Core). KeepsRest old.core c) (sym core) (keeps-same old.core)) in
+      (ap (λ (c : Core). c.log) core ∙ sym (append-nil old.core.log)) (subst (λ (c : Core). IsSound may sys c) (sym core) sound) (subst (λ (c : Core). LeavesOthers old.core c) (sym core) (keeps-same old.core)) in
       record { put = []; taken = taken; events = []; part = part; few = few; spent = λ used. core }
 
   pub turn_phase : (t : Bool) (old : Working) (before : B) (new : Working) → TriesTurn may sys old (Ok t) new → old.outgoing ≡ [] → IsSound may sys old.core → Phase 0 t old before new before
@@ -215,7 +215,7 @@ module _ (may : ℕ → Frame → Step → Type 0) (sys : System) {B : Type 0} (
       pub sound_then : IsSound may sys arrived.core
       sound_then = arrive_so.going.part.sound
 
-      pub keeps_then : KeepsRest old.core arrived.core
+      pub keeps_then : LeavesOthers old.core arrived.core
       keeps_then = arrive_so.going.part.rest
 
       pub empty_then : arrived.outgoing ≡ []

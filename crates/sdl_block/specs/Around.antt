@@ -5,15 +5,15 @@ use Rattle.sdl_signal.specs.declared.values.Item.{Item}
 use Rattle.sdl_routes.specs.declared.route.TableRow.{TableRow}
 use Rattle.sdl_routes.specs.declared.route.Station.{Station}
 use Rattle.sdl_routes.specs.declared.route.Station.TheVariants as station
-use Rattle.sdl_behaviour.specs.declared.step.Frame.{Frame}
-use Rattle.sdl_behaviour.specs.declared.step.Step.{Step}
+use Rattle.sdl_transition_behaviour.specs.declared.step.Frame.{Frame}
+use Rattle.sdl_transition_behaviour.specs.declared.step.Step.{Step}
 use Rattle.sdl_instances.specs.Machine.{System}
 use Rattle.sdl_instances.specs.Core.{Core}
 use Rattle.sdl_forward.specs.Queues.{Relations, with_more}
-use Rattle.sdl_hand.specs.declared.hand.Refused.{Refused}
-use Rattle.sdl_hand.specs.Work.{Working, beginning_at}
-use Rattle.sdl_hand.specs.Apart.{StartsIn}
-use Rattle.sdl_hand.proofs.Fronts.{beginning-append}
+use Rattle.sdl_block_hand.specs.declared.hand.Refused.{Refused}
+use Rattle.sdl_block_hand.specs.Work.{Working, beginning_at}
+use Rattle.sdl_block_hand.specs.Apart.{StartsIn}
+use Rattle.sdl_block_hand.proofs.Fronts.{beginning-append}
 use Rattle.sdl_block.specs.Phases.{IsSpent, LetsArrive, TriesTurn}
 use Rattle.sdl_block.specs.Picks.{LetsInAt, TriesTurnAt}
 

@@ -3,26 +3,26 @@ use Rattle.std.specs.Prelude.{◌≡◌, ℕ, ◌≤◌, ◌⊎◌, Bool, true, 
 use Rattle.sdl_signal.specs.declared.values.Pid.{Pid}
 use Rattle.sdl_signal.specs.declared.values.Item.{Item}
 use Rattle.sdl_routes.specs.declared.route.Station.{Station}
-use Rattle.sdl_behaviour.specs.declared.step.Frame.{Frame}
-use Rattle.sdl_behaviour.specs.declared.step.Step.{Step}
-use Rattle.sdl_log.specs.declared.event.Event.{Event}
-use Rattle.sdl_log.specs.declared.event.Arrival.{Arrival}
+use Rattle.sdl_transition_behaviour.specs.declared.step.Frame.{Frame}
+use Rattle.sdl_transition_behaviour.specs.declared.step.Step.{Step}
+use Rattle.sdl_instances_log.specs.declared.event.Event.{Event}
+use Rattle.sdl_instances_log.specs.declared.event.Arrival.{Arrival}
 use Rattle.sdl_instances.specs.Machine.{System}
 use Rattle.sdl_instances.specs.Run.{sent, turns, turn_in}
 use Rattle.sdl_instances.specs.Core.{Core, IsReady, IsSound, IsLegalIn, arrival_event}
-use Rattle.sdl_instances.specs.Calls.{KeepsRest}
-use Rattle.sdl_hand.specs.declared.hand.Stepped.{Stepped}
-use Rattle.sdl_hand.specs.declared.hand.Stepped.TheVariants as stepped
-use Rattle.sdl_hand.specs.declared.hand.Refused.{Refused}
-use Rattle.sdl_hand.specs.Puts.{answer_of}
-use Rattle.sdl_hand.specs.Work.{Working, StepsAs}
+use Rattle.sdl_instances.specs.Calls.{LeavesOthers}
+use Rattle.sdl_block_hand.specs.declared.hand.Stepped.{Stepped}
+use Rattle.sdl_block_hand.specs.declared.hand.Stepped.TheVariants as stepped
+use Rattle.sdl_block_hand.specs.declared.hand.Refused.{Refused}
+use Rattle.sdl_block_hand.specs.Puts.{answer_of}
+use Rattle.sdl_block_hand.specs.Work.{Working, StepsAs}
 
 -- the item arrives, which is one event
 pub record LetsArrive (may : ℕ → Frame → Step → Type 0) (sys : System) (old : Working) (i : Item) (new : Working) : Type 0 where
   pub arrival : Arrival
   pub log : new.core.log ≡ old.core.log ++ arrival_event i arrival ∷ []
   pub sound : IsSound may sys new.core
-  pub rest : KeepsRest old.core new.core
+  pub rest : LeavesOthers old.core new.core
   pub hand : (new.kept ≡ old.kept) × (new.outgoing ≡ old.outgoing)
 
 -- The kept item arrives, or it is refused and stays; or none is kept.
@@ -44,7 +44,7 @@ pub record MakesTurn (may : ℕ → Frame → Step → Type 0) (sys : System) (o
   pub hand : new.outgoing ≡ sent (event ∷ [])
   pub kept : new.kept ≡ old.kept
   pub sound : IsSound may sys new.core
-  pub rest : KeepsRest old.core new.core
+  pub rest : LeavesOthers old.core new.core
   pub legal : All (IsLegalIn sys) new.outgoing
   pub few : length new.outgoing ≤ 8
 

@@ -2,17 +2,17 @@
 use Rattle.std.specs.Prelude.{◌≡◌, ℕ, ◌≤◌, ◌⊎◌, Bool, None, Some, Result}
 use Rattle.sdl_signal.specs.declared.values.Pid.{Pid}
 use Rattle.sdl_signal.specs.declared.values.Item.{Item}
-use Rattle.sdl_behaviour.specs.declared.step.Frame.{Frame}
-use Rattle.sdl_behaviour.specs.declared.step.Step.{Step}
+use Rattle.sdl_transition_behaviour.specs.declared.step.Frame.{Frame}
+use Rattle.sdl_transition_behaviour.specs.declared.step.Step.{Step}
 use Rattle.sdl_instances.specs.Machine.{System}
 use Rattle.sdl_instances.specs.Core.{IsReady}
-use Rattle.sdl_ends.specs.Ends.{WorkerEnds, taken_by}
-use Rattle.sdl_hand.specs.declared.hand.Stepped.{Stepped}
-use Rattle.sdl_hand.specs.declared.hand.Stepped.TheVariants as stepped
-use Rattle.sdl_hand.specs.declared.hand.Refused.{Refused}
-use Rattle.sdl_hand.specs.Puts.{answer_of}
-use Rattle.sdl_hand.specs.Work.{Working}
-use Rattle.sdl_hand.specs.Apart.{StepsApart}
+use Rattle.sdl_forward_ends.specs.Ends.{WorkerEnds, taken_by}
+use Rattle.sdl_block_hand.specs.declared.hand.Stepped.{Stepped}
+use Rattle.sdl_block_hand.specs.declared.hand.Stepped.TheVariants as stepped
+use Rattle.sdl_block_hand.specs.declared.hand.Refused.{Refused}
+use Rattle.sdl_block_hand.specs.Puts.{answer_of}
+use Rattle.sdl_block_hand.specs.Work.{Working}
+use Rattle.sdl_block_hand.specs.Apart.{StepsApart}
 use Rattle.sdl_block.specs.Phases.{IsSpent}
 use Rattle.sdl_block.specs.Rounds.{arrivals, turns_made}
 

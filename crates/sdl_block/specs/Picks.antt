@@ -4,11 +4,11 @@ use Rattle.sdl_signal.specs.declared.values.Pid.{Pid}
 use Rattle.sdl_signal.specs.declared.values.Item.{Item}
 use Rattle.sdl_signal.specs.declared.ids.SetId.{SetId}
 use Rattle.sdl_routes.specs.declared.route.TableRow.{TableRow}
-use Rattle.sdl_behaviour.specs.declared.step.Frame.{Frame}
-use Rattle.sdl_behaviour.specs.declared.step.Step.{Step}
-use Rattle.sdl_log.specs.declared.event.Event.{Event}
-use Rattle.sdl_log.specs.declared.event.Arrival.{Arrival}
-use Rattle.sdl_log.specs.declared.event.Arrival.TheVariants as arrival
+use Rattle.sdl_transition_behaviour.specs.declared.step.Frame.{Frame}
+use Rattle.sdl_transition_behaviour.specs.declared.step.Step.{Step}
+use Rattle.sdl_instances_log.specs.declared.event.Event.{Event}
+use Rattle.sdl_instances_log.specs.declared.event.Arrival.{Arrival}
+use Rattle.sdl_instances_log.specs.declared.event.Arrival.TheVariants as arrival
 use Rattle.sdl_instances.specs.Machine.{System, Arrives, number_living, next_at}
 use Rattle.sdl_instances.specs.Legal.{GoesTo}
 use Rattle.sdl_instances.specs.Ready.{number_ready}

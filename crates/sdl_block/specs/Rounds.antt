@@ -5,13 +5,13 @@ use Rattle.sdl_signal.specs.declared.values.Item.{Item}
 use Rattle.sdl_routes.specs.declared.route.TableRow.{TableRow}
 use Rattle.sdl_routes.specs.declared.route.Station.{Station}
 use Rattle.sdl_routes.specs.declared.route.Station.TheVariants as station
-use Rattle.sdl_log.specs.declared.event.Event.{Event}
+use Rattle.sdl_instances_log.specs.declared.event.Event.{Event}
 use Rattle.sdl_instances.specs.Run.{arrived, turns}
 use Rattle.sdl_instances.specs.Core.{Core, IsReady}
 use Rattle.sdl_forward.specs.Boards.{waiting}
-use Rattle.sdl_hand.specs.declared.hand.Stepped.{Stepped}
-use Rattle.sdl_hand.specs.declared.hand.Stepped.TheVariants as stepped
-use Rattle.sdl_hand.specs.Work.{Working, beginning_at}
+use Rattle.sdl_block_hand.specs.declared.hand.Stepped.{Stepped}
+use Rattle.sdl_block_hand.specs.declared.hand.Stepped.TheVariants as stepped
+use Rattle.sdl_block_hand.specs.Work.{Working, beginning_at}
 use Rattle.sdl_block.specs.Phases.{IsSpent}
 
 -- the events by which a step adds to the log

@@ -5,13 +5,13 @@ use Rattle.sdl_transition.specs.declared.block_parts.BlockParts.{BlockParts}
 use Rattle.sdl_instances.specs.Machine.{System}
 use Rattle.sdl_routes.specs.declared.route.Station.{Station}
 use Rattle.sdl_signal.specs.declared.values.Item.{Item}
-use Rattle.sdl_behaviour.specs.declared.step.Frame.{Frame}
-use Rattle.sdl_behaviour.specs.declared.step.Step.{Step}
+use Rattle.sdl_transition_behaviour.specs.declared.step.Frame.{Frame}
+use Rattle.sdl_transition_behaviour.specs.declared.step.Step.{Step}
 use Rattle.sdl_instances.specs.Core.{IsSound, IsLegalIn}
 use Rattle.sdl_instances.specs.CoreOf.{core_of, parts_of, system_in, CanFire}
 use Rattle.sdl_forward.specs.Boards.{IsBoardOf}
 use Rattle.sdl_block.specs.declared.worker.BlockWorker.{BlockWorker}
-use Rattle.sdl_hand.specs.Work.{Working}
+use Rattle.sdl_block_hand.specs.Work.{Working}
 
 abbrev pub worker_of : {S K I : Type 0} {F : I → Type 0} {g : _} → BlockWorker S K I F g → Working
 worker_of w = record { core = core_of w.core; kept = w.hand.kept; outgoing = w.hand.outgoing.items }

@@ -1,10 +1,10 @@
 //! What the steps of a block through its own ends keep, from the first on. These functions do nothing: they carry the proofs.
 ghost use Rattle.std.specs.Prelude.{◌≡◌, []};
-ghost use Rattle.sdl_ends.specs.Ends.{WorkerEnds};
+ghost use Rattle.sdl_forward_ends.specs.Ends.{WorkerEnds};
 ghost use Rattle.sdl_instances.specs.Machine.{System};
 ghost use Rattle.sdl_instances.specs.Core.{Core, IsSound};
-ghost use Rattle.sdl_hand.specs.Work.{Working, with_core};
-ghost use Rattle.sdl_hand.specs.Apart.{AreFresh, HasOwnWays, IsPuttingOut, HasPutOut};
+ghost use Rattle.sdl_block_hand.specs.Work.{Working, with_core};
+ghost use Rattle.sdl_block_hand.specs.Apart.{AreFresh, HasOwnWays, IsPuttingOut, HasPutOut};
 
 use sdl_transition::Agents;
 

@@ -1,15 +1,15 @@
 //! A block at work.
 ghost use Rattle.std.specs.Prelude.{◌≡◌, [], All, IsTrue, ◌↔◌, MatchResult, false, ⊤};
 ghost use Rattle.sdl_signal.specs.declared.values.Pid.{Pid};
-ghost use Rattle.sdl_log.specs.Counts.{AreCountsOf};
-ghost use Rattle.sdl_ends.specs.Ends.{IsSameEnds};
+ghost use Rattle.sdl_instances_log.specs.Counts.{AreCountsOf};
+ghost use Rattle.sdl_forward_ends.specs.Ends.{IsSameEnds};
 ghost use Rattle.sdl_forward.specs.Boards.{IsBoardOf};
 ghost use Rattle.sdl_instances.specs.Core.{IsSound, IsLegalIn, IsReady};
 ghost use Rattle.sdl_instances.specs.CoreOf.{core_of, parts_of, CanFire};
 ghost use Rattle.sdl_instances.specs.Run.{turns, waiting};
-ghost use Rattle.sdl_hand.specs.Work.{with_core, StepsAs};
-ghost use Rattle.sdl_hand.specs.Apart.{StepsApart, IsPuttingOut};
-ghost use Rattle.sdl_hand.specs.PutsBy.{CanPutOut};
+ghost use Rattle.sdl_block_hand.specs.Work.{with_core, StepsAs};
+ghost use Rattle.sdl_block_hand.specs.Apart.{StepsApart, IsPuttingOut};
+ghost use Rattle.sdl_block_hand.specs.PutsBy.{CanPutOut};
 ghost use Rattle.sdl_block.specs.Phases.{ArrivesOrStays, TriesTurn, PutsFirst, IsEmptyAfter};
 ghost use Rattle.sdl_block.specs.PhasesApart.{IsOneRoundApart};
 ghost use Rattle.sdl_block.specs.Picks.{LetsInAt, TriesTurnAt, StepsAt};
@@ -18,12 +18,12 @@ ghost use Rattle.sdl_block.specs.Around.{HasWays, LetsBy, GoesThrough, around};
 ghost use Rattle.sdl_block.specs.Workers.{worker_of, behaviours_of, system_around};
 
 use arrayvec::ArrayVec;
-use sdl_ends::Ends;
+use sdl_block_hand::{Hand, Refused, Stepped, answer_of};
 use sdl_forward::Board;
 use sdl_forward::queues::{Queues, fill};
-use sdl_hand::{Hand, Refused, Stepped, answer_of};
-use sdl_instances::{BlockCore, Event, Keeps, Turn};
-use sdl_log::Counts;
+use sdl_forward_ends::Ends;
+use sdl_instances::{BlockCore, Event, LogStore, Turn};
+use sdl_instances_log::Counts;
 use sdl_routes::{Routes, Station};
 use sdl_signal::BlockId;
 use sdl_transition::Agents;
@@ -31,12 +31,12 @@ use std::sync::Wait;
 
 /// A block at work: its core, with what it has in hand.
 #[derive(Drop)]
-pub struct BlockWorker<S, K: Keeps = Vec<Event>> {
+pub struct BlockWorker<S, K: LogStore = Vec<Event>> {
     core: BlockCore<S, K>,
     hand: Hand,
 }
 
-impl<S: Agents, K: Keeps> BlockWorker<S, K> {
+impl<S: Agents, K: LogStore> BlockWorker<S, K> {
     /// The block with this core and nothing in hand. No memory is taken.
     pub fn new(core: BlockCore<S, K>) -> BlockWorker<S, K>
         ensures worker { worker_of result ≡ with_core (core_of core) }

@@ -1,6 +1,6 @@
 -- A part is told by what it has.
 use Rattle.std.proofs.Common.{◌≡◌, Bool, List, subst}
-use Rattle.sdl_page.specs.declared.page.Row.{Row}
+use Rattle.sdl_chart_page.specs.declared.page.Row.{Row}
 use Rattle.sdl_chart_drawing.specs.declared.traffic.Output.{Output}
 use Rattle.sdl_chart_drawing.specs.declared.traffic.Arrival.{Arrival}
 use Rattle.sdl_chart_drawing.specs.declared.shapes.Drawing.{Drawing}

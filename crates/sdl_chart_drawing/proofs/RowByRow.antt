@@ -1,7 +1,7 @@
 -- What rows have, row by row.
 use Rattle.std.proofs.Common.{◌≡◌, ℕ, zero, suc, ◌+◌, ◌<◌, List, [], ◌∷◌, ◌++◌, length, take, get_or, ap, sym, ◌∙◌, append_assoc, append-nil, add-zero, add-one, arith, ◌≤◌, Option, None, option_map, unwrap_or, slice_get}
 use Rattle.std.proofs.lemmas.Option.{slice_get_past}
-use Rattle.sdl_page.specs.declared.page.Row.{Row}
+use Rattle.sdl_chart_page.specs.declared.page.Row.{Row}
 use Rattle.sdl_chart_drawing.specs.Traffic.{rows_from, all_at}
 
 module _ {X : Type 0} (f : ℕ → Row → List X) where

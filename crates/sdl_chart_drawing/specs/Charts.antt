@@ -2,11 +2,11 @@
 use Rattle.std.specs.Prelude.{◌≡◌, ◌≢◌, ℕ, ◌-◌, ◌<◌, ◌≤◌, ◌⊎◌, nat_lt, Bool, true, false, IsTrue, List, [], ◌∷◌, length, map, filter, All, Any, Option, None, Some, if◌then◌else◌, IsSomeAnd, slice_get, slice_range}
 use Rattle.std.specs.List.{range_with_len, AllZip}
 use Rattle.sdl_signal.specs.declared.values.Origin.{Origin}
-use Rattle.sdl_page.specs.declared.page.Row.{Row}
-use Rattle.sdl_page.specs.declared.page.Spot.{Spot}
-use Rattle.sdl_log.specs.declared.event.Event.{Event as Logged}
-use Rattle.sdl_page.specs.declared.lists.Lists.{Lists}
-use Rattle.sdl_page.specs.Pages.{Sheet, spot_at}
+use Rattle.sdl_chart_page.specs.declared.page.Row.{Row}
+use Rattle.sdl_chart_page.specs.declared.page.Spot.{Spot}
+use Rattle.sdl_instances_log.specs.declared.event.Event.{Event as Logged}
+use Rattle.sdl_chart_page.specs.declared.lists.Lists.{Lists}
+use Rattle.sdl_chart_page.specs.Pages.{Sheet, spot_at}
 use Rattle.sdl_chart_drawing.specs.Traffic.{outputs_of, arrivals_of}
 use Rattle.sdl_chart_drawing.specs.declared.wanted.Wanted.{Wanted}
 use Rattle.sdl_chart_drawing.specs.declared.traffic.Output.{Output}

@@ -1,15 +1,15 @@
 -- Which items are output in the rows of a page, and which arrive there. (This project's own.)
 use Rattle.std.specs.Prelude.{ℕ, ◌+◌, length, nat_lt, ◌==◌, false, true, List, [], ◌∷◌, ◌++◌, map, flat_map, Option, None, Some, if◌then◌else◌, option_map, option_and_then, unwrap_or, slice_get, slice_index_or}
 use Rattle.sdl_signal.specs.declared.values.Item.{Item}
-use Rattle.sdl_log.specs.declared.event.Done.{Done}
-use Rattle.sdl_log.specs.declared.event.Done.TheVariants as done
-use Rattle.sdl_log.specs.declared.event.Event.{Event}
-use Rattle.sdl_log.specs.declared.event.Event.TheVariants as event
-use Rattle.sdl_log.specs.Log.{done_in}
-use Rattle.sdl_outcome.specs.declared.environment_output.EnvOut.{EnvOut}
-use Rattle.sdl_outcome.specs.declared.environment_output.EnvOut.TheVariants as env_out
-use Rattle.sdl_page.specs.declared.page.Row.{Row}
-use Rattle.sdl_page.specs.declared.lists.Lists.{Lists}
+use Rattle.sdl_instances_log.specs.declared.event.Done.{Done}
+use Rattle.sdl_instances_log.specs.declared.event.Done.TheVariants as done
+use Rattle.sdl_instances_log.specs.declared.event.Event.{Event}
+use Rattle.sdl_instances_log.specs.declared.event.Event.TheVariants as event
+use Rattle.sdl_instances_log.specs.Log.{done_in}
+use Rattle.sdl_run_outcome.specs.declared.environment_output.EnvOut.{EnvOut}
+use Rattle.sdl_run_outcome.specs.declared.environment_output.EnvOut.TheVariants as env_out
+use Rattle.sdl_chart_page.specs.declared.page.Row.{Row}
+use Rattle.sdl_chart_page.specs.declared.lists.Lists.{Lists}
 use Rattle.sdl_chart_drawing.specs.declared.traffic.Output.{Output}
 use Rattle.sdl_chart_drawing.specs.declared.traffic.Arrival.{Arrival}
 

@@ -1,13 +1,13 @@
 //! Which items are output in the rows of a page, and which arrive there.
 ghost use Rattle.std.specs.Prelude.{◌≡◌, true, ◌+◌, ◌<◌, ◌≤◌, ◌^◌, ◌++◌, OnOk, IfOk, IfSome, IfNone, Some, slice_get, length, map, flat_map};
-ghost use Rattle.sdl_packed_log.specs.Packed.{event_shown};
-ghost use Rattle.sdl_page.specs.Entries.{AreStored};
+ghost use Rattle.sdl_instances_packed_log.specs.Packed.{event_shown};
+ghost use Rattle.sdl_chart_page.specs.Entries.{AreStored};
 ghost use Rattle.sdl_chart_drawing.specs.Traffic.{arrival_in, arrival_at, outputs_by, outputs_in, outputs_put, outputs_at, outputs_of, arrivals_of, listed, all_at};
 
-use sdl_log::Done;
-use sdl_outcome::EnvOut;
-use sdl_packed_log::{Shown, Shows};
-use sdl_page::{Lists, Row};
+use sdl_chart_page::{Lists, Row};
+use sdl_instances_log::Done;
+use sdl_instances_packed_log::{Shown, Shows};
+use sdl_run_outcome::EnvOut;
 use sdl_signal::Origin;
 use std::alloc::{AllocError, Global};
 

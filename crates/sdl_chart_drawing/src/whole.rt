@@ -1,15 +1,15 @@
 //! Whether a chart shows what it has to.
 ghost use Rattle.std.specs.Prelude.{◌≡◌, ◌≢◌, ◌+◌, ◌-◌, ◌<◌, ◌≤◌, ◌^◌, IsTrue, ◌↔◌, IfOk, IsSomeAnd, All, Any, map, filter, length, slice_get, slice_range, nat_lt};
 ghost use Rattle.std.specs.List.{range_with_len, AllZip};
-ghost use Rattle.sdl_page.specs.Pages.{spot_at};
+ghost use Rattle.sdl_chart_page.specs.Pages.{spot_at};
 ghost use Rattle.sdl_chart_drawing.specs.Charts.{output_drawn, comes_in, IsEntry, HasTip, IsItsArrival, ArrivesBelow, StaysAs, Arrives, BeginsAt, Begins, EndsAt, Ends, HasItsEnd, IsBelow, AreBelow, AreInOrder, IsChartOf, part_of};
-ghost use Rattle.sdl_page.specs.Entries.{AreStored};
+ghost use Rattle.sdl_chart_page.specs.Entries.{AreStored};
 
 use crate::shapes::{Drawing, Event, Message, Tip};
 use crate::traffic::{Arrival, Output, outputs_of};
 use crate::wanted::Wanted;
-use sdl_packed_log::Shows;
-use sdl_page::{Lists, Page, Row};
+use sdl_chart_page::{Lists, Page, Row};
+use sdl_instances_packed_log::Shows;
 use sdl_signal::SetId;
 use std::alloc::{AllocError, Global};
 

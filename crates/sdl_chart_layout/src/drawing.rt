@@ -1,6 +1,6 @@
 //! The chart of a part of a run.
 ghost use Rattle.std.specs.Prelude.{◌≤◌, IfOk, length};
-ghost use Rattle.sdl_page.specs.Entries.{AreStored};
+ghost use Rattle.sdl_chart_page.specs.Entries.{AreStored};
 ghost use Rattle.sdl_chart_drawing.specs.Charts.{IsChartOf, part_of};
 
 use crate::laying::Laying;
@@ -8,11 +8,11 @@ use crate::lines::lines_of;
 use crate::scene::{Key, Scene, Told, told_of};
 use crate::texts::point;
 use sdl_chart_drawing::{Arrival, Drawing, Tip, Wanted, arrivals_of, is_whole};
+use sdl_chart_page::Row;
 use sdl_chart_text::Chart;
-use sdl_log::Cause;
-use sdl_outcome::EnvOut;
-use sdl_packed_log::{Shown, Shows};
-use sdl_page::Row;
+use sdl_instances_log::Cause;
+use sdl_instances_packed_log::{Shown, Shows};
+use sdl_run_outcome::EnvOut;
 use sdl_signal::{EnvLine, Pid};
 use std::alloc::{AllocError, Global};
 use thiserror::Error;

@@ -1,7 +1,7 @@
 //! The texts of Pids and signals.
-use sdl_file_commands::names::{set_name, signal_name};
-use sdl_parts::Structure;
+use sdl_app_file_commands::names::{set_name, signal_name};
 use sdl_signal::{Pid, Signal, Value};
+use sdl_structure_parts::Structure;
 use std::fmt;
 use std::fmt::{Display, Formatter};
 

@@ -4,8 +4,8 @@ use crate::lines::{Line, NOWHERE, find, shape_of};
 use crate::scene::{Key, Scene, Told};
 use crate::texts::{BESIDE, STUB, arrow_text, end_of, end_texts, point, width_of};
 use sdl_chart_drawing::{Arrival, Drawing, Event, Message, Point, Shape, Text, Tip};
+use sdl_chart_page::ByOrigin;
 use sdl_chart_text::write_reason;
-use sdl_page::ByOrigin;
 use sdl_signal::{Item, Origin, Pid, Signal};
 use std::alloc::{AllocError, Global};
 

@@ -2,12 +2,12 @@
 //! number; and the gates that only receive.
 use crate::labels::PidText;
 use crate::scene::{Key, Scene, Told};
+use sdl_app_file_commands::names::{block_name, gate_name, set_name};
 use sdl_chart_drawing::Lifeline;
-use sdl_file_commands::names::{block_name, gate_name, set_name};
-use sdl_log::Done;
-use sdl_packed_log::Shown;
-use sdl_parts::Structure;
+use sdl_instances_log::Done;
+use sdl_instances_packed_log::Shown;
 use sdl_signal::{BlockId, Origin, Pid, SetId, StateId};
+use sdl_structure_parts::Structure;
 use std::alloc::{AllocError, Global};
 
 /// From the left border to the first head, and from one head to the next.

@@ -1,12 +1,12 @@
 //! What is drawn of a run, and on whose lifeline.
 use sdl_chart_drawing::Wanted;
+use sdl_chart_page::{ByOrigin, Lists, Page, Row};
 use sdl_chart_text::{Chart, Left, States};
-use sdl_outcome::EnvOut;
-use sdl_packed_log::{Shown, Shows};
-use sdl_page::{ByOrigin, Lists, Page, Row};
-use sdl_parts::Structure;
+use sdl_instances_packed_log::{Shown, Shows};
 use sdl_routes::{EndPoint, Routes};
+use sdl_run_outcome::EnvOut;
 use sdl_signal::{GateId, Item, Pid, RouteId, SetId};
+use sdl_structure_parts::Structure;
 
 /// Whose lifeline it is.
 #[derive(Clone, Copy, PartialEq, Eq)]

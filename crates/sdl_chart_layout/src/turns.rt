@@ -3,12 +3,12 @@ use crate::laying::{Laying, ROW};
 use crate::lines::find;
 use crate::scene::{Key, Told};
 use crate::texts::{point, text_behind};
-use sdl_behaviour::{Frame, Next};
+use sdl_app_file_commands::names::signal_name;
 use sdl_chart_drawing::{Shape, Style};
-use sdl_file_commands::names::signal_name;
-use sdl_log::{Done, Trigger};
-use sdl_packed_log::{Shown, ShownStep};
+use sdl_instances_log::{Done, Trigger};
+use sdl_instances_packed_log::{Shown, ShownStep};
 use sdl_signal::{Pid, StateId};
+use sdl_transition_behaviour::{Frame, Next};
 use std::alloc::AllocError;
 
 /// From the last row to a bar whose signal waited in the port, to a stop, and to a remark.

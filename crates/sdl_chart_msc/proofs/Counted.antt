@@ -3,10 +3,10 @@ use Rattle.std.proofs.Common.{◌≡◌, ℕ, zero, suc, ◌+◌, ◌<◌, List,
 use Rattle.std.proofs.lemmas.Option.{slice_get_past, slice_get_within, none-some, same_Some}
 use Rattle.sdl_signal.specs.declared.values.Item.{Item}
 use Rattle.sdl_signal.specs.declared.values.Origin.{Origin}
-use Rattle.sdl_page.specs.declared.page.Row.{Row}
-use Rattle.sdl_page.specs.declared.page.Spot.{Spot}
-use Rattle.sdl_page.specs.Entries.{Entry}
-use Rattle.sdl_page.specs.Pages.{Sheet, IsPageOf, IsSpot, spot_at}
+use Rattle.sdl_chart_page.specs.declared.page.Row.{Row}
+use Rattle.sdl_chart_page.specs.declared.page.Spot.{Spot}
+use Rattle.sdl_chart_page.specs.Entries.{Entry}
+use Rattle.sdl_chart_page.specs.Pages.{Sheet, IsPageOf, IsSpot, spot_at}
 use Rattle.sdl_chart_msc.specs.Messages.{event_items, row_items, row_sends, sent_above, above_in, number_by, IsSentAs}
 
 left : (xs ys : List Item) (j : ℕ) (i : Item) → slice_get xs j ≡ Some i → slice_get (xs ++ ys) j ≡ Some i

@@ -3,7 +3,7 @@ use Rattle.std.proofs.Common.{◌≡◌, ℕ, zero, suc, ◌+◌, ◌<◌, List,
 use Rattle.std.specs.Io.KnownBytes.{Appends}
 use Rattle.std.proofs.KnownBytes.{Appends-trans}
 use Rattle.sdl_signal.specs.declared.values.Origin.{Origin}
-use Rattle.sdl_page.specs.declared.page.Row.{Row}
+use Rattle.sdl_chart_page.specs.declared.page.Row.{Row}
 use Rattle.sdl_chart_text.specs.Rows.{gathered_from}
 use Rattle.sdl_chart_text.proofs.Written.{gathered_more}
 use Rattle.sdl_chart_msc.specs.declared.messages.Fate.{Fate}

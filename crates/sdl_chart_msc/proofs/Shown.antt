@@ -2,9 +2,9 @@
 use Rattle.std.proofs.Common.{◌≡◌, ℕ, ◌<◌, ◌≤◌, List, [], map, length, get_or, slice_get, Option, None, Some, IfSome, IfNone, option_map, ap, sym, ◌∙◌, subst, arith}
 use Rattle.std.proofs.lemmas.List.{length-map, get_or-map, get_or_past}
 use Rattle.std.proofs.lemmas.Option.{slice_get_past}
-use Rattle.sdl_log.specs.declared.event.Event.{Event}
-use Rattle.sdl_packed_log.specs.Packed.{event_shown}
-use Rattle.sdl_packed_log.specs.declared.shown.Shown.{Shown}
+use Rattle.sdl_instances_log.specs.declared.event.Event.{Event}
+use Rattle.sdl_instances_packed_log.specs.Packed.{event_shown}
+use Rattle.sdl_instances_packed_log.specs.declared.shown.Shown.{Shown}
 
 pub shown_is : (es : List Event) (n : ℕ) (r : Option Shown) → IfSome r (λ e. slice_get es n ≡ Some (event_shown e)) → IfNone r (length es ≤ n) → option_map event_shown r ≡ slice_get es n
 shown_is es n None some none = sym (slice_get_past es n none)

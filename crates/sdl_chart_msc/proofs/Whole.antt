@@ -3,13 +3,13 @@ use Rattle.std.proofs.Common.{◌≡◌, ℕ, ◌+◌, List, Option, replicate, 
 use Rattle.std.specs.Io.KnownBytes.{Appends}
 use Rattle.sdl_signal.specs.declared.values.Item.{Item}
 use Rattle.sdl_signal.specs.declared.values.Origin.{Origin}
-use Rattle.sdl_parts.specs.Structure.{Structure}
+use Rattle.sdl_structure_parts.specs.Structure.{Structure}
 use Rattle.sdl_routes.specs.declared.route.TableRow.{TableRow}
-use Rattle.sdl_log.specs.declared.event.Event.{Event}
-use Rattle.sdl_outcome.specs.declared.environment_output.EnvOut.{EnvOut}
-use Rattle.sdl_page.specs.declared.page.Row.{Row}
-use Rattle.sdl_page.specs.Entries.{Entry, entries}
-use Rattle.sdl_page.specs.Pages.{Sheet}
+use Rattle.sdl_instances_log.specs.declared.event.Event.{Event}
+use Rattle.sdl_run_outcome.specs.declared.environment_output.EnvOut.{EnvOut}
+use Rattle.sdl_chart_page.specs.declared.page.Row.{Row}
+use Rattle.sdl_chart_page.specs.Entries.{Entry, entries}
+use Rattle.sdl_chart_page.specs.Pages.{Sheet}
 use Rattle.sdl_chart_msc.specs.declared.messages.Fate.{Fate}
 use Rattle.sdl_chart_msc.specs.declared.messages.Fate.TheVariants as fate
 use Rattle.sdl_chart_msc.specs.declared.places.Place.{Place}

@@ -6,24 +6,24 @@ use Rattle.sdl_signal.specs.declared.values.Origin.{Origin}
 use Rattle.sdl_signal.specs.declared.values.Pid.{Pid}
 use Rattle.sdl_signal.specs.declared.values.Pid.TheVariants as pid
 use Rattle.sdl_signal.specs.declared.values.Signal.{Signal}
-use Rattle.sdl_parts.specs.Structure.{Structure}
+use Rattle.sdl_structure_parts.specs.Structure.{Structure}
 use Rattle.sdl_routes.specs.declared.route.TableRow.{TableRow}
-use Rattle.sdl_behaviour.specs.declared.step.Frame.{Frame}
-use Rattle.sdl_behaviour.specs.declared.step.Next.{Next}
-use Rattle.sdl_behaviour.specs.declared.step.Next.TheVariants as next
-use Rattle.sdl_behaviour.specs.declared.step.Step.{Step}
-use Rattle.sdl_log.specs.declared.event.Done.{Done}
-use Rattle.sdl_log.specs.declared.event.Done.TheVariants as done
-use Rattle.sdl_log.specs.declared.event.Event.{Event}
-use Rattle.sdl_log.specs.declared.event.Event.TheVariants as event
-use Rattle.sdl_log.specs.declared.event.Trigger.{Trigger}
-use Rattle.sdl_log.specs.declared.event.Trigger.TheVariants as trigger
-use Rattle.sdl_outcome.specs.declared.environment_output.EnvOut.{EnvOut}
-use Rattle.sdl_outcome.specs.declared.environment_output.EnvOut.TheVariants as env_out
-use Rattle.sdl_file_commands.specs.Texts.{signal_text, set_text, gate_text}
-use Rattle.sdl_page.specs.declared.page.Row.{Row}
-use Rattle.sdl_page.specs.Entries.{entries}
-use Rattle.sdl_page.specs.Pages.{Sheet}
+use Rattle.sdl_transition_behaviour.specs.declared.step.Frame.{Frame}
+use Rattle.sdl_transition_behaviour.specs.declared.step.Next.{Next}
+use Rattle.sdl_transition_behaviour.specs.declared.step.Next.TheVariants as next
+use Rattle.sdl_transition_behaviour.specs.declared.step.Step.{Step}
+use Rattle.sdl_instances_log.specs.declared.event.Done.{Done}
+use Rattle.sdl_instances_log.specs.declared.event.Done.TheVariants as done
+use Rattle.sdl_instances_log.specs.declared.event.Event.{Event}
+use Rattle.sdl_instances_log.specs.declared.event.Event.TheVariants as event
+use Rattle.sdl_instances_log.specs.declared.event.Trigger.{Trigger}
+use Rattle.sdl_instances_log.specs.declared.event.Trigger.TheVariants as trigger
+use Rattle.sdl_run_outcome.specs.declared.environment_output.EnvOut.{EnvOut}
+use Rattle.sdl_run_outcome.specs.declared.environment_output.EnvOut.TheVariants as env_out
+use Rattle.sdl_app_file_commands.specs.Texts.{signal_text, set_text, gate_text}
+use Rattle.sdl_chart_page.specs.declared.page.Row.{Row}
+use Rattle.sdl_chart_page.specs.Entries.{entries}
+use Rattle.sdl_chart_page.specs.Pages.{Sheet}
 use Rattle.sdl_chart_text.specs.Legends.{start_text, end_gate_text, state_of}
 use Rattle.sdl_chart_msc.specs.declared.lines.Scene.{Scene}
 use Rattle.sdl_chart_msc.specs.declared.messages.Fate.{Fate}

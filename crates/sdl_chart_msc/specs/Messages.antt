@@ -3,13 +3,13 @@ use Rattle.std.specs.Prelude.{◌≡◌, ℕ, ◌+◌, ◌==◌, List, [], ◌�
 use Rattle.sdl_signal.specs.declared.values.Item.{Item}
 use Rattle.sdl_signal.specs.declared.values.Origin.{Origin}
 use Rattle.sdl_signal.specs.declared.values.Pid.{Pid}
-use Rattle.sdl_log.specs.declared.event.Event.{Event}
-use Rattle.sdl_log.specs.declared.event.Event.TheVariants as event
-use Rattle.sdl_log.specs.declared.event.Trigger.{Trigger}
-use Rattle.sdl_log.specs.declared.event.Trigger.TheVariants as trigger
-use Rattle.sdl_page.specs.declared.page.Row.{Row}
-use Rattle.sdl_page.specs.Entries.{Entry, entry_at}
-use Rattle.sdl_page.specs.Pages.{Sheet, spot_at}
+use Rattle.sdl_instances_log.specs.declared.event.Event.{Event}
+use Rattle.sdl_instances_log.specs.declared.event.Event.TheVariants as event
+use Rattle.sdl_instances_log.specs.declared.event.Trigger.{Trigger}
+use Rattle.sdl_instances_log.specs.declared.event.Trigger.TheVariants as trigger
+use Rattle.sdl_chart_page.specs.declared.page.Row.{Row}
+use Rattle.sdl_chart_page.specs.Entries.{Entry, entry_at}
+use Rattle.sdl_chart_page.specs.Pages.{Sheet, spot_at}
 use Rattle.sdl_chart_msc.specs.declared.messages.Fate.{Fate}
 use Rattle.sdl_chart_msc.specs.declared.messages.Fate.TheVariants as fate
 

@@ -5,11 +5,11 @@ use Rattle.std.specs.declared.cmp.Ordering.{Ordering}
 use Rattle.std.specs.Ordering.{ordering_then, nat_cmp, bool_cmp}
 use Rattle.sdl_signal.specs.declared.values.Pid.{Pid}
 use Rattle.sdl_signal.specs.declared.values.Pid.TheVariants as pid
-use Rattle.sdl_log.specs.declared.event.Done.{Done}
-use Rattle.sdl_log.specs.declared.event.Done.TheVariants as done
-use Rattle.sdl_log.specs.declared.event.Event.{Event}
-use Rattle.sdl_log.specs.declared.event.Event.TheVariants as event
-use Rattle.sdl_page.specs.declared.page.Row.{Row}
+use Rattle.sdl_instances_log.specs.declared.event.Done.{Done}
+use Rattle.sdl_instances_log.specs.declared.event.Done.TheVariants as done
+use Rattle.sdl_instances_log.specs.declared.event.Event.{Event}
+use Rattle.sdl_instances_log.specs.declared.event.Event.TheVariants as event
+use Rattle.sdl_chart_page.specs.declared.page.Row.{Row}
 use Rattle.sdl_chart_text.specs.Rows.{gathered_from}
 use Rattle.sdl_chart_msc.specs.declared.places.Place.{Place}
 use Rattle.sdl_chart_msc.specs.Messages.{logged_at}

@@ -1,25 +1,25 @@
 //! The lines of what instances did.
 ghost use Rattle.std.specs.Prelude.{◌≡◌, ◌++◌, OnOk, codes, decimal, flat_map};
 ghost use Rattle.std.specs.Io.KnownBytes.{Appends};
-ghost use Rattle.sdl_packed_log.specs.Packed.{event_shown, step_shown};
+ghost use Rattle.sdl_instances_packed_log.specs.Packed.{event_shown, step_shown};
 ghost use Rattle.sdl_chart_text.specs.Legends.{end_gate_text};
-ghost use Rattle.sdl_file_commands.specs.Texts.{signal_text};
+ghost use Rattle.sdl_app_file_commands.specs.Texts.{signal_text};
 ghost use Rattle.sdl_chart_msc.specs.Names.{name_text};
 ghost use Rattle.sdl_chart_msc.specs.Lines.{script_of, message_text, source_text, in_text, address_text, out_text, done_text, trigger_text, is_at, condition_text, end_text, turn_text, event_text, remark_text, is_consumed, sent_note, note_text};
 
 use crate::messages::{Fate, Messages, fate_at, number_of};
 use crate::names::{write_between, write_name};
 use crate::signals::{write_params, write_pid_line, write_signal_name};
-use sdl_behaviour::{Frame, Next};
+use sdl_app_file_commands::names::{gate_name, signal_name};
+use sdl_chart_page::Page;
 use sdl_chart_text::{States, end_name, start_name};
-use sdl_file_commands::names::{gate_name, signal_name};
-use sdl_log::{Done, Trigger};
-use sdl_outcome::EnvOut;
-use sdl_packed_log::{Shown, ShownStep};
-use sdl_page::Page;
-use sdl_parts::Structure;
+use sdl_instances_log::{Done, Trigger};
+use sdl_instances_packed_log::{Shown, ShownStep};
 use sdl_routes::Routes;
+use sdl_run_outcome::EnvOut;
 use sdl_signal::{Item, Origin, Pid, RouteId, Signal, SignalId, StateId};
+use sdl_structure_parts::Structure;
+use sdl_transition_behaviour::{Frame, Next};
 use std::io::{Result, Write};
 
 /// What the lines are written from.

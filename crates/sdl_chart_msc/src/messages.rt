@@ -1,18 +1,18 @@
 //! The items of a run as messages: their numbers, and what became of them.
 ghost use Rattle.std.specs.Prelude.{◌≡◌, ◌+◌, List, Some, IfOk, map, replicate, option_map, option_and_then, slice_get, slice_set, slice_index_or};
-ghost use Rattle.sdl_packed_log.specs.Packed.{event_shown};
+ghost use Rattle.sdl_instances_packed_log.specs.Packed.{event_shown};
 ghost use Rattle.sdl_signal.specs.declared.values.Origin.{Origin};
-ghost use Rattle.sdl_page.specs.declared.page.Spot.{Spot};
-ghost use Rattle.sdl_page.specs.Entries.{Entry, AreStored, entries_of};
-ghost use Rattle.sdl_page.specs.Pages.{Sheet, IsPageOf, spot_at};
+ghost use Rattle.sdl_chart_page.specs.declared.page.Spot.{Spot};
+ghost use Rattle.sdl_chart_page.specs.Entries.{Entry, AreStored, entries_of};
+ghost use Rattle.sdl_chart_page.specs.Pages.{Sheet, IsPageOf, spot_at};
 ghost use Rattle.sdl_chart_msc.specs.Messages.{logged_at, row_sends, sent_above, sent_after, number_by, told_by_event, told_by_receipt, told_at, settled, fates_after, above_in, fates_in, IsSentAs};
 ghost use Rattle.sdl_chart_msc.specs.declared.messages.Fate.TheVariants as fate;
 
 use crate::rows::event_of;
+use sdl_chart_page::{Lists, Page, Row};
 use sdl_chart_text::sent_in;
-use sdl_log::Trigger;
-use sdl_packed_log::{Shown, Shows};
-use sdl_page::{Lists, Page, Row};
+use sdl_instances_log::Trigger;
+use sdl_instances_packed_log::{Shown, Shows};
 use sdl_signal::{Item, Origin, Pid};
 use std::alloc::{AllocError, Global};
 

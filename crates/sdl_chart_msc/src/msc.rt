@@ -1,9 +1,9 @@
 //! The chart: notes of the environment's outputs, and then one instance behind the other.
 ghost use Rattle.std.specs.Prelude.{◌≡◌, ◌++◌, ℕ, List, map, None, OnOk, codes};
 ghost use Rattle.std.specs.Io.KnownBytes.{Appends};
-ghost use Rattle.sdl_page.specs.Entries.{AreStored};
+ghost use Rattle.sdl_chart_page.specs.Entries.{AreStored};
 ghost use Rattle.sdl_chart_msc.specs.Lines.{script_of, row_text, acts_text, head_text, foot_text, joint_text, place_text, lines_after, last_of, msc_text, IsMscOf};
-ghost use Rattle.sdl_file_commands.specs.Texts.{set_text};
+ghost use Rattle.sdl_app_file_commands.specs.Texts.{set_text};
 ghost use Rattle.sdl_chart_msc.specs.Names.{name_text};
 
 use crate::lines::Scene;
@@ -12,12 +12,12 @@ use crate::names::write_between;
 use crate::places::{Place, is_same, places_of};
 use crate::rows::event_of;
 use crate::signals::write_pid;
+use sdl_app_file_commands::names::set_name;
+use sdl_chart_page::{Lists, Row};
 use sdl_chart_text::Chart;
-use sdl_file_commands::names::set_name;
-use sdl_packed_log::Shows;
-use sdl_page::{Lists, Row};
-use sdl_parts::Structure;
+use sdl_instances_packed_log::Shows;
 use sdl_signal::{Pid, SetId};
+use sdl_structure_parts::Structure;
 use std::alloc::Global;
 use std::io::{Result as IoResult, Write};
 

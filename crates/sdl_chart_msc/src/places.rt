@@ -1,14 +1,14 @@
 //! The rows of each instance.
 ghost use Rattle.std.specs.Prelude.{◌≡◌, ◌++◌, true, IfOk, OnOk, map, flat_map};
-ghost use Rattle.sdl_packed_log.specs.Packed.{event_shown};
-ghost use Rattle.sdl_page.specs.Entries.{AreStored};
+ghost use Rattle.sdl_instances_packed_log.specs.Packed.{event_shown};
+ghost use Rattle.sdl_chart_page.specs.Entries.{AreStored};
 ghost use Rattle.sdl_chart_text.specs.Rows.{gathered_from};
 ghost use Rattle.sdl_chart_msc.specs.Places.{place_of, made_in, places_of_event, places_at, ArePlacesOf, is_same};
 
 use crate::rows::event_of;
-use sdl_log::Done;
-use sdl_packed_log::{Shown, Shows};
-use sdl_page::Row;
+use sdl_chart_page::Row;
+use sdl_instances_log::Done;
+use sdl_instances_packed_log::{Shown, Shows};
 use sdl_signal::{Pid, SetId};
 use std::alloc::{AllocError, Global};
 

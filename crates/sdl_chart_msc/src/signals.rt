@@ -1,14 +1,14 @@
 //! Pids and values in the textual form of Z.120.
 ghost use Rattle.std.specs.Prelude.{◌++◌, OnOk};
 ghost use Rattle.std.specs.Io.KnownBytes.{Appends};
-ghost use Rattle.sdl_file_commands.specs.Texts.{signal_text};
+ghost use Rattle.sdl_app_file_commands.specs.Texts.{signal_text};
 ghost use Rattle.sdl_chart_msc.specs.Names.{name_text, pid_text, pid_line, values_text};
 
 use crate::names::write_name;
+use sdl_app_file_commands::names::signal_name;
 use sdl_chart_text::{write_marked_params, write_marked_pid};
-use sdl_file_commands::names::signal_name;
-use sdl_parts::Structure;
 use sdl_signal::{Pid, Signal, SignalId};
+use sdl_structure_parts::Structure;
 use std::io::{Result, Write};
 
 /// Writes a Pid: an instance by its set, an underscore and its number. No two instances get one name, since the number is what

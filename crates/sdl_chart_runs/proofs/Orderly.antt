@@ -5,29 +5,29 @@ use Rattle.std.proofs.lemmas.List.Concat.{flat_map-append, flat_map_single}
 use Rattle.std.proofs.lemmas.Option.{none-some, same_Some, slice_get_within, option_and_then_some}
 use Rattle.sdl_signal.specs.declared.ids.BlockId.{BlockId}
 use Rattle.sdl_signal.specs.declared.values.Item.{Item}
-use Rattle.sdl_behaviour.specs.declared.step.Frame.{Frame}
-use Rattle.sdl_behaviour.specs.declared.step.Step.{Step}
-use Rattle.sdl_log.specs.declared.event.Event.{Event}
-use Rattle.sdl_log.specs.declared.event.Event.TheVariants as event
-use Rattle.sdl_log.specs.Log.{arrived_in, done_in, sent_by, all_done, arrived, sent, IsStamped}
+use Rattle.sdl_transition_behaviour.specs.declared.step.Frame.{Frame}
+use Rattle.sdl_transition_behaviour.specs.declared.step.Step.{Step}
+use Rattle.sdl_instances_log.specs.declared.event.Event.{Event}
+use Rattle.sdl_instances_log.specs.declared.event.Event.TheVariants as event
+use Rattle.sdl_instances_log.specs.Log.{arrived_in, done_in, sent_by, all_done, arrived, sent, IsStamped}
 use Rattle.sdl_instances.specs.Machine.{State}
-use Rattle.sdl_opening.specs.declared.worker.Worker.{Worker}
-use Rattle.sdl_opening.specs.declared.worker.Worker.TheVariants.{Block, Environment, Forwarder}
-use Rattle.sdl_opening.proofs.Bringing.{among_left, among_right}
-use Rattle.sdl_outcome.specs.declared.end.RunEnd.{RunEnd}
-use Rattle.sdl_outcome.specs.declared.environment_output.EnvOut.{EnvOut}
-use Rattle.sdl_outcome.specs.EnvironmentWork.{env_sent}
-use Rattle.sdl_outcome.specs.Stations.{Leads, IsAgent, Among, same_worker}
-use Rattle.sdl_outcome.specs.Books.{outs, came, left}
-use Rattle.sdl_outcome.specs.Causes.{Precedes, direct}
-use Rattle.sdl_outcome.specs.Plan.{Plan, blocks_from, lines_of, workers_of, ways_of}
-use Rattle.sdl_outcome.specs.Outcome.{Outcome, IsComplete, Headline, AreRunsFrom, of_worker, books_of}
-use Rattle.sdl_outcome.proofs.Ways.{row_of}
-use Rattle.sdl_ledger.specs.declared.ledger.Ledger.{Ledger}
-use Rattle.sdl_order.proofs.Stamps.{among_cases, among_all, cause_stamp}
-use Rattle.sdl_driver.specs.Ended.{HasEnded}
-use Rattle.sdl_page.specs.Entries.{Entry, entry_of_event, entry_of_receipt, entry_of_output, entries, entry_at}
-use Rattle.sdl_page.specs.Pages.{IsSentIn, AreOrderly}
+use Rattle.sdl_forward_opening.specs.declared.worker.Worker.{Worker}
+use Rattle.sdl_forward_opening.specs.declared.worker.Worker.TheVariants.{Block, Environment, Forwarder}
+use Rattle.sdl_forward_opening.proofs.Bringing.{among_left, among_right}
+use Rattle.sdl_run_outcome.specs.declared.end.RunEnd.{RunEnd}
+use Rattle.sdl_run_outcome.specs.declared.environment_output.EnvOut.{EnvOut}
+use Rattle.sdl_run_outcome.specs.EnvironmentWork.{env_sent}
+use Rattle.sdl_run_outcome.specs.Stations.{Leads, IsAgent, Among, same_worker}
+use Rattle.sdl_run_outcome.specs.Books.{outs, came, left}
+use Rattle.sdl_run_outcome.specs.Causes.{Precedes, direct}
+use Rattle.sdl_run_outcome.specs.Plan.{Plan, blocks_from, lines_of, workers_of, ways_of}
+use Rattle.sdl_run_outcome.specs.Outcome.{Outcome, IsComplete, Headline, AreRunsFrom, of_worker, books_of}
+use Rattle.sdl_run_outcome.proofs.Ways.{row_of}
+use Rattle.sdl_run_ledger.specs.declared.ledger.Ledger.{Ledger}
+use Rattle.sdl_run_order.proofs.Stamps.{among_cases, among_all, cause_stamp}
+use Rattle.sdl_run_driver.specs.Ended.{HasEnded}
+use Rattle.sdl_chart_page.specs.Entries.{Entry, entry_of_event, entry_of_receipt, entry_of_output, entries, entry_at}
+use Rattle.sdl_chart_page.specs.Pages.{IsSentIn, AreOrderly}
 use Rattle.sdl_chart_runs.specs.Charts.{entries_left}
 
 -- an element of a list, and its place

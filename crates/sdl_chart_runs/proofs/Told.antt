@@ -5,32 +5,32 @@ use Rattle.std.proofs.KnownBytes.{Appends-kept}
 use Rattle.sdl_signal.specs.declared.ends.InputEnd.{InputEnd}
 use Rattle.sdl_signal.specs.declared.ends.OutputEnd.{OutputEnd}
 use Rattle.sdl_signal.specs.declared.ends.OutputEnd.TheVariants as output
-use Rattle.sdl_parts.specs.Structure.{Structure}
+use Rattle.sdl_structure_parts.specs.Structure.{Structure}
 use Rattle.sdl_routes.specs.declared.route.TableRow.{TableRow}
-use Rattle.sdl_outcome.specs.declared.end.RunEnd.{RunEnd}
-use Rattle.sdl_outcome.specs.Outcome.{Outcome, WorkerHand}
-use Rattle.sdl_outcome.specs.declared.environment_output.EnvOut.{EnvOut}
-use Rattle.sdl_outcome.specs.Lists.{held_in}
+use Rattle.sdl_run_outcome.specs.declared.end.RunEnd.{RunEnd}
+use Rattle.sdl_run_outcome.specs.Outcome.{Outcome, WorkerHand}
+use Rattle.sdl_run_outcome.specs.declared.environment_output.EnvOut.{EnvOut}
+use Rattle.sdl_run_outcome.specs.Lists.{held_in}
 use Rattle.sdl_signal.specs.declared.values.Item.{Item}
-use Rattle.sdl_log.specs.declared.event.Event.{Event}
-use Rattle.sdl_hand.specs.declared.hand.Hand.{Hand}
+use Rattle.sdl_instances_log.specs.declared.event.Event.{Event}
+use Rattle.sdl_block_hand.specs.declared.hand.Hand.{Hand}
 use Rattle.sdl_routes.specs.declared.route.Station.{Station}
 use Rattle.sdl_forward.specs.Boards.{lists_of}
 use Rattle.sdl_transition.specs.declared.binding.Bound.{Bound}
 use Rattle.sdl_transition.specs.Bound.{structure_of, routes_of}
-use Rattle.sdl_driver.specs.declared.closing.Closing.{Closing}
-use Rattle.sdl_driver.specs.Closings.{outcome_in, StopsByMemory}
-use Rattle.sdl_audit.specs.Audits.{IsSameClosing}
+use Rattle.sdl_run_driver.specs.declared.closing.Closing.{Closing}
+use Rattle.sdl_run_driver.specs.Closings.{outcome_in, StopsByMemory}
+use Rattle.sdl_run_audit.specs.Audits.{IsSameClosing}
 use Rattle.sdl_chart_words.specs.declared.sets.Charting.{Charting}
-use Rattle.sdl_behaviour.specs.declared.step.Frame.{Frame}
-use Rattle.sdl_behaviour.specs.declared.step.Step.{Step}
+use Rattle.sdl_transition_behaviour.specs.declared.step.Frame.{Frame}
+use Rattle.sdl_transition_behaviour.specs.declared.step.Step.{Step}
 use Rattle.sdl_transition.specs.Rules.{Rules}
-use Rattle.sdl_outcome.specs.Plan.{Plan, blocks_in}
-use Rattle.sdl_outcome.specs.EnvironmentWork.{HasReadAll}
-use Rattle.sdl_ledger.specs.declared.ledger.Ledger.{Ledger}
-use Rattle.sdl_driver.specs.Ended.{HasEnded}
-use Rattle.sdl_file_runs.proofs.Told.{not_refused}
-use Rattle.sdl_file_runs.specs.Outcomes.{IsToldBy}
+use Rattle.sdl_run_outcome.specs.Plan.{Plan, blocks_in}
+use Rattle.sdl_run_outcome.specs.EnvironmentWork.{HasReadAll}
+use Rattle.sdl_run_ledger.specs.declared.ledger.Ledger.{Ledger}
+use Rattle.sdl_run_driver.specs.Ended.{HasEnded}
+use Rattle.sdl_app_file_runs.proofs.Told.{not_refused}
+use Rattle.sdl_app_file_runs.specs.Outcomes.{IsToldBy}
 use Rattle.sdl_chart_runs.specs.declared.drawn.ChartFault.{ChartFault}
 use Rattle.sdl_chart_runs.specs.Charts.{HasWrittenChart, IsWhyNone, HasToldChart, HasCharted}
 

@@ -2,15 +2,15 @@
 use Rattle.std.proofs.Common.{◌≡◌, ℕ, List, Option, Some, None, Result, Ok, Err, OnOk, IsOk, map, length, sym, subst}
 use Rattle.std.proofs.lemmas.Bool.{false≢true}
 use Rattle.sdl_signal.specs.declared.values.Item.{Item}
-use Rattle.sdl_parts.specs.Structure.{Structure}
+use Rattle.sdl_structure_parts.specs.Structure.{Structure}
 use Rattle.sdl_routes.specs.declared.route.TableRow.{TableRow}
-use Rattle.sdl_log.specs.declared.event.Event.{Event}
-use Rattle.sdl_outcome.specs.declared.environment_output.EnvOut.{EnvOut}
-use Rattle.sdl_outcome.specs.Outcome.{Outcome}
-use Rattle.sdl_page.specs.declared.lists.Lists.{Lists}
-use Rattle.sdl_page.specs.Entries.{entries, entries_of}
-use Rattle.sdl_page.specs.Pages.{IsPageOf, AreWhole, AreOrderly}
-use Rattle.sdl_page.specs.Pages.{Sheet}
+use Rattle.sdl_instances_log.specs.declared.event.Event.{Event}
+use Rattle.sdl_run_outcome.specs.declared.environment_output.EnvOut.{EnvOut}
+use Rattle.sdl_run_outcome.specs.Outcome.{Outcome}
+use Rattle.sdl_chart_page.specs.declared.lists.Lists.{Lists}
+use Rattle.sdl_chart_page.specs.Entries.{entries, entries_of}
+use Rattle.sdl_chart_page.specs.Pages.{IsPageOf, AreWhole, AreOrderly}
+use Rattle.sdl_chart_page.specs.Pages.{Sheet}
 use Rattle.sdl_chart_words.specs.declared.asked.ChartForm.{ChartForm}
 use Rattle.sdl_chart_words.specs.declared.sets.Charting.{Charting}
 use Rattle.sdl_chart_runs.specs.declared.drawn.ChartFault.{ChartFault}

@@ -6,27 +6,27 @@ use Rattle.sdl_signal.specs.declared.ids.SetId.{SetId}
 use Rattle.sdl_signal.specs.declared.values.Item.{Item}
 use Rattle.sdl_signal.specs.declared.ends.InputEnd.{InputEnd}
 use Rattle.sdl_signal.specs.declared.ends.OutputEnd.TheVariants as output
-use Rattle.sdl_parts.specs.Structure.{Structure}
+use Rattle.sdl_structure_parts.specs.Structure.{Structure}
 use Rattle.sdl_routes.specs.declared.route.TableRow.{TableRow}
-use Rattle.sdl_behaviour.specs.declared.step.Frame.{Frame}
-use Rattle.sdl_behaviour.specs.declared.step.Step.{Step}
-use Rattle.sdl_log.specs.declared.event.Event.{Event}
-use Rattle.sdl_outcome.specs.declared.end.RunEnd.{RunEnd}
-use Rattle.sdl_outcome.specs.declared.environment_output.EnvOut.{EnvOut}
-use Rattle.sdl_outcome.specs.Outcome.{Outcome}
-use Rattle.sdl_outcome.specs.Plan.{Plan, blocks_in}
-use Rattle.sdl_outcome.specs.EnvironmentWork.{HasReadAll}
-use Rattle.sdl_ledger.specs.declared.ledger.Ledger.{Ledger}
-use Rattle.sdl_driver.specs.Ended.{HasEnded}
-use Rattle.sdl_driver.specs.Closings.{StopsByMemory}
-use Rattle.sdl_file_runs.specs.Outcomes.{IsToldBy}
-use Rattle.sdl_page.specs.Entries.{Entry, entries}
-use Rattle.sdl_page.specs.Pages.{Sheet, IsPageOf, AreWhole, spot_at}
+use Rattle.sdl_transition_behaviour.specs.declared.step.Frame.{Frame}
+use Rattle.sdl_transition_behaviour.specs.declared.step.Step.{Step}
+use Rattle.sdl_instances_log.specs.declared.event.Event.{Event}
+use Rattle.sdl_run_outcome.specs.declared.end.RunEnd.{RunEnd}
+use Rattle.sdl_run_outcome.specs.declared.environment_output.EnvOut.{EnvOut}
+use Rattle.sdl_run_outcome.specs.Outcome.{Outcome}
+use Rattle.sdl_run_outcome.specs.Plan.{Plan, blocks_in}
+use Rattle.sdl_run_outcome.specs.EnvironmentWork.{HasReadAll}
+use Rattle.sdl_run_ledger.specs.declared.ledger.Ledger.{Ledger}
+use Rattle.sdl_run_driver.specs.Ended.{HasEnded}
+use Rattle.sdl_run_driver.specs.Closings.{StopsByMemory}
+use Rattle.sdl_app_file_runs.specs.Outcomes.{IsToldBy}
+use Rattle.sdl_chart_page.specs.Entries.{Entry, entries}
+use Rattle.sdl_chart_page.specs.Pages.{Sheet, IsPageOf, AreWhole, spot_at}
 use Rattle.sdl_chart_words.specs.declared.asked.ChartForm.{ChartForm}
 use Rattle.sdl_chart_words.specs.declared.asked.ChartForm.TheVariants as form
 use Rattle.sdl_chart_words.specs.declared.asked.Request.{Request}
 use Rattle.sdl_chart_words.specs.declared.sets.Charting.{Charting}
-use Rattle.sdl_page.specs.Origins.{value_at}
+use Rattle.sdl_chart_page.specs.Origins.{value_at}
 use Rattle.sdl_chart_text.specs.declared.left.Left.{Left}
 use Rattle.sdl_chart_text.specs.declared.left.Left.TheVariants as lefts
 use Rattle.sdl_chart_text.specs.declared.chart.Chart.{Chart}

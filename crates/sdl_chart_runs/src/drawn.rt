@@ -2,24 +2,24 @@
 ghost use Rattle.std.specs.Prelude.{◌≡◌, ◌≤◌, ℕ, List, None, Some, length, map, min, IfOk, IfErr, IfSome, IfNone, IsErr, IsOk};
 ghost use Rattle.std.specs.Io.KnownBytes.{Appends};
 ghost use Rattle.sdl_transition.specs.Bound.{structure_of, routes_of};
-ghost use Rattle.sdl_driver.specs.Closings.{outcome_in};
-ghost use Rattle.sdl_page.specs.Entries.{AreStored, entries_of};
-ghost use Rattle.sdl_page.specs.Pages.{IsPageOf, AreWhole, AreOrderly};
+ghost use Rattle.sdl_run_driver.specs.Closings.{outcome_in};
+ghost use Rattle.sdl_chart_page.specs.Entries.{AreStored, entries_of};
+ghost use Rattle.sdl_chart_page.specs.Pages.{IsPageOf, AreWhole, AreOrderly};
 ghost use Rattle.sdl_chart_runs.specs.Charts.{IsChartOf, IsTextOf, IsHeadingOf, IsWhyNone, IsWhyNoText, IsOver, drawn_of, entries_left, first_of, last_of, before_of, past_of};
 ghost use Rattle.sdl_chart_text.specs.Legends.{reason_of};
 ghost use Rattle.sdl_chart_svg.specs.Svg.{chart_svg};
 ghost use Rattle.sdl_chart_svg.specs.declared.svg.Heading.{Heading as AHeading};
 
+use sdl_app_command::errors::write_error;
 use sdl_chart_drawing::{Drawing, Wanted};
 use sdl_chart_layout::{DrawFault, draw};
 use sdl_chart_msc::{MscFault, write_msc};
+use sdl_chart_page::{Lists, Page, PageFault};
 use sdl_chart_svg::{Heading, write_chart_svg};
 use sdl_chart_text::{Chart, States, lefts_of, write_chart};
 use sdl_chart_words::{ChartForm, Charting, Request};
-use sdl_command::errors::write_error;
-use sdl_log::Keeps;
-use sdl_packed_log::Shows;
-use sdl_page::{Lists, Page, PageFault};
+use sdl_instances_log::LogStore;
+use sdl_instances_packed_log::Shows;
 use sdl_run::Closing;
 use sdl_signal::OutputEnd;
 use std::alloc::Global;
@@ -103,7 +103,7 @@ fn part_of(request: Request, rows: usize) -> Option<(usize, usize)>
 }
 
 /// The lists that a closing shows.
-fn lists_in<S, K: Keeps>(closing: &Closing<S, K>) -> Lists<'_, K>
+fn lists_in<S, K: LogStore>(closing: &Closing<S, K>) -> Lists<'_, K>
     ensures logs { result.logs.now ≡ closing.now.logs.items }
     ensures received { result.received.now ≡ closing.now.env_received.items }
     ensures put { result.put.now ≡ closing.now.env_put.items }

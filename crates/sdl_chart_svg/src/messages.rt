@@ -7,10 +7,10 @@ ghost use Rattle.sdl_chart_svg.specs.Messages.{class_text, item_text, to_text, a
 use crate::shapes::{write_disc, write_line};
 use crate::texts::write_texts;
 use sdl_chart_drawing::{Message, Point, Tip};
+use sdl_chart_page::ByOrigin;
 use sdl_chart_text::{Left, write_reason};
-use sdl_page::ByOrigin;
-use sdl_parts::Structure;
 use sdl_signal::Origin;
+use sdl_structure_parts::Structure;
 use sdl_svg::{close_text, open_text, write_text};
 use std::io::{Result, Write};
 

@@ -8,9 +8,9 @@ use crate::lifelines::{write_lifelines, write_names};
 use crate::messages::write_messages;
 use crate::shapes::{write_events, write_shapes};
 use sdl_chart_drawing::Drawing;
+use sdl_chart_page::ByOrigin;
 use sdl_chart_text::Left;
-use sdl_page::ByOrigin;
-use sdl_parts::Structure;
+use sdl_structure_parts::Structure;
 use sdl_svg::{write_front, write_text};
 use std::io::{Result, Write};
 

@@ -1,8 +1,8 @@
 -- What is written one after another.
 use Rattle.std.proofs.Common.{◌≡◌, ℕ, zero, suc, ◌+◌, ◌<◌, List, [], ◌∷◌, ◌++◌, length, take, get_or, ap, sym, ◌∙◌, append_assoc, append-nil, add-zero, add-one, arith}
-use Rattle.sdl_page.specs.declared.page.Row.{Row}
+use Rattle.sdl_chart_page.specs.declared.page.Row.{Row}
 use Rattle.sdl_chart_text.specs.Rows.{gathered_from}
-pub use Rattle.sdl_page.proofs.Texts.{on_ok}
+pub use Rattle.sdl_chart_page.proofs.Texts.{on_ok}
 
 module _ {X : Type 0} (give : ℕ → Row → List X) where
   gathered_take : (start n : ℕ) (rows : List Row) (r : Row) → n < length rows → gathered_from give start (take (suc n) rows) ≡ gathered_from give start (take n rows) ++ give (start + n) (get_or rows n r)

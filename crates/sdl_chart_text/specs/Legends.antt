@@ -6,7 +6,7 @@ use Rattle.sdl_signal.specs.declared.ids.StateId.{StateId}
 use Rattle.sdl_signal.specs.declared.values.Origin.{Origin}
 use Rattle.sdl_signal.specs.declared.values.Pid.{Pid}
 use Rattle.sdl_signal.specs.declared.values.Pid.TheVariants as pid
-use Rattle.sdl_parts.specs.Structure.{Structure}
+use Rattle.sdl_structure_parts.specs.Structure.{Structure}
 use Rattle.sdl_routes.specs.declared.route.Route.{Route}
 use Rattle.sdl_routes.specs.declared.route.Hop.{Hop}
 use Rattle.sdl_routes.specs.declared.route.EndPoint.{EndPoint}
@@ -14,15 +14,15 @@ use Rattle.sdl_routes.specs.declared.route.EndPoint.TheVariants as ends
 use Rattle.sdl_routes.specs.declared.route.Station.{Station}
 use Rattle.sdl_routes.specs.declared.route.Station.TheVariants as station
 use Rattle.sdl_routes.specs.declared.route.TableRow.{TableRow}
-use Rattle.sdl_opening.specs.declared.worker.Worker.{Worker}
-use Rattle.sdl_opening.specs.declared.worker.Worker.TheVariants as worker
-use Rattle.sdl_log.specs.declared.event.Event.{Event}
-use Rattle.sdl_file_commands.specs.Texts.{set_text, block_text, channel_text, gate_text}
-use Rattle.sdl_page.specs.declared.page.Row.{Row}
-use Rattle.sdl_page.specs.declared.page.Spot.{Spot}
-use Rattle.sdl_page.specs.Entries.{Entry, entry_at, entries_of}
-use Rattle.sdl_page.specs.Origins.{value_at}
-use Rattle.sdl_page.specs.Pages.{Sheet, spot_at}
+use Rattle.sdl_forward_opening.specs.declared.worker.Worker.{Worker}
+use Rattle.sdl_forward_opening.specs.declared.worker.Worker.TheVariants as worker
+use Rattle.sdl_instances_log.specs.declared.event.Event.{Event}
+use Rattle.sdl_app_file_commands.specs.Texts.{set_text, block_text, channel_text, gate_text}
+use Rattle.sdl_chart_page.specs.declared.page.Row.{Row}
+use Rattle.sdl_chart_page.specs.declared.page.Spot.{Spot}
+use Rattle.sdl_chart_page.specs.Entries.{Entry, entry_at, entries_of}
+use Rattle.sdl_chart_page.specs.Origins.{value_at}
+use Rattle.sdl_chart_page.specs.Pages.{Sheet, spot_at}
 use Rattle.sdl_chart_text.specs.declared.left.Left.{Left}
 use Rattle.sdl_chart_text.specs.declared.left.Left.TheVariants as lefts
 use Rattle.sdl_chart_text.specs.declared.chart.Chart.{Chart}

@@ -3,23 +3,23 @@ use Rattle.std.specs.Prelude.{ℕ, ◌+◌, ◌-◌, nat_lt, ◌==◌, List, [],
 use Rattle.sdl_signal.specs.declared.values.Item.{Item}
 use Rattle.sdl_signal.specs.declared.values.Pid.{Pid}
 use Rattle.sdl_signal.specs.declared.values.Pid.TheVariants as pid
-use Rattle.sdl_behaviour.specs.declared.step.Frame.{Frame}
-use Rattle.sdl_behaviour.specs.declared.step.Next.{Next}
-use Rattle.sdl_behaviour.specs.declared.step.Next.TheVariants as next
-use Rattle.sdl_behaviour.specs.declared.step.Step.{Step}
-use Rattle.sdl_log.specs.declared.event.Cause.{Cause}
-use Rattle.sdl_log.specs.declared.event.Cause.TheVariants as cause
-use Rattle.sdl_log.specs.declared.event.Done.{Done}
-use Rattle.sdl_log.specs.declared.event.Done.TheVariants as done
-use Rattle.sdl_log.specs.declared.event.Event.{Event}
-use Rattle.sdl_log.specs.declared.event.Event.TheVariants as event
-use Rattle.sdl_log.specs.declared.event.Trigger.{Trigger}
-use Rattle.sdl_log.specs.declared.event.Trigger.TheVariants as trigger
-use Rattle.sdl_outcome.specs.declared.environment_output.EnvOut.{EnvOut}
-use Rattle.sdl_outcome.specs.declared.environment_output.EnvOut.TheVariants as env_out
-use Rattle.sdl_parts.specs.Structure.{Structure}
-use Rattle.sdl_file_commands.specs.Texts.{signal_text, block_text, gate_text}
-use Rattle.sdl_page.specs.declared.page.Row.{Row}
+use Rattle.sdl_transition_behaviour.specs.declared.step.Frame.{Frame}
+use Rattle.sdl_transition_behaviour.specs.declared.step.Next.{Next}
+use Rattle.sdl_transition_behaviour.specs.declared.step.Next.TheVariants as next
+use Rattle.sdl_transition_behaviour.specs.declared.step.Step.{Step}
+use Rattle.sdl_instances_log.specs.declared.event.Cause.{Cause}
+use Rattle.sdl_instances_log.specs.declared.event.Cause.TheVariants as cause
+use Rattle.sdl_instances_log.specs.declared.event.Done.{Done}
+use Rattle.sdl_instances_log.specs.declared.event.Done.TheVariants as done
+use Rattle.sdl_instances_log.specs.declared.event.Event.{Event}
+use Rattle.sdl_instances_log.specs.declared.event.Event.TheVariants as event
+use Rattle.sdl_instances_log.specs.declared.event.Trigger.{Trigger}
+use Rattle.sdl_instances_log.specs.declared.event.Trigger.TheVariants as trigger
+use Rattle.sdl_run_outcome.specs.declared.environment_output.EnvOut.{EnvOut}
+use Rattle.sdl_run_outcome.specs.declared.environment_output.EnvOut.TheVariants as env_out
+use Rattle.sdl_structure_parts.specs.Structure.{Structure}
+use Rattle.sdl_app_file_commands.specs.Texts.{signal_text, block_text, gate_text}
+use Rattle.sdl_chart_page.specs.declared.page.Row.{Row}
 use Rattle.sdl_chart_text.specs.Signals.{pid_text, signal_with_values}
 use Rattle.sdl_chart_text.specs.Legends.{Legend, spot_text, start_text, end_gate_text, finish_text, state_of, left_text}
 

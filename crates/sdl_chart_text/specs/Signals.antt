@@ -6,8 +6,8 @@ use Rattle.sdl_signal.specs.declared.values.Pid.TheVariants as pid
 use Rattle.sdl_signal.specs.declared.values.Value.{Value}
 use Rattle.sdl_signal.specs.declared.values.Value.TheVariants as value
 use Rattle.sdl_signal.specs.declared.values.Signal.{Signal}
-use Rattle.sdl_parts.specs.Structure.{Structure}
-use Rattle.sdl_file_commands.specs.Texts.{signal_text, set_text}
+use Rattle.sdl_structure_parts.specs.Structure.{Structure}
+use Rattle.sdl_app_file_commands.specs.Texts.{signal_text, set_text}
 
 -- `null`, `env`, or the set's name, a mark and the serial number
 abbrev pub marked_pid_text : Structure → List ℕ → Pid → List ℕ

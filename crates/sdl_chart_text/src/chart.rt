@@ -1,9 +1,9 @@
 //! What a chart is made of.
 use crate::left::Left;
 use crate::states::States;
-use sdl_page::{ByOrigin, Lists, Page};
-use sdl_parts::Structure;
+use sdl_chart_page::{ByOrigin, Lists, Page};
 use sdl_routes::Routes;
+use sdl_structure_parts::Structure;
 
 /// What a chart is made of: the names, the lists that a run left, their page, and where the signals are that did not arrive.
 #[derive(Drop)]

@@ -1,8 +1,8 @@
 //! The receipts and the outputs of the environment, as a chart writes them.
 ghost use Rattle.std.specs.Prelude.{◌++◌, OnOk, codes};
 ghost use Rattle.std.specs.Io.KnownBytes.{Appends};
-ghost use Rattle.sdl_page.specs.Entries.{AreStored};
-ghost use Rattle.sdl_file_commands.specs.Texts.{gate_text};
+ghost use Rattle.sdl_chart_page.specs.Entries.{AreStored};
+ghost use Rattle.sdl_app_file_commands.specs.Texts.{gate_text};
 ghost use Rattle.sdl_chart_text.specs.Legends.{legend_of, start_text, end_gate_text, left_text};
 ghost use Rattle.sdl_chart_text.specs.Signals.{signal_with_values};
 ghost use Rattle.sdl_chart_text.specs.Rows.{to_text, receipt_text, output_text};
@@ -11,11 +11,11 @@ use crate::chart::Chart;
 use crate::items::{write_known, write_left_of, write_sender};
 use crate::names::{end_name, start_name};
 use crate::signals::{write_pid, write_signal};
-use sdl_file_commands::names::gate_name;
-use sdl_outcome::EnvOut;
-use sdl_packed_log::Shows;
-use sdl_parts::Structure;
+use sdl_app_file_commands::names::gate_name;
+use sdl_instances_packed_log::Shows;
+use sdl_run_outcome::EnvOut;
 use sdl_signal::{EnvLine, GateId, Item, Pid, RouteId};
+use sdl_structure_parts::Structure;
 use std::io::{Result, Write};
 
 /// Writes that the environment received an item.

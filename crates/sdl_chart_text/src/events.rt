@@ -1,9 +1,9 @@
 //! The events of a block, as a chart writes them.
 ghost use Rattle.std.specs.Prelude.{◌≡◌, ◌++◌, OnOk, flat_map, codes};
 ghost use Rattle.std.specs.Io.KnownBytes.{Appends};
-ghost use Rattle.sdl_packed_log.specs.Packed.{event_shown, step_shown};
-ghost use Rattle.sdl_page.specs.Entries.{AreStored};
-ghost use Rattle.sdl_file_commands.specs.Texts.{block_text};
+ghost use Rattle.sdl_instances_packed_log.specs.Packed.{event_shown, step_shown};
+ghost use Rattle.sdl_chart_page.specs.Entries.{AreStored};
+ghost use Rattle.sdl_app_file_commands.specs.Texts.{block_text};
 ghost use Rattle.sdl_chart_text.specs.Legends.{legend_of, start_text};
 ghost use Rattle.sdl_chart_text.specs.Signals.{pid_text};
 ghost use Rattle.sdl_chart_text.specs.Rows.{known_text, whom_text, before_text, consumed_text, trigger_text, sent_text, done_text, stop_text, end_text, cause_text, event_text};
@@ -12,12 +12,12 @@ use crate::chart::Chart;
 use crate::items::{write_known, write_left_of, write_sender, write_whom};
 use crate::names::start_name;
 use crate::signals::{write_pid, write_signal};
-use sdl_behaviour::{Frame, Next};
-use sdl_file_commands::names::signal_name;
-use sdl_log::{Cause, Done, Trigger};
-use sdl_packed_log::{Shown, ShownStep, Shows};
-use sdl_parts::Structure;
+use sdl_app_file_commands::names::signal_name;
+use sdl_instances_log::{Cause, Done, Trigger};
+use sdl_instances_packed_log::{Shown, ShownStep, Shows};
 use sdl_signal::{Item, Pid, RouteId};
+use sdl_structure_parts::Structure;
+use sdl_transition_behaviour::{Frame, Next};
 use std::io::{Result, Write};
 
 /// Writes an event of a block.

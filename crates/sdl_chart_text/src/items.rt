@@ -1,8 +1,8 @@
 //! An item as a chart writes it: what it is and where it was output, who sent it, to whom it goes, and where it is left.
 ghost use Rattle.std.specs.Prelude.{◌≡◌, ◌≤◌, OnOk, length, flat_map};
 ghost use Rattle.std.specs.Io.KnownBytes.{Appends};
-ghost use Rattle.sdl_log.specs.Log.{sent_by};
-ghost use Rattle.sdl_page.specs.Entries.{AreStored, entries_of, entry_at, entry_seen};
+ghost use Rattle.sdl_instances_log.specs.Log.{sent_by};
+ghost use Rattle.sdl_chart_page.specs.Entries.{AreStored, entries_of, entry_at, entry_seen};
 ghost use Rattle.sdl_chart_text.specs.Legends.{legend_of, spot_text, left_text, has_several};
 ghost use Rattle.sdl_chart_text.specs.Rows.{known_text, sender_text, whom_text};
 
@@ -10,10 +10,10 @@ use crate::chart::Chart;
 use crate::left::{Left, write_left};
 use crate::names::finish_name;
 use crate::signals::{write_pid, write_signal};
-use sdl_log::Done;
-use sdl_outcome::EnvOut;
-use sdl_packed_log::Shows;
-use sdl_page::{Lists, Row, Seen};
+use sdl_chart_page::{Lists, Row, Seen};
+use sdl_instances_log::Done;
+use sdl_instances_packed_log::Shows;
+use sdl_run_outcome::EnvOut;
 use sdl_signal::{Item, Origin};
 use std::io::{Result, Write};
 

@@ -3,14 +3,14 @@ ghost use Rattle.std.specs.Prelude.{◌≡◌, ◌++◌, OnOk, codes};
 ghost use Rattle.std.specs.Io.KnownBytes.{Appends};
 ghost use Rattle.sdl_chart_text.specs.Legends.{hop_text, worker_text, station_text, place_text, comma_text, left_text, left_at, reason_of};
 
-use sdl_file_commands::names::{block_name, channel_name};
-use sdl_hand::Hand;
-use sdl_opening::{Worker, workers_of};
-use sdl_page::{ByOrigin, Page};
-use sdl_parts::Structure;
+use sdl_app_file_commands::names::{block_name, channel_name};
+use sdl_block_hand::Hand;
+use sdl_chart_page::{ByOrigin, Page};
+use sdl_forward_opening::{Worker, workers_of};
 use sdl_queue::Rest;
 use sdl_routes::{Hop, Station};
 use sdl_signal::Origin;
+use sdl_structure_parts::Structure;
 use std::alloc::{AllocError, Global};
 use std::io::{Result as IoResult, Write};
 

@@ -2,10 +2,10 @@
 ghost use Rattle.std.specs.Prelude.{◌≡◌};
 ghost use Rattle.sdl_chart_text.specs.Legends.{start_text, end_gate_text, finish_text};
 
-use sdl_file_commands::names::{gate_name, set_name};
-use sdl_parts::Structure;
+use sdl_app_file_commands::names::{gate_name, set_name};
 use sdl_routes::{EndPoint, Routes};
 use sdl_signal::RouteId;
+use sdl_structure_parts::Structure;
 
 /// The name of the gate at which a route starts. It is empty where there is no such route.
 pub fn start_name<'a>(structure: &'a Structure, routes: &Routes, route: RouteId) -> &'a str

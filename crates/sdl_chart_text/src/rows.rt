@@ -1,15 +1,15 @@
 //! The lines of a chart.
 ghost use Rattle.std.specs.Prelude.{◌+◌, ◌<◌, ◌≤◌, ◌^◌, OnOk, length, map};
 ghost use Rattle.std.specs.Io.KnownBytes.{Appends};
-ghost use Rattle.sdl_page.specs.Entries.{AreStored};
+ghost use Rattle.sdl_chart_page.specs.Entries.{AreStored};
 ghost use Rattle.sdl_chart_text.specs.Legends.{legend_of};
 ghost use Rattle.sdl_chart_text.specs.Rows.{receipt_text, output_text, text_at, row_text, line_text, gathered_from, chart_text};
 
 use crate::chart::Chart;
 use crate::environment::{write_output, write_receipt};
 use crate::events::write_event;
-use sdl_packed_log::Shows;
-use sdl_page::Row;
+use sdl_chart_page::Row;
+use sdl_instances_packed_log::Shows;
 use std::io::{Result, Write};
 
 /// Writes the text of a chart from the first of these rows on to before the last one: a line for each row of its page, with the row's

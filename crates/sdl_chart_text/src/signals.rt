@@ -1,12 +1,12 @@
 //! Pids, values and signals as a chart writes them. A mark stands between the set and the number of an instance.
 ghost use Rattle.std.specs.Prelude.{◌++◌, OnOk, codes, flat_map};
 ghost use Rattle.std.specs.Io.KnownBytes.{Appends};
-ghost use Rattle.sdl_file_commands.specs.Texts.{signal_text};
+ghost use Rattle.sdl_app_file_commands.specs.Texts.{signal_text};
 ghost use Rattle.sdl_chart_text.specs.Signals.{marked_pid_text, marked_value_text, next_value_text, marked_values_text, pid_text, signal_with_values};
 
-use sdl_file_commands::names::{set_name, signal_name};
-use sdl_parts::Structure;
+use sdl_app_file_commands::names::{set_name, signal_name};
 use sdl_signal::{Pid, Signal, SignalId, Value};
+use sdl_structure_parts::Structure;
 use std::io::{Result, Write};
 
 /// Writes a Pid with this mark.

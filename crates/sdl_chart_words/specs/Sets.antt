@@ -1,8 +1,8 @@
 -- Which sets the options of `chart` name. (This project's own.)
 use Rattle.std.specs.Prelude.{◌≡◌, ℕ, Bool, true, false, List, [], ◌∷◌, map, None, Some, codes, bytes_eq, ⊤}
 use Rattle.sdl_signal.specs.declared.ids.SetId.{SetId}
-use Rattle.sdl_parts.specs.Structure.{Structure}
-use Rattle.sdl_expression_text.specs.Meanings.{set_named}
+use Rattle.sdl_structure_parts.specs.Structure.{Structure}
+use Rattle.sdl_listing_expression_text.specs.Meanings.{set_named}
 use Rattle.sdl_chart_words.specs.declared.sets.NoSets.{NoSets}
 use Rattle.sdl_chart_words.specs.declared.sets.NoSets.TheVariants as none
 

@@ -1,6 +1,6 @@
 -- What the options of `chart` ask for. (This project's own.)
 use Rattle.std.specs.Prelude.{ℕ, ◌+◌, ◌-◌, ◌*◌, ◌==◌, ◌&&◌, ◌||◌, Bool, nat_lt, true, false, not, is_some, if◌then◌else◌, List, [], ◌∷◌, Option, Some, None, option_and_then, option_map, unwrap_or, codes, bytes_eq}
-use Rattle.sdl_command.specs.Arguments.{is_option}
+use Rattle.sdl_app_command.specs.Arguments.{is_option}
 use Rattle.sdl_chart_words.specs.declared.asked.ChartForm.{ChartForm}
 use Rattle.sdl_chart_words.specs.declared.asked.ChartForm.TheVariants as form
 use Rattle.sdl_chart_words.specs.declared.asked.Request.{Request}

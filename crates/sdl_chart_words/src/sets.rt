@@ -1,13 +1,13 @@
 //! The sets that the options of `chart` name.
 ghost use Rattle.std.specs.Prelude.{◌≡◌, [], ◌∷◌, ◌++◌, Some, map, IfErr, IfOk, IfSome, OnOk};
-ghost use Rattle.sdl_expression_text.specs.Meanings as meaning;
+ghost use Rattle.sdl_listing_expression_text.specs.Meanings as meaning;
 ghost use Rattle.sdl_chart_words.specs.Sets.{AreNamed, IsWhy, names_in};
 
 use crate::asked::Request;
-use sdl_command::errors::{without_memory, write_error};
-use sdl_expression_text::set_named;
-use sdl_parts::Structure;
+use sdl_app_command::errors::{without_memory, write_error};
+use sdl_listing_expression_text::set_named;
 use sdl_signal::SetId;
+use sdl_structure_parts::Structure;
 use std::alloc::Global;
 use std::io::Write;
 

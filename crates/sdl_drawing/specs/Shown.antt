@@ -4,13 +4,13 @@ use Rattle.std.specs.List.{range_with_len}
 use Rattle.sdl_signal.specs.declared.ids.GateId.{GateId}
 use Rattle.sdl_signal.specs.declared.ids.SignalId.{SignalId}
 use Rattle.sdl_signal.specs.declared.ids.ChannelId.{ChannelId}
-use Rattle.sdl_parts.specs.declared.parts.Owner.{Owner}
-use Rattle.sdl_parts.specs.declared.parts.Owner.TheVariants as owner
-use Rattle.sdl_parts.specs.declared.parts.Scope.{Scope}
-use Rattle.sdl_parts.specs.declared.parts.Scope.TheVariants as scope
-use Rattle.sdl_parts.specs.declared.parts.Direction.{Direction}
-use Rattle.sdl_parts.specs.declared.parts.Direction.TheVariants.{Forth, Back}
-use Rattle.sdl_parts.specs.Structure.{Structure, gate_at, block_at, set_at, channel_at, path_at}
+use Rattle.sdl_structure_parts.specs.declared.parts.Owner.{Owner}
+use Rattle.sdl_structure_parts.specs.declared.parts.Owner.TheVariants as owner
+use Rattle.sdl_structure_parts.specs.declared.parts.Scope.{Scope}
+use Rattle.sdl_structure_parts.specs.declared.parts.Scope.TheVariants as scope
+use Rattle.sdl_structure_parts.specs.declared.parts.Direction.{Direction}
+use Rattle.sdl_structure_parts.specs.declared.parts.Direction.TheVariants.{Forth, Back}
+use Rattle.sdl_structure_parts.specs.Structure.{Structure, gate_at, block_at, set_at, channel_at, path_at}
 use Rattle.sdl_drawing.specs.declared.shapes.Frame.{Frame}
 use Rattle.sdl_drawing.specs.declared.shapes.GateBox.{GateBox}
 use Rattle.sdl_drawing.specs.declared.shapes.ChannelLine.{ChannelLine}

@@ -1,9 +1,9 @@
 -- How the shapes of a block diagram stand. (This project's own, after the ladder rule.)
 use Rattle.std.specs.Prelude.{◌≡◌, ◌≢◌, ℕ, ◌<◌, ◌≤◌, min, max, Bool, List, slice_get, IsSomeAnd, IsTrue, ◌↔◌, All, ◌⊎◌}
-use Rattle.sdl_parts.specs.declared.parts.End.{End}
-use Rattle.sdl_parts.specs.declared.parts.Side.{Side}
-use Rattle.sdl_parts.specs.declared.parts.Side.TheVariants.{Outer, Inner}
-use Rattle.sdl_parts.specs.Structure.{Structure, channel_at}
+use Rattle.sdl_structure_parts.specs.declared.parts.End.{End}
+use Rattle.sdl_structure_parts.specs.declared.parts.Side.{Side}
+use Rattle.sdl_structure_parts.specs.declared.parts.Side.TheVariants.{Outer, Inner}
+use Rattle.sdl_structure_parts.specs.Structure.{Structure, channel_at}
 use Rattle.sdl_drawing.specs.declared.shapes.Rect.{Rect}
 use Rattle.sdl_drawing.specs.declared.shapes.Frame.{Frame}
 use Rattle.sdl_drawing.specs.declared.shapes.GateBox.{GateBox}

@@ -7,8 +7,8 @@ use crate::ladder::HALF_BOX;
 use crate::lines::gate_top;
 use crate::shapes::{ChannelLine, Frame, GateBox, Point, Rect};
 use crate::sizes::Measures;
-use sdl_parts::{Owner, Structure};
 use sdl_signal::GateId;
+use sdl_structure_parts::{Owner, Structure};
 use std::alloc::{AllocError, Global};
 
 /// From the top of a gate's room to the middle of its box, where no channel ends at the gate.

@@ -1,6 +1,6 @@
 //! How high the gates are. The ends of channels at one side of a gate stand one above the other, by the channels' numbers.
 use crate::texts::{first_list, second_list};
-use sdl_parts::{End, Owner, Side, Structure};
+use sdl_structure_parts::{End, Owner, Side, Structure};
 use std::alloc::{AllocError, Global};
 
 /// From the top of a gate to its first end: the gate's name, and one row of a list.

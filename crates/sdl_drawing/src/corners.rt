@@ -1,10 +1,10 @@
 //! Where frames stand.
 use crate::ladder::Ladder;
 use crate::shapes::Rect;
-use crate::sizes::{Measures, Size, TITLE_ROOM};
+use crate::sizes::{Measures, Size, TITLE_SPACE};
 use crate::texts::title_width;
-use sdl_parts::limits::MOST_DEPTH;
-use sdl_parts::{Owner, Scope, Set, Structure};
+use sdl_structure_parts::limits::MOST_DEPTH;
+use sdl_structure_parts::{Owner, Scope, Set, Structure};
 
 /// From the edge of the picture to the system's frame.
 pub(crate) const EDGE: usize = 14;
@@ -92,7 +92,7 @@ impl Measures {
         let above = self.agents_before(structure, around, set, block);
         Corner {
             left: Ladder::of(structure, around).width(),
-            top: above.height.saturating_add(TITLE_ROOM),
+            top: above.height.saturating_add(TITLE_SPACE),
         }
     }
 

@@ -11,7 +11,7 @@ use crate::rows::rows_of;
 use crate::shapes::Drawing;
 use crate::sizes::Measures;
 use crate::tidy::is_tidy;
-use sdl_parts::Structure;
+use sdl_structure_parts::Structure;
 use std::alloc::{AllocError, Global};
 use thiserror::Error;
 

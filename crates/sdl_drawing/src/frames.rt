@@ -4,8 +4,8 @@ ghost use Rattle.sdl_drawing.specs.Shown.{agents_shown, agents_of, block_agents,
 
 use crate::shapes::{Frame, Point, Rect};
 use crate::sizes::Measures;
-use sdl_parts::{Owner, Scope, Structure};
 use sdl_signal::{BlockId, SetId};
+use sdl_structure_parts::{Owner, Scope, Structure};
 use std::alloc::{AllocError, Global};
 
 /// The frames of the system, of the blocks and of the sets by number.

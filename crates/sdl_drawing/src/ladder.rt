@@ -1,7 +1,7 @@
 //! The ladder of a frame: the upright tracks of its channels, between the frame's border and its agents, and the room beside
 //! them for lists. Each channel that lies in the frame has a track of its own.
 use crate::texts::{TEXT_GAP, first_list, second_list, text_gap};
-use sdl_parts::{Channel, End, Scope, Structure};
+use sdl_structure_parts::{Channel, End, Scope, Structure};
 
 /// From one track to the next.
 const TRACK: usize = 18;

@@ -5,10 +5,10 @@ ghost use Rattle.sdl_drawing.specs.Shown.{channels_shown, channels_of};
 use crate::frames::rect_of;
 use crate::ladder::{HALF_BOX, Ladder};
 use crate::shapes::{ChannelLine, Frame, Head, Meeting, Point};
-use crate::sizes::{Measures, SET_TITLE_ROOM, TITLE_ROOM, owner_of};
+use crate::sizes::{Measures, SET_TITLE_SPACE, TITLE_SPACE, owner_of};
 use crate::texts::text_gap;
-use sdl_parts::{Channel, End, Gate, Owner, Scope, Side, Structure};
 use sdl_signal::ChannelId;
+use sdl_structure_parts::{Channel, End, Gate, Owner, Scope, Side, Structure};
 use std::alloc::{AllocError, Global};
 
 /// The lines of the channels by number.
@@ -177,8 +177,8 @@ pub(crate) fn gate_top(
     gate: &Gate,
 ) -> usize {
     let head = match gate.owner {
-        Owner::Set(_) => SET_TITLE_ROOM,
-        Owner::System | Owner::Block(_) => TITLE_ROOM,
+        Owner::Set(_) => SET_TITLE_SPACE,
+        Owner::System | Owner::Block(_) => TITLE_SPACE,
     };
     let before = measures.heights.gates_before(structure, gate.owner, number);
     rect_of(frames, gate.owner)

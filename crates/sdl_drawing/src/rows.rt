@@ -5,8 +5,8 @@ ghost use Rattle.sdl_drawing.specs.Shown.{signals_shown, listed_signals, path_si
 use crate::columns::ROW;
 use crate::shapes::{ChannelLine, ListRow, Meeting};
 use crate::texts::{ROW_LETTERS, list_size, row_end};
-use sdl_parts::{Direction, Structure};
 use sdl_signal::{ChannelId, SignalId};
+use sdl_structure_parts::{Direction, Structure};
 use std::alloc::{AllocError, Global};
 
 /// From the lowest row of a list down to the line.

@@ -1,6 +1,6 @@
 //! The shapes of a block diagram. Lengths are in pixels, from the left upper corner of the picture.
-use sdl_parts::{Direction, Owner};
 use sdl_signal::{ChannelId, GateId};
+use sdl_structure_parts::{Direction, Owner};
 
 /// A rectangle with upright sides.
 #[derive(Clone, Copy)]

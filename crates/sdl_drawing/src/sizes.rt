@@ -5,16 +5,16 @@ ghost use Rattle.sdl_drawing.specs.Shown.{scope_agent};
 use crate::columns::Heights;
 use crate::ladder::Ladder;
 use crate::texts::{digits, name_width, title_width};
-use sdl_parts::limits::MOST_DEPTH;
-use sdl_parts::{Owner, Scope, Set, Structure};
 use sdl_signal::{BlockId, SetId};
+use sdl_structure_parts::limits::MOST_DEPTH;
+use sdl_structure_parts::{Owner, Scope, Set, Structure};
 use std::alloc::{AllocError, Global};
 
 /// From the top of a system's or a block's frame to what is in it.
-pub(crate) const TITLE_ROOM: usize = 28;
+pub(crate) const TITLE_SPACE: usize = 28;
 
 /// From the top of a set's frame to its gates.
-pub(crate) const SET_TITLE_ROOM: usize = 20;
+pub(crate) const SET_TITLE_SPACE: usize = 20;
 
 /// From the last agent or gate to the foot of a frame.
 const FOOT: usize = 16;
@@ -103,7 +103,7 @@ impl Measures {
             .saturating_add(RIM);
         Size {
             width: wide.max(title_width(title).saturating_add(BESIDE)),
-            height: inside.saturating_add(TITLE_ROOM + FOOT),
+            height: inside.saturating_add(TITLE_SPACE + FOOT),
         }
     }
 
@@ -175,7 +175,7 @@ fn set_sizes(
         let texts = set_title_width(set).max(names_width(structure, agent));
         sizes.push(Size {
             width: texts.saturating_add(BESIDE).max(LEAST_SET),
-            height: gates.saturating_add(SET_TITLE_ROOM + SET_FOOT),
+            height: gates.saturating_add(SET_TITLE_SPACE + SET_FOOT),
         })?;
     }
     Ok(sizes)

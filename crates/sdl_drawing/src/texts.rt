@@ -1,8 +1,8 @@
 //! How wide texts are, and how a list of signals is cut into rows. (Widths are those of a common sans-serif letter, on average.)
 ghost use Rattle.std.specs.Prelude.{◌≤◌, ◌<◌, length};
 
-use sdl_parts::{Channel, End, Side, Structure};
 use sdl_signal::SignalId;
+use sdl_structure_parts::{Channel, End, Side, Structure};
 
 /// The most characters of a row, unless one signal alone has more.
 pub(crate) const ROW_LETTERS: usize = 30;

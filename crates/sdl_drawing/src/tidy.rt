@@ -5,8 +5,8 @@ ghost use Rattle.sdl_drawing.specs.Tidy.{IsInside, AreBeside, StandsIn, IsBeside
 
 use crate::shapes::{ChannelLine, Drawing, Frame, GateBox, Meeting, Rect};
 use crate::sizes::owner_of;
-use sdl_parts::{End, Owner, Side, Structure};
 use sdl_signal::ChannelId;
+use sdl_structure_parts::{End, Owner, Side, Structure};
 
 /// Whether all shapes stand as they have to.
 pub(crate) fn is_tidy(structure: &Structure, drawing: &Drawing) -> bool

@@ -1,8 +1,8 @@
 -- Blocks in blocks, level by level.
 use Rattle.std.proofs.Common.{◌≡◌, ℕ, zero, suc, ◌-◌, ◌<◌, flat_map, List, [], refl, ap, arith}
 use Rattle.std.specs.List.{enumerate_from}
-use Rattle.sdl_parts.specs.declared.parts.Owner.{Owner}
-use Rattle.sdl_parts.specs.Structure.{Structure}
+use Rattle.sdl_structure_parts.specs.declared.parts.Owner.{Owner}
+use Rattle.sdl_structure_parts.specs.Structure.{Structure}
 use Rattle.sdl_drawing_text.specs.Dot.{block_line, blocks_dot}
 
 pub blocks_none : (levels : ℕ) (s : Structure) (around : Owner) → levels ≡ 0 → blocks_dot levels s around ≡ []

@@ -3,8 +3,8 @@ use Rattle.std.proofs.Common.{◌≡◌, ℕ, ◌<◌, ◌≤◌, ◌⊎◌, ⊎
 use Rattle.std.specs.Io.KnownBytes.{Appends, Keeps}
 use Rattle.std.proofs.KnownBytes.{Appends-nil, Appends-trans, Appends-kept}
 use Rattle.sdl_signal.specs.declared.ids.SignalId.{SignalId}
-use Rattle.sdl_parts.specs.declared.parts.Channel.{Channel}
-use Rattle.sdl_parts.specs.Structure.{Structure}
+use Rattle.sdl_structure_parts.specs.declared.parts.Channel.{Channel}
+use Rattle.sdl_structure_parts.specs.Structure.{Structure}
 use Rattle.sdl_drawing_text.specs.Written.{Adds}
 use Rattle.sdl_drawing_text.specs.Dot.{forth_front, back_front, next_front, row_dot, rows_dot, AreCuts, IsListFrom, edge_front, edge_arrows, IsEdge, AreEdges, dot_front, system_dot, IsDot}
 

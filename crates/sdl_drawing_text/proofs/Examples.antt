@@ -1,6 +1,6 @@
 -- Worked rows: rows of a list, arrow heads, and agents.
 use Rattle.std.proofs.Common.{◌≡◌, ◌<◌, true, false, [], ◌∷◌, refl, lit<, codes, arith}
-use Rattle.sdl_parts.specs.declared.parts.Owner.TheVariants as owner
+use Rattle.sdl_structure_parts.specs.declared.parts.Owner.TheVariants as owner
 use Rattle.sdl_drawing_text.specs.Dot.{same_agent, AreCuts, arrow_name}
 
 -- three signals in two rows; a row has a signal, and the last row ends with the list

@@ -2,9 +2,9 @@
 use Rattle.std.proofs.Common.{◌≡◌, ℕ, ◌⊎◌, ⊎_elim, inl, inr, List, Option, Result, Ok, Err, OnOk, IsErr, refl, subst}
 use Rattle.std.specs.Io.KnownBytes.{Appends, Keeps}
 use Rattle.std.proofs.KnownBytes.{Appends-kept}
-use Rattle.sdl_file_commands.specs.Commands.{HasPrinted}
-use Rattle.sdl_parts.specs.Structure.{Structure}
-use Rattle.sdl_file_commands.specs.Files.{Declares}
+use Rattle.sdl_app_file_commands.specs.Commands.{HasPrinted}
+use Rattle.sdl_structure_parts.specs.Structure.{Structure}
+use Rattle.sdl_app_file_commands.specs.Files.{Declares}
 use Rattle.sdl_drawing_text.specs.declared.commands.Form.{Form}
 use Rattle.sdl_drawing_text.specs.Commands.{HasShown, IsShown}
 

@@ -2,12 +2,12 @@
 use Rattle.std.specs.Prelude.{ℕ, List, [], ◌++◌, ◌==◌, if◌then◌else◌, length, flat_map, codes}
 use Rattle.sdl_signal.specs.declared.ids.ChannelId.{ChannelId}
 use Rattle.sdl_signal.specs.declared.ids.SignalId.{SignalId}
-use Rattle.sdl_parts.specs.declared.parts.Side.{Side}
-use Rattle.sdl_parts.specs.declared.parts.Side.TheVariants.{Outer, Inner}
-use Rattle.sdl_parts.specs.declared.parts.Direction.{Direction}
-use Rattle.sdl_parts.specs.declared.parts.Direction.TheVariants.{Forth, Back}
-use Rattle.sdl_parts.specs.Structure.{Structure}
-use Rattle.sdl_file_commands.specs.Texts.{channel_text}
+use Rattle.sdl_structure_parts.specs.declared.parts.Side.{Side}
+use Rattle.sdl_structure_parts.specs.declared.parts.Side.TheVariants.{Outer, Inner}
+use Rattle.sdl_structure_parts.specs.declared.parts.Direction.{Direction}
+use Rattle.sdl_structure_parts.specs.declared.parts.Direction.TheVariants.{Forth, Back}
+use Rattle.sdl_structure_parts.specs.Structure.{Structure}
+use Rattle.sdl_app_file_commands.specs.Texts.{channel_text}
 use Rattle.sdl_drawing.specs.declared.shapes.ChannelLine.{ChannelLine}
 use Rattle.sdl_drawing.specs.declared.shapes.Head.{Head}
 use Rattle.sdl_drawing.specs.Shown.{path_signals}

@@ -1,8 +1,8 @@
 -- What the command `structure` comes to. (This project's own.)
 use Rattle.std.specs.Prelude.{◌≡◌, ℕ, List, Option, ◌⊎◌}
-use Rattle.sdl_parts.specs.Structure.{Structure}
-use Rattle.sdl_file_commands.specs.Commands.{HasPrinted}
-use Rattle.sdl_file_commands.specs.Files.{Declares}
+use Rattle.sdl_structure_parts.specs.Structure.{Structure}
+use Rattle.sdl_app_file_commands.specs.Commands.{HasPrinted}
+use Rattle.sdl_app_file_commands.specs.Files.{Declares}
 use Rattle.sdl_drawing.specs.declared.shapes.Drawing.{Drawing}
 use Rattle.sdl_drawing.specs.Shown.{ShowsAll}
 use Rattle.sdl_drawing.specs.Tidy.{IsTidy}

@@ -1,6 +1,6 @@
 -- What several elements of an SVG have, and the words that both forms have of a set. (This project's own.)
 use Rattle.std.specs.Prelude.{ℕ, ◌-◌, List, ◌++◌, codes, decimal}
-use Rattle.sdl_parts.specs.declared.parts.Set.{Set}
+use Rattle.sdl_structure_parts.specs.declared.parts.Set.{Set}
 use Rattle.sdl_drawing.specs.declared.shapes.Rect.{Rect}
 use Rattle.sdl_svg.specs.Elements.{place_text, size_text}
 

@@ -1,10 +1,10 @@
 -- The texts of frames and of their titles. (This project's own.)
 use Rattle.std.specs.Prelude.{ℕ, List, [], ◌++◌, option_map, unwrap_or, flat_map, codes}
 use Rattle.sdl_signal.specs.declared.ids.SetId.{SetId}
-use Rattle.sdl_parts.specs.declared.parts.Owner.{Owner}
-use Rattle.sdl_parts.specs.declared.parts.Owner.TheVariants as owner
-use Rattle.sdl_parts.specs.Structure.{Structure, set_at}
-use Rattle.sdl_file_commands.specs.Texts.{owner_text, block_text}
+use Rattle.sdl_structure_parts.specs.declared.parts.Owner.{Owner}
+use Rattle.sdl_structure_parts.specs.declared.parts.Owner.TheVariants as owner
+use Rattle.sdl_structure_parts.specs.Structure.{Structure, set_at}
+use Rattle.sdl_app_file_commands.specs.Texts.{owner_text, block_text}
 use Rattle.sdl_drawing.specs.declared.shapes.Frame.{Frame}
 use Rattle.sdl_svg.specs.Elements.{attribute_text, text_front}
 use Rattle.sdl_drawing_text.specs.Elements.{rect_text, set_words}

@@ -1,10 +1,10 @@
 -- The texts of the boxes of gates, and of the gates' names. (This project's own.)
 use Rattle.std.specs.Prelude.{ℕ, List, ◌++◌, option_map, unwrap_or, flat_map, codes}
 use Rattle.sdl_signal.specs.declared.ids.GateId.{GateId}
-use Rattle.sdl_parts.specs.declared.parts.Owner.{Owner}
-use Rattle.sdl_parts.specs.declared.parts.Owner.TheVariants as owner
-use Rattle.sdl_parts.specs.Structure.{Structure, gate_at}
-use Rattle.sdl_file_commands.specs.Texts.{agent_text, gate_text}
+use Rattle.sdl_structure_parts.specs.declared.parts.Owner.{Owner}
+use Rattle.sdl_structure_parts.specs.declared.parts.Owner.TheVariants as owner
+use Rattle.sdl_structure_parts.specs.Structure.{Structure, gate_at}
+use Rattle.sdl_app_file_commands.specs.Texts.{agent_text, gate_text}
 use Rattle.sdl_drawing.specs.declared.shapes.GateBox.{GateBox}
 use Rattle.sdl_svg.specs.Elements.{label_text}
 use Rattle.sdl_drawing_text.specs.Elements.{rect_text}

@@ -2,10 +2,10 @@
 use Rattle.std.specs.Prelude.{ℕ, ◌+◌, ◌-◌, List, [], ◌++◌, ◌==◌, if◌then◌else◌, length, option_map, unwrap_or, slice_get, flat_map, codes}
 use Rattle.std.specs.List.{range_with_len}
 use Rattle.sdl_signal.specs.declared.ids.SignalId.{SignalId}
-use Rattle.sdl_parts.specs.declared.parts.Side.{Side}
-use Rattle.sdl_parts.specs.declared.parts.Side.TheVariants.{Outer, Inner}
-use Rattle.sdl_parts.specs.Structure.{Structure}
-use Rattle.sdl_file_commands.specs.Texts.{signal_text}
+use Rattle.sdl_structure_parts.specs.declared.parts.Side.{Side}
+use Rattle.sdl_structure_parts.specs.declared.parts.Side.TheVariants.{Outer, Inner}
+use Rattle.sdl_structure_parts.specs.Structure.{Structure}
+use Rattle.sdl_app_file_commands.specs.Texts.{signal_text}
 use Rattle.sdl_drawing.specs.declared.shapes.ListRow.{ListRow}
 use Rattle.sdl_drawing.specs.Shown.{path_signals}
 use Rattle.sdl_svg.specs.Elements.{text_front}

@@ -1,6 +1,6 @@
 -- The text of a drawing as SVG: the texts of its shapes, one after the other. (This project's own.)
 use Rattle.std.specs.Prelude.{ℕ, List, ◌++◌, codes}
-use Rattle.sdl_parts.specs.Structure.{Structure}
+use Rattle.sdl_structure_parts.specs.Structure.{Structure}
 use Rattle.sdl_drawing.specs.declared.shapes.Drawing.{Drawing}
 use Rattle.sdl_svg.specs.Front.{svg_front}
 use Rattle.sdl_drawing_text.specs.Frames.{frames_text, titles_text}

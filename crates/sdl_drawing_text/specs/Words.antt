@@ -1,6 +1,6 @@
 -- What the words after `structure` ask for. (This project's own.)
 use Rattle.std.specs.Prelude.{ℕ, if◌then◌else◌, List, [], ◌∷◌, Option, Some, None, codes, bytes_eq}
-use Rattle.sdl_command.specs.Arguments.{is_option}
+use Rattle.sdl_app_command.specs.Arguments.{is_option}
 use Rattle.sdl_drawing_text.specs.declared.commands.Form.{Form}
 use Rattle.sdl_drawing_text.specs.declared.commands.Form.TheVariants as form
 

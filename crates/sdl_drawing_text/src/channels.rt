@@ -4,10 +4,10 @@ ghost use Rattle.std.specs.Io.KnownBytes.{Appends};
 ghost use Rattle.sdl_drawing_text.specs.Channels.{line_name, corners_text, polyline_text, line_text, lines_text, head_text, head_front, head_points, polygon_text, direction_sign, name_style, channel_name_text, channel_names_text};
 
 use crate::elements::side_of;
+use sdl_app_file_commands::names::channel_name;
 use sdl_drawing::{ChannelLine, Drawing, Head, signals_of};
-use sdl_file_commands::names::channel_name;
-use sdl_parts::{Direction, Side, Structure};
 use sdl_signal::ChannelId;
+use sdl_structure_parts::{Direction, Side, Structure};
 use sdl_svg::{write_attribute, write_corner, write_label, write_text};
 use std::io::{Result, Write};
 

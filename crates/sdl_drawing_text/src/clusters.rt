@@ -5,9 +5,9 @@ ghost use Rattle.sdl_drawing.specs.Shown.{scope_agent};
 ghost use Rattle.sdl_drawing_text.specs.Dot.{cluster_end, same_agent, node_front, gate_node, gate_line, gates_dot, cluster_front, set_front, set_dot, set_line, sets_dot, block_label, block_front, block_dot, block_line, blocks_dot, system_front, system_dot};
 
 use crate::elements::write_set_words;
-use sdl_parts::limits::MOST_DEPTH;
-use sdl_parts::{Block, Gate, Owner, Scope, Set, Structure};
 use sdl_signal::{BlockId, SetId};
+use sdl_structure_parts::limits::MOST_DEPTH;
+use sdl_structure_parts::{Block, Gate, Owner, Scope, Set, Structure};
 use sdl_svg::write_text;
 use std::io::{Result, Write};
 

@@ -5,14 +5,14 @@ ghost use Rattle.sdl_drawing_text.specs.Commands.{HasDrawn, HasPrintedDot, HasSh
 
 use crate::dot::write_dot;
 use crate::svg::write_svg;
-use sdl_command::errors::write_error;
-use sdl_command::status::REFUSED;
+use sdl_app_command::errors::write_error;
+use sdl_app_command::status::REFUSED;
+use sdl_app_file_commands::commands::{checked_file, written};
+use sdl_app_file_commands::files::{FileRead, read_file};
 use sdl_drawing::draw;
 use sdl_explaining::explain;
-use sdl_file_commands::commands::{checked_file, written};
-use sdl_file_commands::files::{FileRead, read_file};
-use sdl_parts::Structure;
 use sdl_structure::FileFault;
+use sdl_structure_parts::Structure;
 use std::alloc::Global;
 use std::io::Write;
 use std::rt::Files;

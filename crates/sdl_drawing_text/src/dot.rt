@@ -7,7 +7,7 @@ ghost use Rattle.sdl_drawing_text.specs.Dot.{IsDot, dot_head, dot_front, look_te
 
 use crate::clusters::write_system;
 use crate::edges::write_edges;
-use sdl_parts::Structure;
+use sdl_structure_parts::Structure;
 use sdl_svg::write_text;
 use std::io::{Result, Write};
 

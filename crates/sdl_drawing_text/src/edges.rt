@@ -6,8 +6,8 @@ ghost use Rattle.sdl_drawing_text.specs.Dot.{row_dot, IsListFrom, edge_ends, edg
 
 use crate::lists::write_items;
 use sdl_drawing::texts::row_end;
-use sdl_parts::{Channel, Direction, Structure};
 use sdl_signal::SignalId;
+use sdl_structure_parts::{Channel, Direction, Structure};
 use sdl_svg::write_text;
 use std::io::{Result, Write};
 

@@ -6,8 +6,8 @@ ghost use Rattle.sdl_drawing_text.specs.Elements.{rect_text, counts_text, set_wo
 ghost use Rattle.sdl_drawing_text.specs.Paths.{finish_side};
 
 use sdl_drawing::Rect;
-use sdl_parts::{Direction, Set, Side, Structure};
 use sdl_signal::ChannelId;
+use sdl_structure_parts::{Direction, Set, Side, Structure};
 use sdl_svg::{write_place, write_size, write_text};
 use std::io::{Result, Write};
 

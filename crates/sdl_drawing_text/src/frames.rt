@@ -1,15 +1,15 @@
 //! The frames of agents, and their titles.
 ghost use Rattle.std.specs.Prelude.{◌≡◌, ◌++◌, OnOk, codes, flat_map};
 ghost use Rattle.std.specs.Io.KnownBytes.{Appends};
-ghost use Rattle.sdl_file_commands.specs.Texts.{owner_text};
+ghost use Rattle.sdl_app_file_commands.specs.Texts.{owner_text};
 ghost use Rattle.sdl_drawing_text.specs.Frames.{frame_front, agent_text, frame_end, frame_text, frames_text, scope_words, set_title, title_words, title_style, title_text, titles_text};
 ghost use Rattle.sdl_svg.specs.Elements.{text_front};
 
 use crate::elements::{write_rect, write_set_words};
+use sdl_app_file_commands::names::{block_name, set_name};
 use sdl_drawing::{Drawing, Frame, Point};
-use sdl_file_commands::names::{block_name, set_name};
-use sdl_parts::{Owner, Structure};
 use sdl_signal::SetId;
+use sdl_structure_parts::{Owner, Structure};
 use sdl_svg::{close_text, open_text, write_attribute, write_text};
 use std::io::{Result, Write};
 

@@ -4,10 +4,10 @@ ghost use Rattle.std.specs.Io.KnownBytes.{Appends};
 ghost use Rattle.sdl_drawing_text.specs.Gates.{box_front, box_text, boxes_text, gate_name_style, gate_name_text, gate_names_text, gate_owner};
 
 use crate::elements::write_rect;
+use sdl_app_file_commands::names::{agent_name, gate_name};
 use sdl_drawing::{Drawing, GateBox};
-use sdl_file_commands::names::{agent_name, gate_name};
-use sdl_parts::{Owner, Structure};
 use sdl_signal::GateId;
+use sdl_structure_parts::{Owner, Structure};
 use sdl_svg::{write_label, write_text};
 use std::io::{Result, Write};
 

@@ -7,10 +7,10 @@ ghost use Rattle.sdl_drawing_text.specs.Paths.{finish_side};
 ghost use Rattle.sdl_drawing_text.specs.Lists.{item_name, item_text, items_text, before_item, behind_item, list_style, row_text, rows_text};
 
 use crate::elements::side_of;
+use sdl_app_file_commands::names::signal_name;
 use sdl_drawing::{Drawing, ListRow, signals_of};
-use sdl_file_commands::names::signal_name;
-use sdl_parts::{Side, Structure};
 use sdl_signal::SignalId;
+use sdl_structure_parts::{Side, Structure};
 use sdl_svg::{close_text, open_text};
 use std::io::{Result, Write};
 

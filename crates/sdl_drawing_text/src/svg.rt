@@ -8,7 +8,7 @@ use crate::frames::{write_frames, write_titles};
 use crate::gates::{write_boxes, write_gate_names};
 use crate::lists::write_rows;
 use sdl_drawing::Drawing;
-use sdl_parts::Structure;
+use sdl_structure_parts::Structure;
 use sdl_svg::{write_front, write_text};
 use std::io::{Result, Write};
 

@@ -1,6 +1,6 @@
 //! Where a structure that its file declares is not well formed.
-use crate::spots::{Mark, line_at};
-use sdl_file_commands::names::{
+use crate::spots::{WrittenAt, line_at};
+use sdl_app_file_commands::names::{
     agent_name, block_name, channel_name, gate_name, set_name, signal_name,
 };
 use sdl_signal::{ChannelId, GateId, SetId, SignalId};
@@ -50,7 +50,7 @@ impl<'a> Display for Defect<'a> {
 #[derive(Clone, Copy)]
 pub(crate) struct Checker<'a> {
     pub file: &'a [u8],
-    pub marks: &'a [Mark<'a>],
+    pub marks: &'a [WrittenAt<'a>],
     pub structure: &'a Structure,
 }
 

@@ -1,14 +1,14 @@
 //! Where a file breaks one of the rules of structure files.
 use crate::keys::{Takes, key_named, keys_of};
 use crate::names::{ends_of, share_names, signal_names};
-use crate::spots::{Head, Mark, line_at};
+use crate::spots::{Head, WrittenAt, line_at};
 use crate::texts::{Site, Why};
-use sdl_parts::limits::{
+use sdl_explaining_places::{Said, nearest_of};
+use sdl_structure::{FileFault, Key, Part, Place};
+use sdl_structure_parts::limits::{
     MOST_BLOCKS, MOST_BLOCKS_OF_VERSION_1, MOST_BUDGET, MOST_CHANNELS, MOST_DEPTH, MOST_GATES,
     MOST_INSTANCES, MOST_PARAMETERS, MOST_SETS, MOST_SIGNALS,
 };
-use sdl_places::{Said, nearest_of};
-use sdl_structure::{FileFault, Key, Part, Place};
 use std::alloc::{AllocError, Global};
 
 /// How many wrong keys of a table are compared with one that it lacks.
@@ -27,14 +27,14 @@ pub(crate) struct Finder<'a> {
     pub alloc: Global,
     pub file: &'a [u8],
     pub heads: &'a [Head],
-    pub marks: &'a [Mark<'a>],
+    pub marks: &'a [WrittenAt<'a>],
     pub right: &'a [String],
 }
 
 /// The names that are right at the place of a fault; where a key is missing, the keys that its table has and may not have.
 pub(crate) fn right_names(
     alloc: Global,
-    marks: &[Mark],
+    marks: &[WrittenAt],
     fault: FileFault,
 ) -> Result<Vec<String>, AllocError> {
     match fault {
@@ -59,7 +59,7 @@ fn are_together(one: Place, other: Place) -> bool {
 }
 
 /// Whether blocks may have blocks in them.
-fn nests(marks: &[Mark]) -> bool {
+fn nests(marks: &[WrittenAt]) -> bool {
     for mark in marks {
         let place = mark.place();
         if place.part == Part::System
@@ -73,7 +73,7 @@ fn nests(marks: &[Mark]) -> bool {
 }
 
 /// The keys of the table at a place that it may not have.
-fn wrong_keys(alloc: Global, marks: &[Mark], place: Place) -> Result<Vec<String>, AllocError> {
+fn wrong_keys(alloc: Global, marks: &[WrittenAt], place: Place) -> Result<Vec<String>, AllocError> {
     let may = keys_of(place.part, nests(marks));
     let mut texts = Vec::new(alloc);
     for mark in marks {

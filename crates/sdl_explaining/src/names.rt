@@ -1,10 +1,10 @@
 //! The names that a structure file gives, by the places where it gives them.
-use crate::spots::Mark;
+use crate::spots::WrittenAt;
 use sdl_structure::{Key, Part, Place};
 use std::alloc::{AllocError, Global};
 
 /// The names of all signals.
-pub(crate) fn signal_names(alloc: Global, marks: &[Mark]) -> Result<Vec<String>, AllocError> {
+pub(crate) fn signal_names(alloc: Global, marks: &[WrittenAt]) -> Result<Vec<String>, AllocError> {
     let mut names = Vec::new(alloc);
     for mark in marks {
         let place = mark.place();
@@ -20,7 +20,7 @@ pub(crate) fn signal_names(alloc: Global, marks: &[Mark]) -> Result<Vec<String>,
 
 /// Whether an agent whose name stands at the mark may be named by a channel there: a set of the block in which the channel lies, or
 /// a block directly in it.
-fn is_named_in(channel: Place, mark: &Mark) -> bool {
+fn is_named_in(channel: Place, mark: &WrittenAt) -> bool {
     let place = mark.place();
     match (channel.part, place.part) {
         (Part::Channel, Part::Block) => mark.spot.around.is_none(),
@@ -51,7 +51,7 @@ fn is_gate_of_env(channel: Place, gate: Place) -> bool {
 /// The ends that a channel at this place may have, as the file writes them.
 pub(crate) fn ends_of(
     alloc: Global,
-    marks: &[Mark],
+    marks: &[WrittenAt],
     channel: Place,
 ) -> Result<Vec<String>, AllocError> {
     let mut ends = Vec::new(alloc);
@@ -75,7 +75,7 @@ pub(crate) fn ends_of(
 fn add_ends(
     alloc: Global,
     ends: &mut Vec<String>,
-    marks: &[Mark],
+    marks: &[WrittenAt],
     name: &str,
     agent: Place,
 ) -> Result<(), AllocError> {
@@ -92,7 +92,7 @@ fn add_end(
     alloc: Global,
     ends: &mut Vec<String>,
     agent: &str,
-    gate: &Mark,
+    gate: &WrittenAt,
 ) -> Result<(), AllocError> {
     if let Some(name) = gate.value() {
         let mut end = String::from_str(alloc, agent)?;

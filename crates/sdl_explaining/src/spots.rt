@@ -1,8 +1,8 @@
 //! Where the tables of a structure file lie, and what is written in them.
 use crate::keys::key_named;
-use sdl_places::{Layout, Said, Table};
+use sdl_explaining_places::{Layout, Said, Table};
+use sdl_listing_tokens::position_of;
 use sdl_structure::{Key, Part, Place};
-use sdl_tokens::position_of;
 use std::alloc::{AllocError, Global};
 
 /// A place of the file; how deep in blocks its table lies; and, of a block, the number of the block in which it lies.
@@ -137,13 +137,13 @@ pub(crate) struct Head {
 
 /// What is written at a place, behind so many bytes of the file.
 #[derive(Clone, Copy)]
-pub(crate) struct Mark<'a> {
+pub(crate) struct WrittenAt<'a> {
     pub spot: Spot,
     pub said: &'a Said,
     pub at: usize,
 }
 
-impl<'a> Mark<'a> {
+impl<'a> WrittenAt<'a> {
     pub(crate) fn place(&self) -> Place {
         self.spot.place
     }
@@ -186,13 +186,13 @@ pub(crate) fn marks_of<'a>(
     alloc: Global,
     layout: &'a Layout,
     spots: &[Option<Spot>],
-) -> Result<Vec<Mark<'a>>, AllocError> {
+) -> Result<Vec<WrittenAt<'a>>, AllocError> {
     let mut marks = Vec::new(alloc);
     for mark in layout.marks.as_slice() {
         if let Some(table) = spot_at(spots, mark.table) {
             let spot = table.at(key_named(layout.key_text(mark.key)));
             let (said, at) = (&mark.said, mark.at);
-            marks.push(Mark { spot, said, at })?;
+            marks.push(WrittenAt { spot, said, at })?;
         }
     }
     Ok(marks)

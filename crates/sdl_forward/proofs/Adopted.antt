@@ -10,7 +10,7 @@ use Rattle.sdl_queue.specs.declared.rest.Rest.TheVariants.{Serial, Ruled, Ring}
 use Rattle.sdl_queue.specs.Rest.{left_in}
 use Rattle.sdl_forward.specs.Boards.{stations_of, lists_of}
 use Rattle.sdl_forward.specs.Serials.{AreSerial, IsFirstRuled, IsApart}
-use Rattle.sdl_ends.proofs.Places.{stations_get}
+use Rattle.sdl_forward_ends.proofs.Places.{stations_get}
 use Rattle.sdl_forward.proofs.Entries.{get_here, get_other, set_same, stations-lists, lists_get, lists_set, contained_at}
 
 -- an element put at the place at which one was removed

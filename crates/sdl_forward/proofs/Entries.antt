@@ -6,7 +6,7 @@ use Rattle.std.proofs.lemmas.Option.{same_Some, get_or_from_slice_get, slice_get
 use Rattle.sdl_signal.specs.declared.values.Item.{Item}
 use Rattle.sdl_routes.specs.declared.route.Station.{Station}
 use Rattle.sdl_routes.specs.Routes.{EachOnce}
-use Rattle.sdl_ends.proofs.Places.{one_at, stations_get}
+use Rattle.sdl_forward_ends.proofs.Places.{one_at, stations_get}
 use Rattle.sdl_queue.specs.declared.rest.Rest.{Rest}
 use Rattle.sdl_queue.specs.declared.rest.Rest.TheVariants.{Serial, Ruled, Ring}
 use Rattle.sdl_queue.specs.Ends.{Account}

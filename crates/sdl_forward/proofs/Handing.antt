@@ -11,14 +11,14 @@ use Rattle.sdl_routes.specs.declared.route.TableRow.{TableRow}
 use Rattle.sdl_routes.specs.declared.route.Station.{Station}
 use Rattle.sdl_routes.specs.declared.route.Station.TheVariants.{Line}
 use Rattle.sdl_queue.specs.Ends.{Opening, FeedEnd}
-use Rattle.sdl_ends.specs.Ends.{WorkerEnds, IsSameEnds, feed_at, feed_mark, put_at, taken_by}
-use Rattle.sdl_ends.proofs.Same.{same_station_itself, other_station, cases_station}
+use Rattle.sdl_forward_ends.specs.Ends.{WorkerEnds, IsSameEnds, feed_at, feed_identity, put_at, taken_by}
+use Rattle.sdl_forward_ends.proofs.Same.{same_station_itself, other_station, cases_station}
 use Rattle.sdl_forward.specs.declared.forwarder.Forwarded.{Forwarded}
 use Rattle.sdl_forward.specs.declared.forwarder.Forwarded.TheVariants.{Moved, Idle, Held}
 use Rattle.sdl_forward.specs.Boards.{same_station}
 use Rattle.sdl_forward.specs.Forwards.{Forwarding, next_station}
 use Rattle.sdl_forward.specs.Carries.{Carries, HasWaysOn, Takes, PutsNext, Keeps, Waits}
-use Rattle.sdl_ends.specs.Stations.{is_station}
+use Rattle.sdl_forward_ends.specs.Stations.{is_station}
 use Rattle.sdl_forward.specs.HandsOn.{AreFresh, going_to, GoesOn, IsHandingOn, HasHandedOn}
 
 abbrev station_in : Station → List (Station × (Opening × ℕ)) → Station
@@ -30,7 +30,7 @@ rest_in [] = []
 rest_in (m ∷ ms) = ms
 
 -- feeds of the same marks are at the same stations
-feed_marked : (fs gs : List (Station × FeedEnd)) → map feed_mark gs ≡ map feed_mark fs → (s : Station) (f : FeedEnd) → feed_at fs s ≡ Some f → (g : FeedEnd) × (feed_at gs s ≡ Some g)
+feed_marked : (fs gs : List (Station × FeedEnd)) → map feed_identity gs ≡ map feed_identity fs → (s : Station) (f : FeedEnd) → feed_at fs s ≡ Some f → (g : FeedEnd) × (feed_at gs s ≡ Some g)
 feed_marked [] gs e s f at = absurd (none-some f at)
 feed_marked (x ∷ fs) [] e s f at = absurd (let a = ap length e in omega (arith, a))
 feed_marked (x ∷ fs) (y ∷ gs) e s f at =

@@ -14,7 +14,7 @@ use Rattle.sdl_queue.specs.declared.rest.Rest.{Rest}
 use Rattle.sdl_queue.specs.Rest.{left_in}
 use Rattle.std.proofs.lemmas.Option.{same_Some}
 use Rattle.sdl_forward.specs.Boards.{same_station, waiting, lists_of, ChangesOnly}
-use Rattle.sdl_forward.specs.Busy.{IsClear, MarksAll}
+use Rattle.sdl_forward.specs.Busy.{IsClear, ShowsAllBusy}
 use Rattle.sdl_forward.proofs.Same.{cases_station, same_station_is}
 
 -- a word with one more bit
@@ -121,7 +121,7 @@ next_clear busy channel both found forth_fits back_fits first is h lower less = 
 -- where the queue of one station has changed, and it was noted whether something may wait there
 pub keeps_marks : (old new : Busy) (some : Bool) (s : Station) (before after : List (Station × List Item))
     → ((h : Hop) → IsClear new h → (Line h ≡ s → some ≡ false) × (Line h ≢ s → IsClear old h))
-    → ChangesOnly before after s → (some ≡ false → waiting after s ≡ []) → MarksAll old before → MarksAll new after
+    → ChangesOnly before after s → (some ≡ false → waiting after s ≡ []) → ShowsAllBusy old before → ShowsAllBusy new after
 keeps_marks old new some s before after noted changes empty marks h clear = elim (cases_station (Line h) s) [
   | inl same ↦ subst (λ (t : Station). waiting after t ≡ []) (sym same) (empty ((noted h clear).0 same))
   | inr other ↦ changes.others (Line h) other ∙ marks h ((noted h clear).1 other)
@@ -163,16 +163,16 @@ lists_suc (x ∷ rests) (suc k) r at = ap (λ es. (x.0, left_in x.1) ∷ es) (li
 lists_more : (rests : List (Station × Rest)) (k : ℕ) (r : Station × Rest) → slice_get rests k ≡ Some r → lists_of (take (k + 1) rests) ≡ lists_of (take k rests) ++ (r.0, left_in r.1) ∷ []
 lists_more rests k r at = ap (λ n. lists_of (take n rests)) (add-one k) ∙ lists_suc rests k r at
 
-module _ (old new : Busy) (rests : List (Station × Rest)) (k : ℕ) (r : Station × Rest) (at : slice_get rests k ≡ Some r) (marks : MarksAll old (lists_of (take k rests))) where
-  one_more : ((h : Hop) → IsClear new h → IsClear old h × (r.0 ≡ Line h → left_in r.1 ≡ [])) → MarksAll new (lists_of (take (k + 1) rests))
+module _ (old new : Busy) (rests : List (Station × Rest)) (k : ℕ) (r : Station × Rest) (at : slice_get rests k ≡ Some r) (marks : ShowsAllBusy old (lists_of (take k rests))) where
+  one_more : ((h : Hop) → IsClear new h → IsClear old h × (r.0 ≡ Line h → left_in r.1 ≡ [])) → ShowsAllBusy new (lists_of (take (k + 1) rests))
   one_more noted h clear =
       subst (λ (es : List (Station × List Item)). waiting es (Line h) ≡ []) (sym (lists_more rests k r at))
       (waiting_more (lists_of (take k rests)) (r.0, left_in r.1) (Line h) (marks h (noted h clear).0) (noted h clear).1)
 
-  pub marked_more : ((h : Hop) → IsClear new h → (Line h ≡ r.0 → true ≡ false) × (Line h ≢ r.0 → IsClear old h)) → MarksAll new (lists_of (take (k + 1) rests))
+  pub marked_more : ((h : Hop) → IsClear new h → (Line h ≡ r.0 → true ≡ false) × (Line h ≢ r.0 → IsClear old h)) → ShowsAllBusy new (lists_of (take (k + 1) rests))
   marked_more noted = one_more (λ h clear.
       let other : Line h ≢ r.0 = λ e. false≢true (sym ((noted h clear).0 e)) in
       ((noted h clear).1 other, λ e. absurd (other (sym e))))
 
-  pub empty_more : new ≡ old → left_in r.1 ≡ [] → MarksAll new (lists_of (take (k + 1) rests))
+  pub empty_more : new ≡ old → left_in r.1 ≡ [] → ShowsAllBusy new (lists_of (take (k + 1) rests))
   empty_more same none = one_more (λ h clear. (subst (λ (b : Busy). IsClear b h) same clear, λ e. none))

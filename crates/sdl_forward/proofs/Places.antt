@@ -4,7 +4,7 @@ use Rattle.std.proofs.lemmas.Bool.{false≢true}
 use Rattle.std.proofs.lemmas.List.{length-map}
 use Rattle.std.proofs.lemmas.Option.{same_Some, slice_get-get_or, slice_get_read, slice_get-map}
 use Rattle.sdl_routes.specs.declared.route.Station.{Station}
-use Rattle.sdl_opening.proofs.Collected.{station_eq, derived_eq}
+use Rattle.sdl_forward_opening.proofs.Collected.{station_eq, derived_eq}
 use Rattle.sdl_forward.proofs.Same.{same_station_itself}
 use Rattle.sdl_forward.specs.Boards.{same_station, stations_of}
 

@@ -5,7 +5,7 @@ use Rattle.sdl_routes.specs.declared.route.TableRow.{TableRow}
 use Rattle.sdl_routes.specs.declared.route.Station.{Station}
 use Rattle.sdl_queue.specs.declared.rest.Rest.{Rest}
 use Rattle.sdl_queue.specs.Rest.{left_in}
-pub use Rattle.sdl_ends.specs.Stations.{same_hop, same_station, stations_of, IsStationOf, IsStationBefore, AreStationsInOrder, AreAllStations}
+pub use Rattle.sdl_forward_ends.specs.Stations.{same_hop, same_station, stations_of, IsStationOf, IsStationBefore, AreStationsInOrder, AreAllStations}
 
 -- A board is seen as a list of stations, each with the items that wait there, from the front.
 

@@ -15,5 +15,5 @@ IsClear busy h =
     × (64 ≤ h.channel.0 → busy.further ≡ false)
 
 -- at each path without a mark nothing waits
-abbrev pub MarksAll : Busy → List (Station × List Item) → Type 0
-MarksAll busy board = (h : Hop) → IsClear busy h → waiting board (Line h) ≡ []
+abbrev pub ShowsAllBusy : Busy → List (Station × List Item) → Type 0
+ShowsAllBusy busy board = (h : Hop) → IsClear busy h → waiting board (Line h) ≡ []

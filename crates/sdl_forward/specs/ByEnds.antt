@@ -5,8 +5,8 @@ use Rattle.std.proofs.lemmas.Option.{none-some}
 use Rattle.sdl_signal.specs.declared.values.Item.{Item}
 use Rattle.sdl_routes.specs.declared.route.Station.{Station}
 use Rattle.sdl_queue.specs.Ends.{FeedEnd, TapEnd, Opening}
-use Rattle.sdl_ends.specs.Stations.{same_station}
-use Rattle.sdl_ends.specs.Ends.{WorkerEnds, IsSameEnds, HasFeed, feed_at, feed_mark, put_at, taken_by}
+use Rattle.sdl_forward_ends.specs.Stations.{same_station}
+use Rattle.sdl_forward_ends.specs.Ends.{WorkerEnds, IsSameEnds, HasFeed, feed_at, feed_identity, put_at, taken_by}
 use Rattle.sdl_forward.specs.Queues.{Relations, nothing, with_more}
 
 -- each item put is added to those put at its station
@@ -23,14 +23,14 @@ pub record MovesByEnds (put : Station → List Item) (taken : List Item) (old ne
 
 -- the same ends have the same feeds
 
-abbrev Mark : Type 0
-Mark = Station × (Opening × ℕ)
+abbrev EndIdentity : Type 0
+EndIdentity = Station × (Opening × ℕ)
 
-abbrev first_of : Mark → List Mark → Mark
+abbrev first_of : EndIdentity → List EndIdentity → EndIdentity
 first_of m [] = m
 first_of m (x ∷ xs) = x
 
-abbrev rest_of : List Mark → List Mark
+abbrev rest_of : List EndIdentity → List EndIdentity
 rest_of [] = []
 rest_of (x ∷ xs) = xs
 
@@ -45,11 +45,11 @@ by_test false false same f g x y next h = next h
 by_test true false same f g x y next h = absurd (false≢true same)
 by_test false true same f g x y next h = absurd (true≢false same)
 
-feed_kept : (s : Station) (fs gs : List (Station × FeedEnd)) → map feed_mark gs ≡ map feed_mark fs → (k : FeedEnd) × (feed_at fs s ≡ Some k) → (k : FeedEnd) × (feed_at gs s ≡ Some k)
+feed_kept : (s : Station) (fs gs : List (Station × FeedEnd)) → map feed_identity gs ≡ map feed_identity fs → (k : FeedEnd) × (feed_at fs s ≡ Some k) → (k : FeedEnd) × (feed_at gs s ≡ Some k)
 feed_kept s [] gs same (k, at) = absurd (none-some k at)
 feed_kept s (f ∷ fs) [] same h = absurd (false≢true (ap is_cons same))
 feed_kept s (f ∷ fs) (g ∷ gs) same h =
-    by_test (same_station f.0 s) (same_station g.0 s) (ap (λ (ms : List Mark). same_station (first_of (feed_mark f) ms).0 s) same) f.1 g.1 (feed_at fs s) (feed_at gs s)
+    by_test (same_station f.0 s) (same_station g.0 s) (ap (λ (ms : List EndIdentity). same_station (first_of (feed_identity f) ms).0 s) same) f.1 g.1 (feed_at fs s) (feed_at gs s)
     (feed_kept s fs gs (ap rest_of same)) h
 
 pub has_feed_still : (old new : WorkerEnds) (s : Station) → IsSameEnds old new → HasFeed old s → HasFeed new s

@@ -5,7 +5,7 @@ use Rattle.sdl_routes.specs.declared.route.Hop.{Hop}
 use Rattle.sdl_routes.specs.declared.route.TableRow.{TableRow}
 use Rattle.sdl_routes.specs.declared.route.Station.{Station}
 use Rattle.sdl_routes.specs.declared.route.Station.TheVariants.{Line}
-use Rattle.sdl_ends.specs.Ends.{WorkerEnds, HasFeed, put_at, taken_by}
+use Rattle.sdl_forward_ends.specs.Ends.{WorkerEnds, HasFeed, put_at, taken_by}
 use Rattle.sdl_forward.specs.declared.forwarder.Forwarded.{Forwarded}
 use Rattle.sdl_forward.specs.declared.forwarder.Forwarded.TheVariants.{Moved, Idle, Held}
 use Rattle.sdl_forward.specs.Forwards.{Forwarding, next_station}

@@ -8,7 +8,7 @@ use Rattle.sdl_routes.specs.declared.route.Station.{Station}
 use Rattle.sdl_routes.specs.declared.route.Station.TheVariants.{Line}
 use Rattle.sdl_forward.specs.declared.forwarder.Forwarded.{Forwarded}
 use Rattle.sdl_forward.specs.declared.forwarder.Forwarded.TheVariants.{Moved, Idle, Held}
-pub use Rattle.sdl_ends.specs.Stations.{station_behind}
+pub use Rattle.sdl_forward_ends.specs.Stations.{station_behind}
 use Rattle.sdl_forward.specs.Boards.{waiting, ChangesOnly}
 
 -- A forwarder, as contracts see it: the delaying path that it takes items from, and the item that it holds.

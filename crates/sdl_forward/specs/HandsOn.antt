@@ -7,9 +7,9 @@ use Rattle.sdl_routes.specs.declared.route.Hop.{Hop}
 use Rattle.sdl_routes.specs.declared.route.TableRow.{TableRow}
 use Rattle.sdl_routes.specs.declared.route.Station.{Station}
 use Rattle.sdl_routes.specs.declared.route.Station.TheVariants.{Line}
-use Rattle.sdl_ends.specs.Ends.{WorkerEnds, put_at, taken_by}
-pub use Rattle.sdl_ends.specs.Ends.{AreFresh}
-use Rattle.sdl_ends.specs.Stations.{is_station}
+use Rattle.sdl_forward_ends.specs.Ends.{WorkerEnds, put_at, taken_by}
+pub use Rattle.sdl_forward_ends.specs.Ends.{AreFresh}
+use Rattle.sdl_forward_ends.specs.Stations.{is_station}
 use Rattle.sdl_forward.specs.Forwards.{Forwarding, next_station}
 use Rattle.sdl_forward.specs.Carries.{HasWaysOn}
 

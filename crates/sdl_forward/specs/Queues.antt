@@ -2,7 +2,7 @@
 use Rattle.std.specs.Prelude.{◌≡◌, ◌⊎◌, if◌then◌else◌, List, [], ◌∷◌, ◌++◌, Option, Some, None}
 use Rattle.sdl_signal.specs.declared.values.Item.{Item}
 use Rattle.sdl_routes.specs.declared.route.Station.{Station}
-use Rattle.sdl_ends.specs.Stations.{same_station}
+use Rattle.sdl_forward_ends.specs.Stations.{same_station}
 
 -- Items that are put are told by station, each station's in order. Here none are put.
 abbrev pub nothing : Station → List Item

@@ -10,7 +10,7 @@ ghost use Rattle.sdl_forward.specs.Boards.{stations_of, waiting, ChangesOnly, li
 
 use crate::busy::Busy;
 use crate::hints::Hints;
-use sdl_opening::stations::stations_of;
+use sdl_forward_opening::stations::stations_of;
 use sdl_queue::{Rest, SerialQueue};
 use sdl_routes::{Routes, Station};
 use sdl_signal::{ChannelId, Item};
@@ -31,7 +31,7 @@ impl Model for Board {
     ghost use Rattle.sdl_signal.specs.declared.values.Item.{Item};
     ghost use Rattle.sdl_routes.specs.declared.route.Station.{Station};
     ghost use Rattle.sdl_forward.specs.Boards.{stations_of, lists_of};
-    ghost use Rattle.sdl_forward.specs.Busy.{MarksAll};
+    ghost use Rattle.sdl_forward.specs.Busy.{ShowsAllBusy};
     ghost use Rattle.sdl_forward.specs.Serials.{AreSerial};
     ghost use Rattle.sdl_routes.specs.Routes.{EachOnce};
 
@@ -39,7 +39,7 @@ impl Model for Board {
 
     ghost view = { λ b. lists_of b.rests.items };
 
-    ghost invariant = { λ b. EachOnce (stations_of b.rests.items) × AreSerial b.rests.items × MarksAll b.busy (lists_of b.rests.items) };
+    ghost invariant = { λ b. EachOnce (stations_of b.rests.items) × AreSerial b.rests.items × ShowsAllBusy b.busy (lists_of b.rests.items) };
 }
 
 impl Board {
@@ -107,7 +107,7 @@ impl Board {
     }
 
     /// Whether nothing waits at any delaying path. It may still say no once nothing does.
-    pub fn has_no_mark(&self) -> bool
+    pub fn has_no_busy_path(&self) -> bool
         ensures { MatchBool result ((h : Hop) → waiting self.now (Line h) ≡ []) ⊤ }
     {
         self.busy.is_clear()

@@ -3,11 +3,11 @@ ghost use Rattle.std.specs.Prelude.{◌≡◌, ◌≢◌, ◌<◌, ◌≤◌, fa
 ghost use Rattle.sdl_routes.specs.declared.route.Hop.{Hop};
 ghost use Rattle.sdl_routes.specs.declared.route.Station.TheVariants.{Line};
 ghost use Rattle.sdl_forward.specs.Boards.{lists_of};
-ghost use Rattle.sdl_forward.specs.Busy.{IsClear, MarksAll};
+ghost use Rattle.sdl_forward.specs.Busy.{IsClear, ShowsAllBusy};
 
-use sdl_parts::limits::MOST_CHANNELS;
 use sdl_queue::Rest;
 use sdl_routes::{Hop, Station};
+use sdl_structure_parts::limits::MOST_CHANNELS;
 
 /// The number of channels that have a mark of their own: those of a structure are no more.
 const CHANNELS: u32 = MOST_CHANNELS as u32;
@@ -26,7 +26,7 @@ pub(crate) struct Busy {
 impl Busy {
     /// A mark for each path of these at which something is left.
     pub(crate) fn of(rests: &[(Station, Rest)]) -> Busy
-        ensures { MarksAll result (lists_of rests.now) }
+        ensures { ShowsAllBusy result (lists_of rests.now) }
     {
         let mut busy = Busy {
             forth: 0,

@@ -2,7 +2,7 @@
 ghost use Rattle.std.specs.Prelude.{◌≡◌, None, MatchOption, option_copied};
 ghost use Rattle.sdl_routes.specs.declared.route.Station.TheVariants.{Line};
 ghost use Rattle.sdl_routes.specs.Table.{IsTable};
-ghost use Rattle.sdl_ends.specs.Ends.{IsSameEnds};
+ghost use Rattle.sdl_forward_ends.specs.Ends.{IsSameEnds};
 ghost use Rattle.sdl_forward.specs.Boards.{IsBoardOf};
 ghost use Rattle.sdl_forward.specs.Carries.{Carries, HasWaysOn};
 ghost use Rattle.sdl_forward.specs.Forwards.{Forwards, next_station};
@@ -11,7 +11,7 @@ ghost use Rattle.sdl_forward.specs.StepsBy.{StepsBy, CanPutOn};
 
 use crate::Board;
 use crate::queues::Queues;
-use sdl_ends::Ends;
+use sdl_forward_ends::Ends;
 use sdl_routes::{Hop, Routes, Station};
 use sdl_signal::Item;
 use std::marker::Model;

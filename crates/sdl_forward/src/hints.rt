@@ -2,8 +2,8 @@
 ghost use Rattle.std.specs.Prelude.{◌≡◌, Some, Contains, slice_get, MatchOption};
 ghost use Rattle.sdl_forward.specs.Boards.{stations_of};
 
-use sdl_parts::limits::{MOST_BLOCKS, MOST_CHANNELS};
 use sdl_routes::{Hop, Station};
+use sdl_structure_parts::limits::{MOST_BLOCKS, MOST_CHANNELS};
 
 /// The number of delaying paths that have a hint of their own: those of a structure are no more.
 const LINES: usize = 2 * MOST_CHANNELS;

@@ -1,7 +1,7 @@
 //! What the steps of a forwarder through its own ends keep, from the first on. These functions do nothing: they carry the proofs.
 ghost use Rattle.std.specs.Prelude.{◌≡◌, List, None};
 ghost use Rattle.sdl_routes.specs.declared.route.TableRow.{TableRow};
-ghost use Rattle.sdl_ends.specs.Ends.{WorkerEnds, IsSameEnds};
+ghost use Rattle.sdl_forward_ends.specs.Ends.{WorkerEnds, IsSameEnds};
 ghost use Rattle.sdl_forward.specs.declared.forwarder.Forwarded.{Forwarded};
 ghost use Rattle.sdl_forward.specs.Forwards.{Forwarding};
 ghost use Rattle.sdl_forward.specs.Carries.{Carries, HasWaysOn};

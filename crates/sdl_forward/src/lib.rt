@@ -15,5 +15,5 @@ pub use forwarder::{Forwarded, Forwarder};
 pub use laws::{
     forwarders_have_handed_on, forwarders_stay_handing_on, new_forwarders_are_handing_on,
 };
-pub use sdl_ends::{Ends, Shelf, ends_rejoin};
-pub use sdl_opening::ends_open;
+pub use sdl_forward_ends::{Ends, Shelf, ends_rejoin};
+pub use sdl_forward_opening::ends_open;

@@ -5,7 +5,7 @@ ghost use Rattle.sdl_forward.specs.OnBoard.{on_board};
 ghost use Rattle.sdl_forward.specs.ByEnds.{by_ends};
 
 use crate::Board;
-use sdl_ends::Ends;
+use sdl_forward_ends::Ends;
 use sdl_routes::Station;
 use sdl_signal::Item;
 use std::sync::Wait;

@@ -2,10 +2,10 @@
 use Rattle.std.specs.Prelude.{Bool, List}
 use Rattle.sdl_signal.specs.declared.ids.SignalId.{SignalId}
 use Rattle.sdl_signal.specs.declared.values.Sort.{Sort}
-use Rattle.sdl_behaviour.specs.declared.offer.SignalSorts.{SignalSorts}
-use Rattle.sdl_behaviour.specs.declared.offer.Offer.{Offer}
-use Rattle.sdl_behaviour.specs.declared.step.Step.{Step}
-use Rattle.sdl_behaviour.specs.Offers.{Conforms}
+use Rattle.sdl_transition_behaviour.specs.declared.offer.SignalSorts.{SignalSorts}
+use Rattle.sdl_transition_behaviour.specs.declared.offer.Offer.{Offer}
+use Rattle.sdl_transition_behaviour.specs.declared.step.Step.{Step}
+use Rattle.sdl_transition_behaviour.specs.Offers.{Conforms}
 
 -- an offer, and whether all that was said of it found room
 pub record OfferDraft : Type 0 where

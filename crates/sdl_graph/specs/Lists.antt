@@ -10,8 +10,8 @@ use Rattle.sdl_signal.specs.declared.values.Pid.TheVariants as pid
 use Rattle.sdl_signal.specs.declared.values.Value.{Value}
 use Rattle.sdl_signal.specs.declared.values.Value.TheVariants as value
 use Rattle.sdl_routes.specs.declared.route.Via.{Via}
-use Rattle.sdl_behaviour.specs.declared.offer.OfferedOutput.{OfferedOutput}
-use Rattle.sdl_behaviour.specs.declared.step.Frame.{Frame}
+use Rattle.sdl_transition_behaviour.specs.declared.offer.OfferedOutput.{OfferedOutput}
+use Rattle.sdl_transition_behaviour.specs.declared.step.Frame.{Frame}
 
 -- an output of an outward list, as an offer has it: a signal has at most four parameters
 unfoldable pub offered_as : SignalId × Bor (List Sort) × Via → OfferedOutput

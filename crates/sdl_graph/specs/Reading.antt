@@ -4,7 +4,7 @@ use Rattle.sdl_signal.specs.declared.values.Pid.{Pid}
 use Rattle.sdl_signal.specs.declared.values.Value.{Value}
 use Rattle.sdl_signal.specs.declared.values.Value.TheVariants as value
 use Rattle.sdl_signal.specs.declared.values.Signal.{Signal}
-use Rattle.sdl_behaviour.specs.declared.step.Frame.{Frame}
+use Rattle.sdl_transition_behaviour.specs.declared.step.Frame.{Frame}
 
 abbrev pub parameters_of : Option Signal → List Value
 parameters_of None = []

@@ -6,8 +6,8 @@ ghost use Rattle.sdl_graph.specs.Lists.{frame_at_first};
 use crate::lists::{SetLists, first_values};
 use crate::states::{States, number_of, state_of};
 use crate::steps::{StepBuilder, no_step};
-use sdl_behaviour::{Frame, Offer, Step};
 use sdl_signal::{Pid, SetId, Signal, SignalId, StateId, Value};
+use sdl_transition_behaviour::{Frame, Offer, Step};
 
 /// What a signal makes in a state where it is no step.
 #[derive(Clone, Copy, Debug, PartialEq, Eq)]

@@ -1,14 +1,14 @@
 //! A process graph, and what its transitions answer.
 ghost use Rattle.std.specs.Prelude.{ℕ, IsTrue, ◌↔◌, IsNone, IfSome};
-ghost use Rattle.sdl_behaviour.specs.declared.step.Frame.{Frame as AFrame};
-ghost use Rattle.sdl_behaviour.specs.declared.step.Step.{Step as AStep};
-ghost use Rattle.sdl_behaviour.specs.Offers.{IsBlank, IsFrameOf, Conforms};
-ghost use Rattle.sdl_conformance.specs.Stay.{CanEnd};
-ghost use Rattle.sdl_conformance.specs.Breaches.{IsFirstBroken};
+ghost use Rattle.sdl_transition_behaviour.specs.declared.step.Frame.{Frame as AFrame};
+ghost use Rattle.sdl_transition_behaviour.specs.declared.step.Step.{Step as AStep};
+ghost use Rattle.sdl_transition_behaviour.specs.Offers.{IsBlank, IsFrameOf, Conforms};
+ghost use Rattle.sdl_transition_conformance.specs.Stay.{CanEnd};
+ghost use Rattle.sdl_transition_conformance.specs.Breaches.{IsFirstBroken};
 ghost use Rattle.sdl_graph.specs.Answers.{IsKept};
 
-use sdl_behaviour::{Frame, Offer, Step};
-use sdl_conformance::{Breach, conforms, first_broken, kept, stay};
+use sdl_transition_behaviour::{Frame, Offer, Step};
+use sdl_transition_conformance::{Breach, conforms, first_broken, kept, stay};
 
 /// What a designer writes of a system's agents: for the number of each transition what it offers and what it does. There
 /// is nothing to prove. (This project's own.)

@@ -1,14 +1,14 @@
 //! Steps that are put together where they stand, for `Graph::fill`.
 ghost use Rattle.std.specs.Prelude.{◌≡◌, ◌<◌, ◌≤◌, ◌∷◌, [], ◌++◌, length, slice_set};
 ghost use Rattle.arrayvec.specs.ArrayVec.{array_vec_len};
-ghost use Rattle.sdl_behaviour.specs.declared.step.Action.TheVariants as action;
-ghost use Rattle.sdl_behaviour.specs.declared.step.Next.TheVariants as next;
+ghost use Rattle.sdl_transition_behaviour.specs.declared.step.Action.TheVariants as action;
+ghost use Rattle.sdl_transition_behaviour.specs.declared.step.Next.TheVariants as next;
 ghost use Rattle.sdl_graph.specs.Drafts.{ConformsToNone};
 
 use crate::limits::fitting_values;
 use crate::steps::no_step;
-use sdl_behaviour::{Action, Dest, Frame, Next, Step, Via};
 use sdl_signal::{SetId, Signal, SignalId, StateId, Value};
+use sdl_transition_behaviour::{Action, Dest, Frame, Next, Step, Via};
 
 /// The variables are those of the frame, and this is how the step ends.
 #[inline(always)]

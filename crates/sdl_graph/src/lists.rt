@@ -4,8 +4,8 @@ ghost use Rattle.sdl_signal.specs.Sorts.{sort_of};
 ghost use Rattle.sdl_graph.specs.Lists.{offered_as, states_below, first_of_sort};
 
 use arrayvec::ArrayVec;
-use sdl_behaviour::{OfferedOutput, SignalSorts, Via};
 use sdl_signal::{Pid, SetId, SignalId, Sort, StateId, Value};
+use sdl_transition_behaviour::{OfferedOutput, SignalSorts, Via};
 
 /// A signal that a gate of the set lets in, with the sorts of its parameters.
 pub type Inward = (SignalId, &'static [Sort]);

@@ -1,7 +1,7 @@
 //! Offers, put together.
 ghost use Rattle.std.specs.Prelude.{◌≡◌, ◌<◌, ◌≤◌, [], ◌∷◌, ◌++◌, ◌↔◌, true, false, Some, None, IsTrue, length, map};
 ghost use Rattle.arrayvec.specs.ArrayVec.{array_vec_len};
-ghost use Rattle.sdl_conformance.specs.Stay.{CanEnd};
+ghost use Rattle.sdl_transition_conformance.specs.Stay.{CanEnd};
 ghost use Rattle.sdl_signal.specs.Sorts.{sort_of};
 ghost use Rattle.sdl_graph.specs.Drafts.{sorted};
 ghost use Rattle.sdl_graph.specs.Lists.{offered_as, states_below};
@@ -9,8 +9,8 @@ ghost use Rattle.sdl_graph.specs.Lists.{offered_as, states_below};
 use crate::limits::fitting_sorts;
 use crate::lists::{SetLists, listed_outputs, listed_sets, sorts_of, states_to};
 use arrayvec::ArrayVec;
-use sdl_behaviour::{Offer, OfferedOutput, SignalSorts, Via};
 use sdl_signal::{SetId, SignalId, Sort, StateId, Value};
+use sdl_transition_behaviour::{Offer, OfferedOutput, SignalSorts, Via};
 use std::marker::Model;
 
 /// An offer that is being put together. What finds no room is remembered: then `build` gives an offer that cannot end.

@@ -5,8 +5,8 @@ ghost use Rattle.sdl_graph.specs.declared.agent.NoStep.TheVariants.{Missing};
 
 use crate::agent::NoStep;
 use crate::reading::{boolean_parameter, integer_parameter, pid_parameter};
-use sdl_behaviour::Frame;
 use sdl_signal::Pid;
+use sdl_transition_behaviour::Frame;
 
 /// The Integer that the signal consumed carries at this place, from 0.
 pub fn integer(frame: &Frame, place: usize) -> Result<i64, NoStep>

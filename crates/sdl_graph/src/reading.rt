@@ -2,8 +2,8 @@
 ghost use Rattle.std.specs.Prelude.{◌≡◌, slice_get, option_and_then};
 ghost use Rattle.sdl_graph.specs.Reading.{parameters, integer_of, boolean_of, pid_of};
 
-use sdl_behaviour::Frame;
 use sdl_signal::{Pid, Value};
+use sdl_transition_behaviour::Frame;
 
 fn parameter(frame: &Frame, place: usize) -> Option<Value>
     ensures { result ≡ slice_get (parameters frame.now) place }

@@ -3,7 +3,7 @@ use crate::agent::{Agent, NoStep};
 use crate::lists::{Inward, first_parameters};
 use crate::offers::{OfferBuilder, no_offer};
 use crate::states::{States, number_of};
-use sdl_behaviour::Offer;
+use sdl_transition_behaviour::Offer;
 
 /// Whether the state saves the signal, has no transition for it, or neither: what its step answers to the first frame.
 fn made_by<A: Agent>(state: A::State, inward: Inward) -> Option<NoStep> {

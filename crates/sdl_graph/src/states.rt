@@ -1,10 +1,10 @@
 //! The states of the agents of a set: an enum, so that a misspelled state does not compile.
 ghost use Rattle.std.specs.Prelude.{◌≡◌, ◌≢◌, [], true};
-ghost use Rattle.sdl_behaviour.specs.declared.step.Next.TheVariants as next;
+ghost use Rattle.sdl_transition_behaviour.specs.declared.step.Next.TheVariants as next;
 
 use crate::steps::StepBuilder;
-use sdl_behaviour::Frame;
 use sdl_signal::StateId;
+use sdl_transition_behaviour::Frame;
 
 /// The states of the agents of a set. A designer implements it for an enum. (This project's own.)
 pub trait States: Copy + PartialEq + 'static {

@@ -1,14 +1,14 @@
 //! Steps, put together.
 ghost use Rattle.std.specs.Prelude.{◌≡◌, ◌<◌, ◌≤◌, [], ◌∷◌, ◌++◌, ◌↔◌, true, IsTrue, length, slice_set};
 ghost use Rattle.arrayvec.specs.ArrayVec.{array_vec_len};
-ghost use Rattle.sdl_behaviour.specs.declared.step.Action.TheVariants as action;
-ghost use Rattle.sdl_behaviour.specs.declared.step.Next.TheVariants as next;
+ghost use Rattle.sdl_transition_behaviour.specs.declared.step.Action.TheVariants as action;
+ghost use Rattle.sdl_transition_behaviour.specs.declared.step.Next.TheVariants as next;
 ghost use Rattle.sdl_graph.specs.Drafts.{ConformsToNone};
 
 use crate::limits::fitting_values;
 use arrayvec::ArrayVec;
-use sdl_behaviour::{Action, Dest, Frame, Next, Step, Via};
 use sdl_signal::{Pid, SetId, Signal, SignalId, StateId, Value};
+use sdl_transition_behaviour::{Action, Dest, Frame, Next, Step, Via};
 use std::marker::Model;
 
 /// A step that is being put together. What finds no room is remembered: then `build` gives a step that conforms to no offer.

@@ -5,8 +5,8 @@ ghost use Rattle.sdl_graph.specs.declared.agent.NoStep.TheVariants.{Missing};
 
 use crate::agent::NoStep;
 use crate::reading::{boolean_variable, integer_variable, pid_variable};
-use sdl_behaviour::Frame;
 use sdl_signal::Pid;
+use sdl_transition_behaviour::Frame;
 
 /// The Integer that the variable at this place holds, from 0.
 pub fn integer(frame: &Frame, place: usize) -> Result<i64, NoStep>

@@ -2,9 +2,9 @@
 use Rattle.std.proofs.Common.{◌≡◌, ◌-◌, ◌≤◌, refl, ℕ, Bool, false, not, if◌then◌else◌, Result, is_ok, List, [], ◌∷◌, ◌++◌, map, length, take, drop, get_or, ap, sym, ◌∙◌, append_assoc, arith}
 use Rattle.std.proofs.lemmas.Grind.{common_steps}
 use Rattle.std.proofs.lemmas.List.{append-nil}
-use Rattle.sdl_behaviour.specs.declared.transition.Transition.{Transition}
-use Rattle.sdl_behaviour.specs.declared.behaviour.Behaviour.{Behaviour}
-use Rattle.sdl_behaviour.specs.declared.behaviour.Row.{Row}
+use Rattle.sdl_transition_behaviour.specs.declared.transition.Transition.{Transition}
+use Rattle.sdl_transition_behaviour.specs.declared.behaviour.Behaviour.{Behaviour}
+use Rattle.sdl_transition_behaviour.specs.declared.behaviour.Row.{Row}
 use Rattle.sdl_graph_binding.specs.Transitions.{transitions_in, all_transitions}
 
 -- a push that did not fail took place

@@ -1,17 +1,17 @@
 -- What the behaviours of a graph are made of. (This project's own.)
 use Rattle.std.specs.Prelude.{◌≡◌, ℕ, ◌+◌, List, [], ◌∷◌, ◌++◌, length, map, Option, Some, option_map, slice_get, ◌⊎◌}
 use Rattle.std.specs.Borrow.{Bor}
-use Rattle.sdl_parts.specs.Structure.{Structure}
+use Rattle.sdl_structure_parts.specs.Structure.{Structure}
 use Rattle.sdl_signal.specs.declared.ids.StateId.{StateId}
 use Rattle.sdl_signal.specs.declared.ids.SignalId.{SignalId}
 use Rattle.sdl_signal.specs.declared.values.Value.{Value}
-use Rattle.sdl_saves.specs.declared.save.Save.{Save}
-use Rattle.sdl_behaviour.specs.declared.offer.Offer.{Offer}
-use Rattle.sdl_behaviour.specs.declared.transition.Transition.{Transition}
-use Rattle.sdl_behaviour.specs.declared.behaviour.Kind.{Kind}
-use Rattle.sdl_behaviour.specs.declared.behaviour.Named.{Named}
-use Rattle.sdl_behaviour.specs.declared.behaviour.Row.{Row}
-use Rattle.sdl_behaviour.specs.declared.behaviour.Behaviour.{Behaviour}
+use Rattle.sdl_transition_saves.specs.declared.save.Save.{Save}
+use Rattle.sdl_transition_behaviour.specs.declared.offer.Offer.{Offer}
+use Rattle.sdl_transition_behaviour.specs.declared.transition.Transition.{Transition}
+use Rattle.sdl_transition_behaviour.specs.declared.behaviour.Kind.{Kind}
+use Rattle.sdl_transition_behaviour.specs.declared.behaviour.Named.{Named}
+use Rattle.sdl_transition_behaviour.specs.declared.behaviour.Row.{Row}
+use Rattle.sdl_transition_behaviour.specs.declared.behaviour.Behaviour.{Behaviour}
 use Rattle.sdl_graph_binding.specs.declared.sets.SetDesign.{SetDesign}
 use Rattle.sdl_graph_binding.specs.declared.faults.GraphFault.{GraphFault}
 use Rattle.sdl_graph_binding.specs.declared.faults.GraphFault.TheVariants.{NoOffer, NoEnd}

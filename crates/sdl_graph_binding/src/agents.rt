@@ -1,12 +1,12 @@
 //! The agents of a process graph.
-ghost use Rattle.sdl_behaviour.specs.Offers.{IsFrameOf, Conforms};
-ghost use Rattle.sdl_conformance.specs.Stay.{CanEnd};
+ghost use Rattle.sdl_transition_behaviour.specs.Offers.{IsFrameOf, Conforms};
+ghost use Rattle.sdl_transition_conformance.specs.Stay.{CanEnd};
 ghost use Rattle.sdl_graph.specs.Answers.{IsKept};
 
-use crate::marks::Marks;
-use sdl_behaviour::{Agents, Frame, Offer, Step};
-use sdl_conformance::conforms;
+use crate::breaches::Breaches;
 use sdl_graph::{Graph, judge};
+use sdl_transition_behaviour::{Agents, Frame, Offer, Step};
+use sdl_transition_conformance::conforms;
 use std::marker::PhantomData;
 
 /// The agents of a graph. Of each step it is promised that it meets its transition's offer, as of every step of a stored
@@ -29,7 +29,7 @@ impl<G: Graph> Agents for GraphAgents<G> {
 
 /// Leaves a step that conforms to the offer as it is. Another is replaced by the one that does nothing, and its number is
 /// marked, with what of it the offer does not allow.
-pub fn keep_to_offer(number: u32, offer: &Offer, frame: &Frame, step: &mut Step, marks: &Marks)
+pub fn keep_to_offer(number: u32, offer: &Offer, frame: &Frame, step: &mut Step, marks: &Breaches)
     ensures kept { IsKept offer.now frame.now step.old step.new }
     ensures conforms { IsFrameOf offer.now frame.now → CanEnd offer.now → Conforms offer.now step.new }
 {

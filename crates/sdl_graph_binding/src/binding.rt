@@ -1,8 +1,8 @@
 //! The stored transitions of a graph, bound to a structure.
 ghost use Rattle.std.specs.Prelude.{◌≡◌, ◌+◌, ◌^◌, ◌<◌, [], ◌∷◌, ◌++◌, All, length, map, IfOk};
-ghost use Rattle.sdl_parts.specs.Structure.{IsStructure};
+ghost use Rattle.sdl_structure_parts.specs.Structure.{IsStructure};
 ghost use Rattle.sdl_routes.specs.Routes.{AreRoutesOf};
-ghost use Rattle.sdl_behaviour.specs.Transitions.{IsAllowedBehaviour};
+ghost use Rattle.sdl_transition_behaviour.specs.Transitions.{IsAllowedBehaviour};
 ghost use Rattle.sdl_transition.specs.Blocks.{AreDistributed};
 ghost use Rattle.sdl_transition.specs.Bound.{IsBound, structure_of, routes_of, blocks_of};
 ghost use Rattle.sdl_graph_binding.specs.Transitions.{transitions_in, all_transitions, meant, made_as};
@@ -13,13 +13,13 @@ use crate::misfits::misfit_of;
 use crate::set_behaviour::{set_named, with_rows, with_saves, with_states, with_uses};
 use crate::sets::{Design, SetDesign, Use};
 use arrayvec::ArrayVec;
-use sdl_behaviour::{Behaviour, Transition};
 use sdl_graph::Graph;
-use sdl_parts::{Checked, Structure};
 use sdl_routes::Routes;
 use sdl_signal::lists::take_first;
 use sdl_signal::{Name, SetId, Value};
+use sdl_structure_parts::{Checked, Structure};
 use sdl_transition::{Bound, bind};
+use sdl_transition_behaviour::{Behaviour, Transition};
 use std::alloc::Global;
 
 /// The variables and the names of the states of the set at a place of the design.

@@ -1,8 +1,8 @@
 //! What of a graph's behaviours does not fit the structure, where they were not bound.
-use sdl_behaviour::{Behaviour, Kind, Offer, Row, SignalSorts, Transition, Via};
-use sdl_parts::{Gate, Owner, Structure};
 use sdl_signal::{GateId, Pid, SetId, SignalId, StateId, Value};
+use sdl_structure_parts::{Gate, Owner, Structure};
 use sdl_transition::BindFault;
+use sdl_transition_behaviour::{Behaviour, Kind, Offer, Row, SignalSorts, Transition, Via};
 
 /// The first part of a behaviour that has a fault of binding. A transition is named by its number. No clause says which it is.
 /// (This project's own.)

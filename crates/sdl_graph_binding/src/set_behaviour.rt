@@ -2,20 +2,20 @@
 ghost use Rattle.std.specs.Prelude.{◌≡◌, ◌+◌, ◌<◌, [], ◌∷◌, ◌++◌, map, length, position, bytes_eq, IfOk, IfSome, IfNone};
 ghost use Rattle.std.specs.List.{AllByRecursion};
 ghost use Rattle.sdl_signal.specs.Reading.{IsNamedAt, IsNowhere};
-ghost use Rattle.sdl_behaviour.specs.Transitions.{IsAllowedBehaviour};
+ghost use Rattle.sdl_transition_behaviour.specs.Transitions.{IsAllowedBehaviour};
 ghost use Rattle.sdl_graph_binding.specs.Transitions.{IsByOffer, transitions_in, use_meant, use_made, save_made};
 
 use crate::agents::GraphAgents;
 use crate::faults::GraphFault;
 use crate::sets::Use;
 use arrayvec::ArrayVec;
-use sdl_behaviour::{Behaviour, Named, Row, Transition};
 use sdl_graph::Graph;
-use sdl_parts::Set;
-use sdl_parts::limits::{MOST_ROWS, MOST_USES};
-use sdl_saves::MOST_SAVES;
 use sdl_signal::lists::take_first;
 use sdl_signal::{Name, SetId, SignalId, StateId, name};
+use sdl_structure_parts::Set;
+use sdl_structure_parts::limits::{MOST_ROWS, MOST_USES};
+use sdl_transition_behaviour::{Behaviour, Named, Row, Transition};
+use sdl_transition_saves::MOST_SAVES;
 
 /// The place of the first set whose name is `text`.
 fn place_of_set(sets: &[Set], text: &str) -> Option<usize>

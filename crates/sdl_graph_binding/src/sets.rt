@@ -1,6 +1,6 @@
 //! What a designer says of the sets of a graph.
-use sdl_behaviour::Kind;
 use sdl_signal::{SignalId, StateId, Value};
+use sdl_transition_behaviour::Kind;
 
 /// A number that the graph uses, with the name that it means by it.
 pub type Use<'a> = (Kind, u32, &'a str);

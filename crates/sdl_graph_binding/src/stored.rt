@@ -1,17 +1,17 @@
 //! The stored transitions of a graph.
 ghost use Rattle.std.specs.Prelude.{◌≡◌, ◌⊎◌, ◌==◌, if◌then◌else◌, true, false, [], ◌∷◌, ◌++◌, map, IfSome, IfOk, IfErr, IsOk, IsErr, Err, MatchOption, MatchResult};
-ghost use Rattle.sdl_behaviour.specs.Offers.{IsFrameOf, Conforms};
-ghost use Rattle.sdl_conformance.specs.Stay.{CanEnd};
+ghost use Rattle.sdl_transition_behaviour.specs.Offers.{IsFrameOf, Conforms};
+ghost use Rattle.sdl_transition_conformance.specs.Stay.{CanEnd};
 ghost use Rattle.sdl_graph.specs.Answers.{IsKept};
 ghost use Rattle.sdl_graph_binding.specs.Transitions.{IsOfferFault, IsOneMore};
 ghost use Rattle.sdl_graph_binding.specs.declared.faults.GraphFault.TheVariants.{Memory, NoOffer, NoEnd};
 
 use crate::agents::{GraphAgents, keep_to_offer};
+use crate::breaches::Breaches;
 use crate::faults::GraphFault;
-use crate::marks::Marks;
-use sdl_behaviour::{Frame, Offer, Run, Step, Transition};
-use sdl_conformance::{can_end, copied_offer};
 use sdl_graph::Graph;
+use sdl_transition_behaviour::{Frame, Offer, Run, Step, Transition};
+use sdl_transition_conformance::{can_end, copied_offer};
 use std::alloc::Global;
 use std::marker::PhantomData;
 
@@ -21,7 +21,7 @@ use std::marker::PhantomData;
 pub struct Stored<G> {
     transitions: Vec<Transition<GraphAgents<G>>>,
     /// The marks, or the first fault.
-    marks: Result<Marks, GraphFault>,
+    marks: Result<Breaches, GraphFault>,
     /// A transition was begun and is not kept yet.
     begun: bool,
 }
@@ -31,7 +31,7 @@ pub struct Stored<G> {
 pub struct Answering<G> {
     number: u32,
     offer: Offer,
-    marks: Marks,
+    marks: Breaches,
     graph: PhantomData<G>,
 }
 
@@ -133,7 +133,7 @@ impl<G: Graph> Stored<G> {
         ensures begun { result.begun ≡ false }
         ensures fault { IfErr result.marks (λ fault. fault ≡ Memory) }
     {
-        let marks = match Marks::new(alloc) {
+        let marks = match Breaches::new(alloc) {
             Ok(marks) => Ok(marks),
             Err(_) => Err(GraphFault::Memory),
         };
@@ -144,7 +144,7 @@ impl<G: Graph> Stored<G> {
         }
     }
 
-    /// Keeps what the transition of the number does, with its offer. Where memory is refused, that is the fault, unless there is
+    /// LogStore what the transition of the number does, with its offer. Where memory is refused, that is the fault, unless there is
     /// one.
     pub fn keep(&mut self, number: u32, offer: Offer, run: Run)
         requires callable { (f : _) → IsFrameOf offer f.now → Run.pre run f }
@@ -165,7 +165,7 @@ impl<G: Graph> Stored<G> {
 
     /// The transitions, and the marks; or the first fault, which is that memory was refused where the transition that was begun
     /// last was not kept.
-    pub fn into_parts(self) -> Result<(Vec<Transition<GraphAgents<G>>>, Marks), GraphFault>
+    pub fn into_parts(self) -> Result<(Vec<Transition<GraphAgents<G>>>, Breaches), GraphFault>
         ensures transitions { IfOk result (λ parts. (parts.0 ≡ self.transitions) × IsOk self.marks × (self.begun ≡ false)) }
         ensures fault { IfErr result (λ fault. MatchResult self.marks (λ _. (fault ≡ Memory) × (self.begun ≡ true)) (λ first. fault ≡ first)) }
     {

@@ -2,7 +2,7 @@
 use Rattle.std.proofs.Common.{◌≡◌, ℕ, List, [], ◌∷◌, ◌++◌, Some, Bor, map, refl, ap, sym, ◌∙◌, append_assoc}
 use Rattle.std.specs.Option.{option_to_list}
 use Rattle.std.proofs.lemmas.List.{map-append}
-use Rattle.sdl_command.specs.Arguments.{last_word, words_before}
+use Rattle.sdl_app_command.specs.Arguments.{last_word, words_before}
 use Rattle.sdl_graph_program.specs.Words.{options_without, without_audit}
 
 last_behind : (words : List (List ℕ)) (file : List ℕ) → last_word (words ++ file ∷ []) ≡ Some file

@@ -2,8 +2,8 @@
 use Rattle.std.proofs.Common.{◌≡◌, ℕ, true, List, Option, inl, inr, sym, ◌∙◌, subst, arith}
 use Rattle.sdl_signal.specs.declared.ends.InputEnd.{InputEnd}
 use Rattle.sdl_signal.specs.declared.ends.OutputEnd.{OutputEnd}
-use Rattle.sdl_outcome.specs.declared.end.RunEnd.{RunEnd}
-use Rattle.sdl_file_runs.specs.Outcomes.{IsToldBy}
+use Rattle.sdl_run_outcome.specs.declared.end.RunEnd.{RunEnd}
+use Rattle.sdl_app_file_runs.specs.Outcomes.{IsToldBy}
 use Rattle.sdl_graph_program.specs.Outcomes.{HasAudited}
 
 -- its status is never that of a refusal

@@ -1,6 +1,6 @@
 -- What holds of a run holds where its chart, its structure and its routes are told otherwise.
 use Rattle.std.proofs.Common.{◌≡◌, List, Option, subst}
-use Rattle.sdl_parts.specs.Structure.{Structure}
+use Rattle.sdl_structure_parts.specs.Structure.{Structure}
 use Rattle.sdl_routes.specs.declared.route.TableRow.{TableRow}
 use Rattle.sdl_chart_words.specs.declared.sets.Charting.{Charting}
 

@@ -1,4 +1,4 @@
-pub use Rattle.sdl_file_commands.specs.Running
+pub use Rattle.sdl_app_file_commands.specs.Running
 pub mod Numbering
 pub mod Outcomes
 pub mod Words

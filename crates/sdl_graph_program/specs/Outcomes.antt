@@ -1,17 +1,17 @@
 -- What a graph's program comes to, and its exit statuses. (This project's own.)
 use Rattle.std.specs.Prelude.{◌≡◌, ℕ, ◌⊎◌, Bool, false, true, List, Option, Some, None, codes}
 use Rattle.std.specs.Io.KnownBytes.{Keeps, Appends}
-use Rattle.sdl_parts.specs.Structure.{Structure}
+use Rattle.sdl_structure_parts.specs.Structure.{Structure}
 use Rattle.sdl_routes.specs.declared.route.TableRow.{TableRow}
-use Rattle.sdl_behaviour.specs.declared.step.Frame.{Frame}
-use Rattle.sdl_behaviour.specs.declared.step.Step.{Step}
+use Rattle.sdl_transition_behaviour.specs.declared.step.Frame.{Frame}
+use Rattle.sdl_transition_behaviour.specs.declared.step.Step.{Step}
 use Rattle.sdl_transition.specs.Rules.{Rules}
-use Rattle.sdl_outcome.specs.Plan.{Plan}
-use Rattle.sdl_command.specs.declared.arguments.Options.{Options}
-use Rattle.sdl_file_commands.specs.Commands.{HasPrinted, HasListed}
-use Rattle.sdl_file_commands.specs.Files.{Declares}
-use Rattle.sdl_file_runs.specs.Outcomes.{HasMade, plan_with}
-use Rattle.sdl_file_commands.specs.Texts.{check_text}
+use Rattle.sdl_run_outcome.specs.Plan.{Plan}
+use Rattle.sdl_app_command.specs.declared.arguments.Options.{Options}
+use Rattle.sdl_app_file_commands.specs.Commands.{HasPrinted, HasListed}
+use Rattle.sdl_app_file_commands.specs.Files.{Declares}
+use Rattle.sdl_app_file_runs.specs.Outcomes.{HasMade, plan_with}
+use Rattle.sdl_app_file_commands.specs.Texts.{check_text}
 use Rattle.sdl_drawing_text.specs.declared.commands.Form.{Form}
 use Rattle.sdl_drawing_text.specs.Commands.{IsShown}
 use Rattle.sdl_chart_words.specs.declared.sets.Charting.{Charting}

@@ -1,7 +1,7 @@
 -- The option `--audit`, which a designer's program alone has. (This project's own.)
 use Rattle.std.specs.Prelude.{ℕ, Bool, false, if◌then◌else◌, List, [], ◌∷◌, ◌++◌, codes, bytes_eq}
 use Rattle.std.specs.Option.{option_to_list}
-use Rattle.sdl_command.specs.Arguments.{has, last_word, words_before}
+use Rattle.sdl_app_command.specs.Arguments.{has, last_word, words_before}
 
 -- options without it
 abbrev pub options_without : List (List ℕ) → List (List ℕ)

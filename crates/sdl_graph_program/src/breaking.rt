@@ -1,10 +1,10 @@
 //! The text of an offer that was broken: the set, the state and the signal, and what is not offered.
 use crate::naming::{Meant, State, Way};
 use crate::numbering::numbered_in;
-use sdl_behaviour::{Kind, Offer, Via};
-use sdl_conformance::Breach;
 use sdl_graph_binding::Design;
 use sdl_signal::{SignalId, Sort};
+use sdl_transition_behaviour::{Kind, Offer, Via};
+use sdl_transition_conformance::Breach;
 use std::fmt;
 use std::fmt::{Display, Formatter};
 

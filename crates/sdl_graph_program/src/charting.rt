@@ -4,10 +4,10 @@ ghost use Rattle.std.specs.Prelude.{◌≡◌, IfOk, option_map};
 use sdl_chart_runs::ToChart;
 use sdl_chart_text::States;
 use sdl_chart_words::Charting;
-use sdl_expression_text::set_named;
 use sdl_graph_binding::Design;
-use sdl_parts::Structure;
+use sdl_listing_expression_text::set_named;
 use sdl_signal::SetId;
+use sdl_structure_parts::Structure;
 use std::alloc::{AllocError, Global};
 
 /// What the chart is written with, where one is asked for.

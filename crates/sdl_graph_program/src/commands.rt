@@ -1,25 +1,25 @@
 //! The commands of a graph's program up to a run.
 ghost use Rattle.std.specs.Prelude.{◌≡◌, ◌≢◌, ℕ, List, false, None, IfOk, IfErr, IsErr};
 ghost use Rattle.std.specs.Io.KnownBytes.{Keeps};
-ghost use Rattle.sdl_file_commands.specs.Commands.{IsDone};
-ghost use Rattle.sdl_file_commands.specs.Files.{Declares};
-ghost use Rattle.sdl_file_runs.specs.Outcomes.{HasRun};
-ghost use Rattle.sdl_file_commands.specs.Running.{CanRun};
+ghost use Rattle.sdl_app_file_commands.specs.Commands.{IsDone};
+ghost use Rattle.sdl_app_file_commands.specs.Files.{Declares};
+ghost use Rattle.sdl_app_file_runs.specs.Outcomes.{HasRun};
+ghost use Rattle.sdl_app_file_commands.specs.Running.{CanRun};
 ghost use Rattle.sdl_graph_program.specs.Outcomes.{IsDoneAtOnce, IsToldOf};
 
 use crate::words::{PlainWords, plain_words};
+use sdl_app_command::arguments::{Arguments, Command, Options, read_arguments};
+use sdl_app_command::errors::{without_memory, write_error};
+use sdl_app_command::status::{REFUSED, WRONG_ARGUMENTS};
+use sdl_app_file_commands::commands::{check_command, checked_file, routes_command, routes_in};
+use sdl_app_file_commands::files::{FileRead, read_file};
+use sdl_app_file_commands::words::{words_behind_the_name, words_of};
 use sdl_chart_words::{Charting, Request, charting_of, request_of};
-use sdl_command::arguments::{Arguments, Command, Options, read_arguments};
-use sdl_command::errors::{without_memory, write_error};
-use sdl_command::status::{REFUSED, WRONG_ARGUMENTS};
 use sdl_drawing_text::{form_of, structure_at};
 use sdl_explaining::explain;
-use sdl_file_commands::commands::{check_command, checked_file, routes_command, routes_in};
-use sdl_file_commands::files::{FileRead, read_file};
-use sdl_file_commands::words::{words_behind_the_name, words_of};
-use sdl_parts::Checked;
 use sdl_routes::Routes;
 use sdl_structure::FileFault;
+use sdl_structure_parts::Checked;
 use std::alloc::{AllocError, Global};
 use std::io::Write;
 use std::rt::{Env, Files};
@@ -79,7 +79,7 @@ pub fn prepare_file<W: Write, E: Write>(
 }
 
 /// The same, with an audit of what the run leaves where that is asked for.
-#[tactic(auto, unfolding(sdl_file_commands::specs::Running::CanRun))]
+#[tactic(auto, unfolding(sdl_app_file_commands::specs::Running::CanRun))]
 fn prepare_asked<W: Write, E: Write>(
     alloc: Global,
     file: &[u8],

@@ -1,8 +1,8 @@
 //! The texts of the faults of a graph.
 use crate::misfitting::MisfitPart;
 use crate::numbering::Numbered;
-use sdl_command::errors::{without_memory, write_error};
-use sdl_file_commands::faults::write_bind_fault;
+use sdl_app_command::errors::{without_memory, write_error};
+use sdl_app_file_commands::faults::write_bind_fault;
 use sdl_graph_binding::{Design, GraphFault};
 use sdl_signal::SetId;
 use sdl_transition::BindFault;

@@ -15,9 +15,8 @@ mod words;
 
 pub use commands::{Prepared, prepare, prepare_file};
 pub use runs::{BROKEN, refused, run_prepared};
-pub use sdl_behaviour::{Dest, Frame, Kind, Offer, Run, Step, Via};
-pub use sdl_command::status::REFUSED;
-pub use sdl_file_commands::streams::{Input, Output, shared_buffer};
+pub use sdl_app_command::status::REFUSED;
+pub use sdl_app_file_commands::streams::{Input, Output, shared_buffer};
 pub use sdl_graph::{
     Agent, Answer, Graph, Inward, NoStep, OfferBuilder, Outward, SetLists, States, StepBuilder,
     answer_of, boolean_parameter, boolean_variable, in_place, integer_parameter, integer_variable,
@@ -25,3 +24,4 @@ pub use sdl_graph::{
 };
 pub use sdl_graph_binding::{AgentSets, Answering, Design, GraphFault, SetDesign, Stored, Use};
 pub use sdl_signal::{ChannelId, GateId, Pid, SetId, SignalId, Sort, StateId, Value};
+pub use sdl_transition_behaviour::{Dest, Frame, Kind, Offer, Run, Step, Via};

@@ -1,9 +1,9 @@
 //! The text of the part of a design that does not fit the structure.
 use crate::naming::{Meant, State, place_of, word_of};
 use crate::numbering::Numbered;
-use sdl_behaviour::Kind;
 use sdl_graph_binding::{Design, Misfit};
 use sdl_signal::{SetId, StateId};
+use sdl_transition_behaviour::Kind;
 use std::fmt;
 use std::fmt::{Display, Formatter};
 

@@ -1,7 +1,7 @@
 //! The names that a design gives to the numbers of its parts.
-use sdl_behaviour::{Kind, Via};
 use sdl_graph_binding::Design;
 use sdl_signal::{SetId, StateId};
+use sdl_transition_behaviour::{Kind, Via};
 use std::fmt;
 use std::fmt::{Display, Formatter};
 

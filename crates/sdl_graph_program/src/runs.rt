@@ -2,8 +2,8 @@
 ghost use Rattle.std.specs.Prelude.{◌≡◌, ◌⊎◌, MatchOption, option_map};
 ghost use Rattle.std.specs.Io.KnownBytes.{Keeps};
 ghost use Rattle.sdl_transition.specs.Bound.{IsBound, structure_of, routes_of};
-ghost use Rattle.sdl_file_commands.specs.Running.{CanRun, HasBudget};
-ghost use Rattle.sdl_driver.specs.Closings.{plan_of_bound};
+ghost use Rattle.sdl_app_file_commands.specs.Running.{CanRun, HasBudget};
+ghost use Rattle.sdl_run_driver.specs.Closings.{plan_of_bound};
 ghost use Rattle.sdl_graph_program.specs.Outcomes.{HasMadeAudited, HasMadeAsked, HasRunGraphOrNot};
 
 use crate::audited::run_audited;
@@ -12,13 +12,13 @@ use crate::charting::to_chart_of;
 use crate::commands::Prepared;
 use crate::faults::write_graph_fault;
 use crate::numbering::Numbered;
+use sdl_app_command::errors::{without_memory, write_error};
+use sdl_app_command::status::REFUSED;
+use sdl_app_file_runs::in_threads::run_bound_in_threads;
+use sdl_app_file_runs::running::Settings;
 use sdl_chart_runs::{ToChart, run_charted};
-use sdl_command::errors::{without_memory, write_error};
-use sdl_command::status::REFUSED;
-use sdl_file_runs::in_threads::run_bound_in_threads;
-use sdl_file_runs::running::Settings;
 use sdl_graph::Graph;
-use sdl_graph_binding::{Broken, Design, GraphAgents, GraphFault, Marks, Stored, bind_graph};
+use sdl_graph_binding::{Breaches, Broken, Design, GraphAgents, GraphFault, Stored, bind_graph};
 use sdl_transition::{Agents, Bound};
 use std::alloc::Global;
 use std::io::{Read, Write};
@@ -46,7 +46,7 @@ pub fn refused<E: Write>(errors: &mut E, design: &Design, fault: GraphFault) -> 
 /// Binds the stored transitions to the structure and runs the agents, and answers the exit status: the first refusal, also of
 /// what was to be stored, or how the run ended. Where a transition broke its offer, a line of standard error names the first, with the number of
 /// answers that broke theirs. A second one says what the offer of the first does not allow. The logs are stored where a trace or an audit was asked for, and else counted alone.
-#[tactic(auto, unfolding(sdl_file_commands::specs::Running::CanRun))]
+#[tactic(auto, unfolding(sdl_app_file_commands::specs::Running::CanRun))]
 pub fn run_prepared<G: Graph + Send, T: Threads + Wait + Sync, R: Read, W: Write, E: Write>(
     rt: &T,
     prepared: Prepared,
@@ -100,7 +100,7 @@ fn run_marked<G: Graph + Send, T: Threads + Wait + Sync, R: Read, W: Write, E: W
     telling: &Telling,
     bound: Bound<GraphAgents<G>>,
     design: &Design,
-    marks: &Marks,
+    marks: &Breaches,
     input: &mut R,
     output: &mut W,
     errors: &mut E,

@@ -1,6 +1,6 @@
 //! The words after the program's name, and the option `--audit` apart from them.
 ghost use Rattle.std.specs.Prelude.{◌≡◌, ◌++◌, map, codes, IfOk, OnOk};
-ghost use Rattle.sdl_command.specs.Arguments.{has, words_before};
+ghost use Rattle.sdl_app_command.specs.Arguments.{has, words_before};
 ghost use Rattle.sdl_graph_program.specs.Words.{options_without, without_audit, plain_words_of, asks_for_audit};
 
 use std::alloc::{AllocError, Global};

@@ -1,13 +1,13 @@
 //! A chain of sixteen blocks in threads, 66 workers: the first two blocks make their first steps at once.
 ghost use Rattle.sdl_transition.specs.Bound.{IsBound};
 
-use sdl_behaviour::{Dest, Frame, Kind, Offer, Run, Step, Via};
 use sdl_graph::{Graph, OfferBuilder, StepBuilder, integer_parameter, no_step};
 use sdl_graph_binding::{Design, GraphAgents, SetDesign, Stored, bind_graph};
 use sdl_run::{AuditFault, Closing, Gate, Ledger, RunEnd, StartFault, audit, run_threads};
 use sdl_signal::{SignalId, Sort, StateId, Value};
 use sdl_test_systems::routes_of;
 use sdl_transition::Bound;
+use sdl_transition_behaviour::{Dest, Frame, Kind, Offer, Run, Step, Via};
 use std::alloc::{AllocError, Global};
 use std::sync::Wait;
 use std::sync::atomic::AtomicU64;

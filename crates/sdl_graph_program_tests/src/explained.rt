@@ -1,5 +1,5 @@
 //! The second line below a fault of a structure file.
-use sdl_command::arguments::{Command, Options};
+use sdl_app_command::arguments::{Command, Options};
 use sdl_graph_program::prepare_file;
 use std::test::Fail;
 

@@ -1,9 +1,9 @@
 //! A run of a graph as a designer's program makes it, over a structure text.
 ghost use Rattle.std.specs.Prelude.{IfOk};
-ghost use Rattle.sdl_file_commands.specs.Running.{CanRun};
+ghost use Rattle.sdl_app_file_commands.specs.Running.{CanRun};
 
 use super::graphs::Graphs;
-use sdl_command::arguments::{Command, Options};
+use sdl_app_command::arguments::{Command, Options};
 use sdl_graph_program::{Design, Frame, Prepared, Run, Stored, prepare_file, run_prepared};
 use std::alloc::Global;
 use std::sync::Wait;

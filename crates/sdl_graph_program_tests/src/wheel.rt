@@ -1,9 +1,9 @@
 //! A wheel of 16 positions, its structure, and a wheel with a broken offer.
-use sdl_behaviour::{Dest, Frame, Kind, Offer, Step, Via};
-use sdl_conformance::Breach;
 use sdl_graph::{OfferBuilder, StepBuilder, integer_variable, no_offer, no_step};
 use sdl_graph_binding::{Design, SetDesign};
 use sdl_signal::{SignalId, Sort, StateId, Value};
+use sdl_transition_behaviour::{Dest, Frame, Kind, Offer, Step, Via};
+use sdl_transition_conformance::Breach;
 
 /// Signals: 0 turn, 1 back, 2 look, 3 halt, 4 at.
 pub const WHEEL: &str = r#"version = 1

@@ -3,13 +3,13 @@ ghost use Rattle.sdl_transition.specs.Bound.{IsBound};
 
 use super::wheel::{BREACH, BROKEN, DESIGN, FAULTY, SOUND, TRANSITIONS, WHEEL};
 use super::wheels::Wheels;
-use sdl_behaviour::{Frame, Run};
-use sdl_graph_binding::{Broken, GraphAgents, GraphFault, Marks, Stored, bind_graph};
+use sdl_graph_binding::{Breaches, Broken, GraphAgents, GraphFault, Stored, bind_graph};
 use sdl_graph_run::run_graph;
-use sdl_log::{Event, Keeps, Unstored};
+use sdl_instances_log::{Event, LogStore, Unstored};
 use sdl_run::{RunEnd, StartFault};
 use sdl_test_systems::routes_of;
 use sdl_transition::Bound;
+use sdl_transition_behaviour::{Frame, Run};
 use std::alloc::Global;
 use std::process::Abort;
 use std::test::Fail;
@@ -27,10 +27,10 @@ struct Ran {
 }
 
 /// Runs agents that are bound, with logs of this kind.
-fn run_bound<K: Keeps>(
+fn run_bound<K: LogStore>(
     alloc: Global,
     bound: Bound<GraphAgents<Wheels>>,
-    marks: &Marks,
+    marks: &Breaches,
     lines: &[u8],
 ) -> Result<Ran, GraphFault>
     requires { IsBound (λ _ _ _. Unit {0}) bound }
@@ -66,7 +66,7 @@ fn run_bound<K: Keeps>(
 }
 
 /// Stores the transitions of the wheel whose start has this number, and runs it.
-fn run_wheel<K: Keeps>(alloc: Global, start: u32, lines: &[u8]) -> Result<Ran, GraphFault> {
+fn run_wheel<K: LogStore>(alloc: Global, start: u32, lines: &[u8]) -> Result<Ran, GraphFault> {
     let Ok((checked, routes)) = routes_of(alloc, WHEEL) else {
         return Err(GraphFault::Memory);
     };

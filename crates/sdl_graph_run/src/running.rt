@@ -1,13 +1,13 @@
 //! A whole run of the agents of a process graph, on one thread.
 ghost use Rattle.std.specs.Prelude.{◌≡◌, ◌≤◌, IfOk, IfErr};
 ghost use Rattle.sdl_transition.specs.Bound.{IsBound};
-ghost use Rattle.sdl_driver.specs.Closings.{HasReadIn, HasWrittenIn, StopsByMemory, IsRunOf, IsSameBound, outcome_in, plan_of_bound};
-ghost use Rattle.sdl_driver.specs.Ended.{HasEnded};
-ghost use Rattle.sdl_serial_run.specs.Serial.{IsBackIn};
+ghost use Rattle.sdl_run_driver.specs.Closings.{HasReadIn, HasWrittenIn, StopsByMemory, IsRunOf, IsSameBound, outcome_in, plan_of_bound};
+ghost use Rattle.sdl_run_driver.specs.Ended.{HasEnded};
+ghost use Rattle.sdl_run_serial.specs.Serial.{IsBackIn};
 
 use sdl_graph::Graph;
-use sdl_graph_binding::{Broken, GraphAgents, Marks};
-use sdl_log::{Event, Keeps};
+use sdl_graph_binding::{Breaches, Broken, GraphAgents};
+use sdl_instances_log::{Event, LogStore};
 use sdl_run::{Closing, StartFault, run_keeping};
 use sdl_transition::Bound;
 use std::alloc::Global;
@@ -15,7 +15,7 @@ use std::io::{Read, Write};
 
 /// What a run of a graph leaves.
 #[derive(Drop)]
-pub struct GraphClosing<G, K: Keeps = Vec<Event>> {
+pub struct GraphClosing<G, K: LogStore = Vec<Event>> {
     pub closing: Closing<GraphAgents<G>, K>,
     /// The transitions that broke their offers, none where each kept to its own.
     pub broken: Option<Broken>,
@@ -24,10 +24,10 @@ pub struct GraphClosing<G, K: Keeps = Vec<Event>> {
 /// Runs the agents of a graph on one thread until they end, as `run_keeping` does, with logs that are kept as their type
 /// says: whole, or counted alone. Each step meets the offer of its transition. `marks` are those that the transitions share.
 /// What they say at the end is the closing's `broken`.
-pub fn run_graph<G: Graph, K: Keeps, R: Read, W: Write>(
+pub fn run_graph<G: Graph, K: LogStore, R: Read, W: Write>(
     alloc: Global,
     bound: Bound<GraphAgents<G>>,
-    marks: &Marks,
+    marks: &Breaches,
     budget: u32,
     schedule: &[u32],
     input: &mut R,

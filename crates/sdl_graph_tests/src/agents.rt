@@ -1,11 +1,11 @@
 //! Agents that know their rows from their steps: a lamp with three states, which saves a press while it flashes.
-use sdl_behaviour::{Dest, Frame, Offer, Step, Via};
 use sdl_graph::{
     Agent, Answer, NoStep, OfferBuilder, SetLists, States, StepBuilder, answer_of, next_state,
     offer_in, parameter, transitions_of, variable,
 };
 use sdl_graph_binding::AgentSets;
 use sdl_signal::{Pid, SetId, SignalId, Sort, StateId, Value};
+use sdl_transition_behaviour::{Dest, Frame, Offer, Step, Via};
 use std::test::Fail;
 
 const PRESS: SignalId = SignalId(0);

@@ -1,10 +1,10 @@
 //! What marked answers are, and what is marked.
 use super::breaking::{CONFORMING, NUMBERS, breach, breaking_frame, offer, step};
-use sdl_behaviour::{Next, Step};
-use sdl_conformance::{Breach, first_broken};
 use sdl_graph::{StepBuilder, no_step};
 use sdl_graph_binding::{Broken, Marks, keep_to_offer};
 use sdl_signal::{SetId, SignalId, StateId, Value};
+use sdl_transition_behaviour::{Next, Step};
+use sdl_transition_conformance::{Breach, first_broken};
 use std::test::Fail;
 
 /// The answer of this number, kept to its offer.

@@ -1,9 +1,9 @@
 //! Steps that break their offer, each number in one way.
 use super::sample::values_of;
-use sdl_behaviour::{Dest, Frame, Offer, Step, Via};
-use sdl_conformance::Breach;
 use sdl_graph::{OfferBuilder, StepBuilder};
 use sdl_signal::{GateId, Pid, SetId, Signal, SignalId, Sort, StateId, Value};
+use sdl_transition_behaviour::{Dest, Frame, Offer, Step, Via};
+use sdl_transition_conformance::Breach;
 
 const ASK: SignalId = SignalId(0);
 

@@ -1,9 +1,9 @@
 //! What finds no room makes an offer that cannot end, or a step that conforms to no offer.
 use super::sample::{ANSWER, sample_frame};
-use sdl_behaviour::{Dest, Offer, Step, Via};
-use sdl_conformance::{can_end, conforms};
 use sdl_graph::{OfferBuilder, StepBuilder};
 use sdl_signal::{SetId, Sort, StateId, Value};
+use sdl_transition_behaviour::{Dest, Offer, Step, Via};
+use sdl_transition_conformance::{can_end, conforms};
 use std::test::Fail;
 
 /// An offer with so many outputs, all the same.

@@ -1,9 +1,9 @@
 //! A step that conforms to its offer, and one that breaks it in each way.
 use super::sample::{ANSWER, GATE, NOTICE, sample_frame, sample_offer};
-use sdl_behaviour::{Dest, Next, Step, Via};
-use sdl_conformance::{can_end, conforms, copied_offer, kept};
 use sdl_graph::{StepBuilder, no_offer, no_step};
 use sdl_signal::{Pid, SetId, SignalId, StateId, Value};
+use sdl_transition_behaviour::{Dest, Next, Step, Via};
+use sdl_transition_conformance::{can_end, conforms, copied_offer, kept};
 use std::test::Fail;
 
 /// To state 1.

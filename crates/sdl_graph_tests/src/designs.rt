@@ -1,10 +1,10 @@
 //! Binding by names, and the first fault of a design.
 use super::pair::{ASKER, DESIGN, PAIR, TELLER};
 use super::storing::{BoundSet, Unfit, bind_pair};
-use sdl_behaviour::Kind;
 use sdl_graph_binding::{Design, GraphFault, Misfit, SetDesign};
 use sdl_signal::{SetId, SignalId, StateId, Value};
 use sdl_transition::BindFault;
+use sdl_transition_behaviour::Kind;
 use std::alloc::Global;
 use std::test::Fail;
 

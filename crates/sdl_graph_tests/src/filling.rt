@@ -1,9 +1,9 @@
 //! A step that is put together where it stands is the one that a builder builds, part by part.
 use super::sample::{ANSWER, sample_frame};
-use sdl_behaviour::{Dest, Frame, Step, Via};
-use sdl_conformance::conforms;
 use sdl_graph::{OfferBuilder, StepBuilder, in_place};
 use sdl_signal::{Pid, SetId, Sort, StateId, Value};
+use sdl_transition_behaviour::{Dest, Frame, Step, Via};
+use sdl_transition_conformance::conforms;
 use std::test::Fail;
 
 /// What is put into a step: so many outputs with so many parameters each, so many creates, and a variable at this place.

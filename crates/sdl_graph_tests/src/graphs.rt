@@ -1,7 +1,7 @@
 //! The graph of these tests.
 use super::pair;
-use sdl_behaviour::{Frame, Offer, Step};
 use sdl_graph::Graph;
+use sdl_transition_behaviour::{Frame, Offer, Step};
 
 pub struct Graphs;
 

@@ -1,10 +1,10 @@
 //! A graph of two transitions, as a designer writes it.
 use super::sample::sample_frame;
-use sdl_behaviour::{Dest, Frame, Next, Offer, Step, Via};
 use sdl_graph::{
     Graph, OfferBuilder, StepBuilder, answer, integer_parameter, no_offer, no_step, pid_variable,
 };
 use sdl_signal::{Pid, SignalId, Sort, StateId, Value};
+use sdl_transition_behaviour::{Dest, Frame, Next, Offer, Step, Via};
 use std::test::Fail;
 
 const DARK: StateId = StateId(0);

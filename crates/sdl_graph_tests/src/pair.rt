@@ -1,8 +1,8 @@
 //! A graph for two sets in one block, and the structure for it.
-use sdl_behaviour::{Dest, Frame, Kind, Offer, Step, Via};
 use sdl_graph::{OfferBuilder, StepBuilder, no_offer, no_step};
 use sdl_graph_binding::{Design, SetDesign, Use};
 use sdl_signal::{SignalId, Sort, StateId, Value};
+use sdl_transition_behaviour::{Dest, Frame, Kind, Offer, Step, Via};
 
 /// Sets: 0 Asker, 1 Teller. Signals: 0 ask, 1 tell.
 pub const PAIR: &str = r#"version = 1

@@ -1,8 +1,8 @@
 //! An offer and a frame of it.
 use arrayvec::ArrayVec;
-use sdl_behaviour::{Frame, Offer, Via};
 use sdl_graph::OfferBuilder;
 use sdl_signal::{GateId, Pid, SetId, Signal, SignalId, Sort, StateId, Value};
+use sdl_transition_behaviour::{Frame, Offer, Via};
 
 pub const ANSWER: SignalId = SignalId(1);
 

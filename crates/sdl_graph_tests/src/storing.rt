@@ -1,8 +1,8 @@
 //! The transitions of the pair, stored and bound.
 use super::graphs::Graphs;
-use sdl_behaviour::{Behaviour, Frame, Run};
 use sdl_graph_binding::{Design, GraphAgents, GraphFault, Stored, bind_graph};
 use sdl_test_systems::{Stop, routes_of};
+use sdl_transition_behaviour::{Behaviour, Frame, Run};
 use std::alloc::{AllocError, AllocFailed, Global};
 use std::test::Fail;
 

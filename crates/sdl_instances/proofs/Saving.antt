@@ -3,11 +3,11 @@ use Rattle.std.proofs.Common.{◌≡◌, ℕ, List, Option, None, Some, Bool, fa
 use Rattle.sdl_signal.specs.declared.ids.StateId.{StateId}
 use Rattle.sdl_signal.specs.declared.values.Pid.{Pid}
 use Rattle.sdl_signal.specs.declared.values.Item.{Item}
-use Rattle.sdl_saves.specs.Saves.{saved_by}
-use Rattle.sdl_behaviour.specs.declared.step.Frame.{Frame}
-use Rattle.sdl_behaviour.specs.declared.step.Step.{Step}
-use Rattle.sdl_log.specs.declared.event.Done.{Done}
-use Rattle.sdl_log.specs.declared.event.Trigger.TheVariants as trigger
+use Rattle.sdl_transition_saves.specs.Saves.{saved_by}
+use Rattle.sdl_transition_behaviour.specs.declared.step.Frame.{Frame}
+use Rattle.sdl_transition_behaviour.specs.declared.step.Step.{Step}
+use Rattle.sdl_instances_log.specs.declared.event.Done.{Done}
+use Rattle.sdl_instances_log.specs.declared.event.Trigger.TheVariants as trigger
 use Rattle.sdl_routes.specs.declared.route.Wish.{Wish}
 use Rattle.sdl_signal.specs.declared.ids.RouteId.{RouteId}
 use Rattle.sdl_instances.specs.Machine.{State, System, Turns}

@@ -8,27 +8,27 @@ use Rattle.sdl_signal.specs.declared.values.Pid.TheVariants as pid
 use Rattle.sdl_signal.specs.declared.values.Sort.{Sort}
 use Rattle.sdl_signal.specs.declared.values.Value.{Value}
 use Rattle.sdl_signal.specs.declared.values.Item.{Item}
-use Rattle.sdl_parts.specs.declared.parts.Set.{Set}
-use Rattle.sdl_parts.specs.Structure.{Structure}
+use Rattle.sdl_structure_parts.specs.declared.parts.Set.{Set}
+use Rattle.sdl_structure_parts.specs.Structure.{Structure}
 use Rattle.sdl_routes.specs.declared.route.TableRow.{TableRow}
-use Rattle.sdl_behaviour.specs.declared.step.Frame.{Frame}
-use Rattle.sdl_behaviour.specs.declared.step.Step.{Step}
-use Rattle.sdl_behaviour.specs.declared.offer.Offer.{Offer}
-use Rattle.sdl_behaviour.specs.declared.offer.OfferedOutput.{OfferedOutput}
-use Rattle.sdl_behaviour.specs.declared.offer.SignalSorts.{SignalSorts}
+use Rattle.sdl_transition_behaviour.specs.declared.step.Frame.{Frame}
+use Rattle.sdl_transition_behaviour.specs.declared.step.Step.{Step}
+use Rattle.sdl_transition_behaviour.specs.declared.offer.Offer.{Offer}
+use Rattle.sdl_transition_behaviour.specs.declared.offer.OfferedOutput.{OfferedOutput}
+use Rattle.sdl_transition_behaviour.specs.declared.offer.SignalSorts.{SignalSorts}
 use Rattle.sdl_transition.specs.Offers.{IsLegalPid, IsLegalValue}
 use Rattle.sdl_signal.specs.Sorts.{sort_of, AreOfSorts}
 use Rattle.sdl_instances.specs.declared.process_set.ProcessSet.{ProcessSet}
-use Rattle.sdl_log.specs.declared.event.Event.{Event}
-use Rattle.sdl_log.specs.declared.event.Event.TheVariants as event
-use Rattle.sdl_log.specs.declared.event.Arrival.{Arrival}
-use Rattle.sdl_log.specs.declared.event.Arrival.TheVariants as arrival
-use Rattle.sdl_saves.specs.Saves.{IsInRange}
-use Rattle.sdl_processes.specs.Ports.{AllSaved}
-use Rattle.sdl_processes.specs.Record.{Record, saved_now}
+use Rattle.sdl_instances_log.specs.declared.event.Event.{Event}
+use Rattle.sdl_instances_log.specs.declared.event.Event.TheVariants as event
+use Rattle.sdl_instances_log.specs.declared.event.Arrival.{Arrival}
+use Rattle.sdl_instances_log.specs.declared.event.Arrival.TheVariants as arrival
+use Rattle.sdl_transition_saves.specs.Saves.{IsInRange}
+use Rattle.sdl_instances_processes.specs.Ports.{AllSaved}
+use Rattle.sdl_instances_processes.specs.Record.{Record, saved_now}
 use Rattle.sdl_transition.specs.Rules.{Rules, RowRule, rules_for}
 use Rattle.sdl_instances.specs.Legal.{IsLegal}
-use Rattle.sdl_processes.specs.Places.{is_of}
+use Rattle.sdl_instances_processes.specs.Places.{is_of}
 use Rattle.sdl_instances.specs.Machine.{State, System, LivesAs, pids, rules_at}
 use Rattle.sdl_instances.specs.Run.{turns, arrived, origins, IsRun}
 

@@ -3,8 +3,8 @@ use Rattle.std.specs.Prelude.{◌≡◌, Some, false}
 use Rattle.sdl_signal.specs.declared.ids.StateId.{StateId}
 use Rattle.sdl_signal.specs.declared.values.Pid.{Pid}
 use Rattle.sdl_signal.specs.declared.values.Item.{Item}
-use Rattle.sdl_saves.specs.Saves.{saved_by}
-use Rattle.sdl_processes.specs.Record.{Record}
+use Rattle.sdl_transition_saves.specs.Saves.{saved_by}
+use Rattle.sdl_instances_processes.specs.Record.{Record}
 use Rattle.sdl_instances.specs.Machine.{State, LivesAs}
 
 -- p lives in a state that does not save the item's signal

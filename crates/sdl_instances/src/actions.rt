@@ -2,21 +2,21 @@
 ghost use Rattle.std.specs.Prelude.{◌≡◌, ◌+◌, ◌<◌, ◌≤◌, ◌^◌, ◌++◌, ◌∷◌, [], ℕ, List, Some, length};
 ghost use Rattle.sdl_signal.specs.declared.values.Pid.{Pid};
 ghost use Rattle.sdl_signal.specs.declared.values.Sort.{Sort};
-ghost use Rattle.sdl_processes.specs.Record.{Record};
+ghost use Rattle.sdl_instances_processes.specs.Record.{Record};
 ghost use Rattle.sdl_transition.specs.Rules.{block_rules};
 ghost use Rattle.sdl_transition.specs.Index.{IsIndexed};
 ghost use Rattle.sdl_instances.specs.Machine.{Does, set_of};
-ghost use Rattle.sdl_instances.specs.Living.{state_of, creatable_of, StandsAt, CanAct, CanCarryOut, CarriesOut, TakesAt, system_with, mark_after};
-ghost use Rattle.sdl_log.specs.declared.event.Done.{Done};
+ghost use Rattle.sdl_instances.specs.Living.{state_of, creatable_of, StandsAt, CanAct, CanCarryOut, CarriesOut, TakesAt, system_with, output_stamp_after};
+ghost use Rattle.sdl_instances_log.specs.declared.event.Done.{Done};
 ghost use Rattle.std.specs.List.{AllByRecursion, flat_map};
 ghost use Rattle.sdl_instances.specs.Run.{origin_by, sent_by};
 
 use crate::living::Living;
-use crate::outputs::Mark;
+use crate::outputs::OutputStamp;
 use crate::process_set::ProcessSet;
 use arrayvec::ArrayVec;
-use sdl_log::Done;
-use sdl_processes::copies::add_values;
+use sdl_instances_log::Done;
+use sdl_instances_processes::copies::add_values;
 use sdl_routes::Routes;
 use sdl_signal::{Item, Signal};
 use sdl_transition::{Action, Agents, BlockParts};
@@ -37,15 +37,15 @@ fn act<S: Agents>(
     sets: &[ProcessSet],
     actor: &Actor<S>,
     action: &Action,
-    mark: Mark,
+    mark: OutputStamp,
     done: &mut ArrayVec<Done, 8>,
-) -> Mark
+) -> OutputStamp
     requires indexed { IsIndexed actor.now.parts.now }
     requires ready { CanCarryOut sets.now actor.now.place 1 (creatable_of living.old) (state_of living.old) }
     requires creatable { CanAct sets.now (block_rules actor.now.parts.now) action.now }
     requires room { length done.old.items + 1 ≤ 8 }
     requires numbers { mark.origin.number + 1 < 2 ^ 64 }
-    ensures does { (d : Done) × (done.new.items ≡ done.old.items ++ d ∷ []) × (result ≡ mark_after mark d) × CarriesOut S.may sets.now actor.now.routes.now (block_rules actor.now.parts.now) actor.now.place mark (action.now ∷ []) done.old.items (done.old.items ++ d ∷ []) (state_of living.old) (state_of living.new) }
+    ensures does { (d : Done) × (done.new.items ≡ done.old.items ++ d ∷ []) × (result ≡ output_stamp_after mark d) × CarriesOut S.may sets.now actor.now.routes.now (block_rules actor.now.parts.now) actor.now.place mark (action.now ∷ []) done.old.items (done.old.items ++ d ∷ []) (state_of living.old) (state_of living.new) }
     ensures ready { (n : ℕ) → CanCarryOut sets.now actor.now.place (n + 1) (creatable_of living.old) (state_of living.old) → CanCarryOut sets.now actor.now.place n (creatable_of living.new) (state_of living.new) }
 {
     match action {
@@ -69,7 +69,7 @@ pub fn act_all<S: Agents>(
     sets: &[ProcessSet],
     actor: &Actor<S>,
     actions: &[Action],
-    mark: Mark,
+    mark: OutputStamp,
     done: &mut ArrayVec<Done, 8>,
 )
     requires indexed { IsIndexed actor.now.parts.now }

@@ -4,8 +4,8 @@ ghost use Rattle.std.specs.Option.{ForSome};
 ghost use Rattle.sdl_signal.specs.declared.ids.SetId.{SetId};
 ghost use Rattle.sdl_signal.specs.declared.values.Pid.{Pid};
 ghost use Rattle.sdl_instances.specs.Legal.{GoesTo, IsOfSet};
-ghost use Rattle.sdl_log.specs.Counts.{AreCountsOf};
-ghost use Rattle.sdl_log.specs.declared.event.Arrival.TheVariants as arrival;
+ghost use Rattle.sdl_instances_log.specs.Counts.{AreCountsOf};
+ghost use Rattle.sdl_instances_log.specs.declared.event.Arrival.TheVariants as arrival;
 ghost use Rattle.sdl_instances.specs.Machine.{Arrives, number_living};
 ghost use Rattle.std.specs.Prelude.{IsTrue, ◌↔◌};
 ghost use Rattle.sdl_instances.specs.Core.{IsReady, arrival_event, IsLivingAt, IsLegalIn, IsSound, IsBoundIn, signals_of, sets_of};
@@ -15,17 +15,17 @@ ghost use Rattle.sdl_routes.specs.declared.route.TableRow.{TableRow};
 
 use crate::ready::Look;
 use crate::table::Table;
-use sdl_log::{Arrival, Counts, Event, Keeps};
-use sdl_parts::Checked;
+use sdl_instances_log::{Arrival, Counts, Event, LogStore};
 use sdl_routes::Routes;
 use sdl_signal::Item;
+use sdl_structure_parts::Checked;
 use sdl_transition::{Agents, BlockParts, Step};
 use std::alloc::{AllocError, Global};
 
 /// The instances of a block with their input ports, the log of all that happened to them, and the behaviours of the
 /// block's sets.
 #[derive(Drop)]
-pub struct BlockCore<S, K: Keeps = Vec<Event>> {
+pub struct BlockCore<S, K: LogStore = Vec<Event>> {
     pub(crate) table: Table<K>,
     pub(crate) parts: BlockParts<S>,
     /// What the last transition answered, as far as the log has not taken it. The step stays, so that none is made for each turn.
@@ -33,11 +33,11 @@ pub struct BlockCore<S, K: Keeps = Vec<Event>> {
     pub(crate) step: Box<Step>,
 }
 
-impl<S: Agents, K: Keeps> BlockCore<S, K> {
+impl<S: Agents, K: LogStore> BlockCore<S, K> {
     ghost use Rattle.std.specs.Prelude.{OnOk, OnErr, Some};
     ghost use Rattle.sdl_signal.specs.declared.values.Item.{Item};
     ghost use Rattle.sdl_instances.specs.CoreOf.{core_of, parts_of, system_in};
-    ghost use Rattle.sdl_instances.specs.Calls.{KeepsRest};
+    ghost use Rattle.sdl_instances.specs.Calls.{LeavesOthers};
 
     /// The initial instances of the block, its sets in order and none of them started. `budget` is the number of turns
     /// that the block may have. A refusal hands the parts back.
@@ -86,7 +86,7 @@ impl<S: Agents, K: Keeps> BlockCore<S, K> {
         ensures picked { IfSome slot.old (λ item. (set : SetId) (p : Pid) → GoesTo routes.now item set → item.to ≡ None → result ≡ Ok (arrival.Entered p) → IsLivingAt set (core_of self.old).state (pick % number_living set (core_of self.old).state) p) }
         ensures emptied { OnOk result (slot.new ≡ None) }
         ensures sound { IfOk result (λ _. IsSound S.may (system_in self.old routes.now) (core_of self.new)) }
-        ensures rest { KeepsRest (core_of self.old) (core_of self.new) }
+        ensures rest { LeavesOthers (core_of self.old) (core_of self.new) }
         ensures parts { parts_of self.new ≡ parts_of self.old }
         ensures err { OnErr result ((slot.new ≡ slot.old) × (core_of self.new ≡ core_of self.old)) }
     {

@@ -2,22 +2,22 @@
 ghost use Rattle.std.specs.Prelude.{◌≡◌, ◌++◌, ◌∷◌, ◌<◌, ◌%◌, ◌^◌, ◌-◌, [], None, Some, All, IfOk, IfErr, OnErr};
 ghost use Rattle.sdl_signal.specs.declared.ids.SetId.{SetId};
 ghost use Rattle.sdl_signal.specs.declared.values.Pid.{Pid};
-ghost use Rattle.sdl_log.specs.declared.event.Arrival.TheVariants as arrival;
+ghost use Rattle.sdl_instances_log.specs.declared.event.Arrival.TheVariants as arrival;
 ghost use Rattle.sdl_instances.specs.Legal.{GoesTo, IsOfSet};
 ghost use Rattle.sdl_instances.specs.Machine.{Arrives, number_living};
 ghost use Rattle.sdl_instances.specs.Core.{arrival_event, IsLivingAt, IsLegalIn, IsSound};
 ghost use Rattle.sdl_instances.specs.CoreOf.{core_of, parts_of, system_in, CanFire};
-ghost use Rattle.sdl_instances.specs.Calls.{KeepsRest, TurnAnswers, hand_of};
+ghost use Rattle.sdl_instances.specs.Calls.{LeavesOthers, TurnAnswers, hand_of};
 
 use crate::block::BlockCore;
 use arrayvec::ArrayVec;
-use sdl_log::{Arrival, Keeps, Turn, Turned};
+use sdl_instances_log::{Arrival, LogStore, Turn, Turned};
 use sdl_routes::Routes;
 use sdl_signal::Item;
 use sdl_transition::Agents;
 use std::alloc::AllocError;
 
-impl<S: Agents, K: Keeps> BlockCore<S, K> {
+impl<S: Agents, K: LogStore> BlockCore<S, K> {
     /// `arrive_from`, of this item. A refusal hands it back.
     #[inline(always)]
     pub fn arrive(
@@ -34,7 +34,7 @@ impl<S: Agents, K: Keeps> BlockCore<S, K> {
         ensures log { IfOk result (λ a. (core_of self.new).log ≡ (core_of self.old).log ++ arrival_event item a ∷ []) }
         ensures picked { (set : SetId) (p : Pid) → GoesTo routes.now item set → item.to ≡ None → result ≡ Ok (arrival.Entered p) → IsLivingAt set (core_of self.old).state (pick % number_living set (core_of self.old).state) p }
         ensures sound { IfOk result (λ _. IsSound S.may (system_in self.old routes.now) (core_of self.new)) }
-        ensures rest { KeepsRest (core_of self.old) (core_of self.new) }
+        ensures rest { LeavesOthers (core_of self.old) (core_of self.new) }
         ensures parts { parts_of self.new ≡ parts_of self.old }
         ensures err { IfErr result (λ e. (e.0 ≡ item) × (core_of self.new ≡ core_of self.old)) }
     {

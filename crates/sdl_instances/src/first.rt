@@ -1,21 +1,21 @@
 //! The initial instances of a block, and what a core keeps of the structure.
 ghost use Rattle.std.specs.Prelude.{◌≡◌, ◌++◌, ◌<◌, ◌≤◌, [], All, OnOk, IfOk, map, length, option_map, option_copied, false, slice_get};
 ghost use Rattle.sdl_instances.specs.Core.{numbers_of};
-ghost use Rattle.sdl_processes.specs.Places.{is_of};
+ghost use Rattle.sdl_instances_processes.specs.Places.{is_of};
 ghost use Rattle.sdl_instances.specs.Run.{first_instances, initial_instances, initial_of, initial_in};
-ghost use Rattle.sdl_saves.specs.Saves.{IsInRange};
+ghost use Rattle.sdl_transition_saves.specs.Saves.{IsInRange};
 ghost use Rattle.sdl_transition.specs.Rules.{Rules, rules_for, rules_of, block_rules};
 ghost use Rattle.std.specs.List.{AllByRecursion};
 
 use crate::process_set::ProcessSet;
 use arrayvec::ArrayVec;
 use indexmap::IndexMap;
-use sdl_parts::{Set, SignalDecl};
-use sdl_processes::Instance;
-use sdl_processes::copies::{copied_sorts, copied_values};
-use sdl_saves::StateSaves;
+use sdl_instances_processes::Instance;
+use sdl_instances_processes::copies::{copied_sorts, copied_values};
 use sdl_signal::{BlockId, Pid, SetId, Sort, Value};
+use sdl_structure_parts::{Set, SignalDecl};
 use sdl_transition::{Behaviour, BlockParts};
+use sdl_transition_saves::StateSaves;
 use std::alloc::{AllocError, Global};
 
 /// The sorts of each signal.

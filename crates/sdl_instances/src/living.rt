@@ -3,22 +3,22 @@ ghost use Rattle.std.specs.Prelude.{◌≡◌, ◌+◌, ◌<◌, ◌≤◌, ◌^
 ghost use Rattle.sdl_signal.specs.declared.values.Pid.{Pid};
 ghost use Rattle.sdl_signal.specs.declared.values.Pid.TheVariants as pid;
 ghost use Rattle.sdl_signal.specs.declared.values.Item.{Item};
-ghost use Rattle.sdl_log.specs.declared.event.Done.{Done};
-ghost use Rattle.sdl_processes.specs.Ports.{TakesOut};
-ghost use Rattle.sdl_processes.specs.Record.{Record, consumed, front_of, saved_now};
+ghost use Rattle.sdl_instances_log.specs.declared.event.Done.{Done};
+ghost use Rattle.sdl_instances_processes.specs.Ports.{TakesOut};
+ghost use Rattle.sdl_instances_processes.specs.Record.{Record, consumed, front_of, saved_now};
 ghost use Rattle.sdl_instances.specs.Living.{state_of, creatable_of, StandsAt, HaveSerials, written, with_created, next_of, next_frame, CreatesAt, FinishesAt, OutputsAs};
 
 use crate::first::numbers_at;
-use crate::outputs::{Mark, output};
+use crate::outputs::{OutputStamp, output};
 use crate::process_set::ProcessSet;
 use arrayvec::ArrayVec;
-use sdl_log::Done;
-use sdl_processes::copies::{add_values, copied_values};
-use sdl_processes::{Instance, Instances};
+use sdl_instances_log::Done;
+use sdl_instances_processes::copies::{add_values, copied_values};
+use sdl_instances_processes::{Instance, Instances};
 use sdl_routes::{Routes, Via};
-use sdl_saves::StateSaves;
 use sdl_signal::{Item, Pid, SetId, Signal, Value};
 use sdl_transition::{Dest, Frame, Next};
+use sdl_transition_saves::StateSaves;
 use std::alloc::{AllocError, Global};
 
 /// The living instances of a block in the order of their creation. With them stands the last serial number that
@@ -115,7 +115,7 @@ impl Living {
         signal: &Signal,
         dest: Dest,
         via: Via,
-        mark: Mark,
+        mark: OutputStamp,
         done: &mut ArrayVec<Done, 8>,
     )
         requires within { place < length (state_of self.now).living }

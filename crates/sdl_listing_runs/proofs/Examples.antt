@@ -1,12 +1,12 @@
 -- What it is to follow a listing, tried on listings of one set.
 use Rattle.std.proofs.Common.{◌≡◌, ◌∙◌, refl, sym, ap, ℕ, suc, ◌+◌, ◌==◌, cond, List, [], ◌∷◌, length, map, Some}
 use Rattle.std.proofs.lemmas.List.{length-map}
-use Rattle.sdl_parts.specs.Structure.{Structure}
+use Rattle.sdl_structure_parts.specs.Structure.{Structure}
 use Rattle.sdl_transition.specs.Rules.{RowRule, Rules}
 use Rattle.sdl_transition.specs.Blocks.{block_number}
-use Rattle.sdl_body.specs.declared.syntax.Row.{Row}
-use Rattle.sdl_body.specs.declared.listing.ListedSet.{ListedSet}
-use Rattle.sdl_file_agents.specs.Parts.{RowParts, listed_row, listed_rows}
+use Rattle.sdl_listing_body.specs.declared.syntax.Row.{Row}
+use Rattle.sdl_listing_body.specs.declared.listing.ListedSet.{ListedSet}
+use Rattle.sdl_listing_binding.specs.Parts.{RowParts, listed_row, listed_rows}
 use Rattle.sdl_listing_runs.specs.Rules.{row_rule_parts, AreRulesOf, AreListedRules, AreBlocksRules, FollowListing}
 
 -- the rules of the only set, in the only block

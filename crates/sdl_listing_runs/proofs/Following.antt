@@ -1,16 +1,16 @@
 -- A system that was bound of a listing's behaviours follows the listing.
 use Rattle.std.proofs.Common.{◌≡◌, refl, ◌∙◌, ap, ℕ, suc, ◌+◌, ◌<◌, Bool, true, false, cond, List, [], ◌∷◌, length, filter, map, slice_index_or, subst, arith}
 use Rattle.std.proofs.lemmas.List.{length-map}
-use Rattle.sdl_parts.specs.Structure.{Structure}
-use Rattle.sdl_behaviour.specs.declared.behaviour.Row.{Row as StoredRow}
-use Rattle.sdl_behaviour.specs.declared.behaviour.Behaviour.{Behaviour}
-use Rattle.sdl_body.specs.declared.listing.ListedSet.{ListedSet}
+use Rattle.sdl_structure_parts.specs.Structure.{Structure}
+use Rattle.sdl_transition_behaviour.specs.declared.behaviour.Row.{Row as StoredRow}
+use Rattle.sdl_transition_behaviour.specs.declared.behaviour.Behaviour.{Behaviour}
+use Rattle.sdl_listing_body.specs.declared.listing.ListedSet.{ListedSet}
 use Rattle.sdl_transition.specs.declared.block_parts.BlockParts.{BlockParts}
 use Rattle.sdl_transition.specs.declared.binding.Bound.{Bound}
 use Rattle.sdl_transition.specs.Blocks.{is_of_block, EachAt, HasItsOwn}
 use Rattle.sdl_transition.specs.Bound.{structure_of, blocks_of}
 use Rattle.sdl_transition.specs.Rules.{Rules, row_rule, rules_of, block_rules}
-use Rattle.sdl_file_agents.specs.Parts.{HasParts, BehaviourParts, RowParts, row_parts, behaviour_parts, listed_set, listed_sets, listed}
+use Rattle.sdl_listing_binding.specs.Parts.{HasParts, BehaviourParts, RowParts, row_parts, behaviour_parts, listed_set, listed_sets, listed}
 use Rattle.sdl_listing_runs.specs.Rules.{row_rule_parts, rules_in_block, AreRulesOf, AreListedRules, AreBlocksRules, FollowListing}
 
 cond_map : {A B : Type 0} (f : A → B) (t : Bool) (xs ys : List A) → map f (cond t xs ys) ≡ cond t (map f xs) (map f ys)

@@ -1,10 +1,10 @@
 -- The transitions of a listing, while they are stored: with what is left to store, they are all of them.
 use Rattle.std.proofs.Common.{◌≡◌, ◌∙◌, ℕ, ◌+◌, List, [], ◌∷◌, ◌++◌, ap, sym, append_assoc}
 use Rattle.std.proofs.lemmas.List.{append-nil}
-use Rattle.sdl_behaviour.specs.declared.transition.Transition.{Transition}
-use Rattle.sdl_body.specs.declared.syntax.Row.{Row}
-use Rattle.sdl_body.specs.Offering.{offer_of}
-use Rattle.sdl_file_agents.specs.Parts.{TransitionParts, transition_parts, listed_transition, listed_transitions}
+use Rattle.sdl_transition_behaviour.specs.declared.transition.Transition.{Transition}
+use Rattle.sdl_listing_body.specs.declared.syntax.Row.{Row}
+use Rattle.sdl_listing_body.specs.Offering.{offer_of}
+use Rattle.sdl_listing_binding.specs.Parts.{TransitionParts, transition_parts, listed_transition, listed_transitions}
 
 -- one is stored, of the first row that is left
 pub stored_on : {S I : Type 0} {F : I → Type 0} {g : _} (t : Transition S I F g) (old new all : List TransitionParts) (number : ℕ) (row : Row) (left rest : List Row)

@@ -1,11 +1,11 @@
 -- The names of a listing's transitions. (This project's own.)
 use Rattle.std.specs.Prelude.{ℕ, List, [], ◌∷◌, map, flat_map, Option, Some, None, option_map, unwrap_or, slice_get}
 use Rattle.sdl_signal.specs.declared.ids.StateId.{StateId}
-use Rattle.sdl_behaviour.specs.declared.offer.SignalSorts.{SignalSorts}
-use Rattle.sdl_parts.specs.Structure.{Structure}
-use Rattle.sdl_body.specs.declared.syntax.Row.{Row}
-use Rattle.sdl_body.specs.declared.listing.ListedSet.{ListedSet}
-use Rattle.sdl_file_commands.specs.Texts.{signal_text, set_text}
+use Rattle.sdl_transition_behaviour.specs.declared.offer.SignalSorts.{SignalSorts}
+use Rattle.sdl_structure_parts.specs.Structure.{Structure}
+use Rattle.sdl_listing_body.specs.declared.syntax.Row.{Row}
+use Rattle.sdl_listing_body.specs.declared.listing.ListedSet.{ListedSet}
+use Rattle.sdl_app_file_commands.specs.Texts.{signal_text, set_text}
 use Rattle.sdl_listing_runs.specs.declared.labels.Trigger.{Trigger}
 use Rattle.sdl_listing_runs.specs.declared.labels.Label.{Label}
 

@@ -1,13 +1,13 @@
 -- What a run of a listing comes to, and its exit statuses. (This project's own.)
 use Rattle.std.specs.Prelude.{◌≡◌, ℕ, ◌⊎◌, Bool, List, Option}
-use Rattle.sdl_parts.specs.Structure.{Structure}
+use Rattle.sdl_structure_parts.specs.Structure.{Structure}
 use Rattle.sdl_routes.specs.declared.route.TableRow.{TableRow}
-use Rattle.sdl_behaviour.specs.declared.step.Frame.{Frame}
-use Rattle.sdl_behaviour.specs.declared.step.Step.{Step}
+use Rattle.sdl_transition_behaviour.specs.declared.step.Frame.{Frame}
+use Rattle.sdl_transition_behaviour.specs.declared.step.Step.{Step}
 use Rattle.sdl_transition.specs.Rules.{Rules}
-use Rattle.sdl_body.specs.declared.listing.ListedSet.{ListedSet}
-use Rattle.sdl_command.specs.declared.arguments.Options.{Options}
-use Rattle.sdl_file_runs.specs.Outcomes.{plan_with}
+use Rattle.sdl_listing_body.specs.declared.listing.ListedSet.{ListedSet}
+use Rattle.sdl_app_command.specs.declared.arguments.Options.{Options}
+use Rattle.sdl_app_file_runs.specs.Outcomes.{plan_with}
 use Rattle.sdl_graph_program.specs.declared.commands.Prepared.{Prepared}
 use Rattle.sdl_graph_program.specs.Outcomes.{HasMadeAsked}
 use Rattle.sdl_chart_words.specs.declared.sets.Charting.{Charting}

@@ -1,10 +1,10 @@
 -- The rules that a listing gives the blocks of a structure. (This project's own.)
 use Rattle.std.specs.Prelude.{◌≡◌, ℕ, suc, ◌+◌, ◌==◌, List, [], ◌∷◌, length, filter, map, Some}
-use Rattle.sdl_parts.specs.Structure.{Structure}
+use Rattle.sdl_structure_parts.specs.Structure.{Structure}
 use Rattle.sdl_transition.specs.Rules.{Rule, RowRule, Rules}
 use Rattle.sdl_transition.specs.Blocks.{block_number}
-use Rattle.sdl_body.specs.declared.listing.ListedSet.{ListedSet}
-use Rattle.sdl_file_agents.specs.Parts.{TransitionParts, RowParts, listed_transition, listed_rows}
+use Rattle.sdl_listing_body.specs.declared.listing.ListedSet.{ListedSet}
+use Rattle.sdl_listing_binding.specs.Parts.{TransitionParts, RowParts, listed_transition, listed_rows}
 
 -- a rule, and that of a row, as a listing says them
 abbrev pub rule_parts : Rule → TransitionParts

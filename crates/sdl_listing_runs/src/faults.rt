@@ -1,7 +1,7 @@
 //! The texts of the faults of a listing.
-use sdl_command::errors::{without_memory, write_error};
-use sdl_file_agents::ListingFault;
-use sdl_file_commands::faults::write_bind_fault;
+use sdl_app_command::errors::{without_memory, write_error};
+use sdl_app_file_commands::faults::write_bind_fault;
+use sdl_listing_binding::ListingFault;
 use std::io::Write;
 
 /// Writes why a listing does not run, as one line. A line that is not taken is dropped.

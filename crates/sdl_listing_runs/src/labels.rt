@@ -1,11 +1,11 @@
 //! The names of the transitions of a listing, as they are told.
 ghost use Rattle.std.specs.Prelude.{◌≡◌, ◌++◌, map, option_map, IfOk};
-ghost use Rattle.sdl_file_commands.specs.Texts.{signal_text, set_text};
+ghost use Rattle.sdl_app_file_commands.specs.Texts.{signal_text, set_text};
 ghost use Rattle.sdl_listing_runs.specs.Labels.{names_of, trigger_names, state_text, listed_trigger, set_names, listed_names};
 
-use sdl_body::{ListedSet, Row};
-use sdl_parts::Structure;
+use sdl_listing_body::{ListedSet, Row};
 use sdl_signal::{Name, SetId, SignalId, StateId};
+use sdl_structure_parts::Structure;
 use std::alloc::{AllocError, Global};
 use std::fmt;
 use std::fmt::{Display, Formatter};

@@ -2,32 +2,32 @@
 ghost use Rattle.std.specs.Prelude.{◌≡◌, ◌<◌, ◌^◌, ◌⊎◌, List, map, length, IfOk, IfSome, IsErr, IsSome, MatchOption};
 ghost use Rattle.std.specs.List.{AllByRecursion};
 ghost use Rattle.std.specs.Io.KnownBytes.{Keeps};
-ghost use Rattle.sdl_behaviour.specs.Offers.{IsFrameOf};
-ghost use Rattle.sdl_behaviour.specs.Transitions.{IsAllowed};
-ghost use Rattle.sdl_body.specs.Offering as rule;
-ghost use Rattle.sdl_body.specs.Sound.{IsSound};
-ghost use Rattle.sdl_file_agents.specs.Answers.{rows_of, IsAnswerIn};
-ghost use Rattle.sdl_file_agents.specs.Parts.{head_parts, transition_parts, listed_head, listed_transitions, count_of};
-ghost use Rattle.sdl_body.specs.declared.listing.ListedSet.{ListedSet as ASet};
-ghost use Rattle.sdl_file_commands.specs.Running.{CanRun};
+ghost use Rattle.sdl_transition_behaviour.specs.Offers.{IsFrameOf};
+ghost use Rattle.sdl_transition_behaviour.specs.Transitions.{IsAllowed};
+ghost use Rattle.sdl_listing_body.specs.Offering as rule;
+ghost use Rattle.sdl_listing_body.specs.Sound.{IsSound};
+ghost use Rattle.sdl_listing_binding.specs.Answers.{rows_of, IsAnswerIn};
+ghost use Rattle.sdl_listing_binding.specs.Parts.{head_parts, transition_parts, listed_head, listed_transitions, count_of};
+ghost use Rattle.sdl_listing_body.specs.declared.listing.ListedSet.{ListedSet as ASet};
+ghost use Rattle.sdl_app_file_commands.specs.Running.{CanRun};
 ghost use Rattle.sdl_listing_runs.specs.Outcomes.{HasRunPrepared, HasRunMarked};
 
 use crate::faults::write_listing_fault;
 use crate::labels::{Label, labels_of};
 use crate::states::{states_of, to_chart_with};
-use sdl_behaviour::{Agents, Frame, Run, Transition};
-use sdl_body::{Row, offer_of};
+use sdl_app_command::errors::write_error;
+use sdl_app_command::status::REFUSED;
+use sdl_app_file_runs::running::Settings;
 use sdl_chart_text::States;
-use sdl_command::errors::write_error;
-use sdl_command::status::REFUSED;
-use sdl_file_agents::{
-    Answering, Bent, FileAgents, Head, ListedSet, Listing, ListingFault, Marks, bind_listing, keep,
-    lay_out,
-};
-use sdl_file_runs::running::Settings;
 use sdl_graph_program::Prepared;
 use sdl_graph_program::runs::{Telling, run_as_told};
-use sdl_parts::Structure;
+use sdl_listing_binding::{
+    Answering, Bent, BentValues, FileAgents, Head, ListedSet, Listing, ListingFault, bind_listing,
+    keep, lay_out,
+};
+use sdl_listing_body::{Row, offer_of};
+use sdl_structure_parts::Structure;
+use sdl_transition_behaviour::{Agents, Frame, Run, Transition};
 use std::alloc::Global;
 use std::collections::VecDeque;
 use std::io::{Read, Write};
@@ -43,7 +43,7 @@ pub const BENT: u8 = 4;
 struct ToStore {
     alloc: Global,
     rows: Vec<Row>,
-    marks: Marks,
+    marks: BentValues,
 }
 
 /// All of a listing but its rows: the rest of each set, and what tells of its transitions.
@@ -53,7 +53,7 @@ struct Others {
     labels: Vec<Label>,
     /// The names of states, where a chart is asked for.
     states: States,
-    marks: Marks,
+    marks: BentValues,
 }
 
 /// A run that is to be made, which waits while transitions are stored.
@@ -131,7 +131,7 @@ fn taken_apart(
 {
     let labels = labels_of(alloc, structure, listing.as_slice())?;
     let states = states_of(alloc, structure, listing.as_slice(), charted)?;
-    let marks = Marks::new(alloc)?;
+    let marks = BentValues::new(alloc)?;
     let shared = marks.share()?;
     let (heads, rows) = lay_out(alloc, listing)?;
     if rows.len() > u32::MAX as usize {
@@ -264,7 +264,7 @@ fn run_job<S: Agents + Send + Drop, T: Threads + Wait + Sync, R: Read, W: Write,
 }
 
 /// Binds the stored transitions to the structure and runs the agents, and answers the exit status.
-#[tactic(auto, unfolding(sdl_file_commands::specs::Running::CanRun))]
+#[tactic(auto, unfolding(sdl_app_file_commands::specs::Running::CanRun))]
 fn run_prepared<S: Agents + Send + Drop, T: Threads + Wait + Sync, R: Read, W: Write, E: Write>(
     rt: &T,
     prepared: Prepared,

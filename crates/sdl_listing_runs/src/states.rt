@@ -1,11 +1,11 @@
 //! The names of states that the chart of a listing's run is written with.
 ghost use Rattle.std.specs.Prelude.{◌≡◌, option_map};
 
-use sdl_body::ListedSet;
 use sdl_chart_runs::ToChart;
 use sdl_chart_text::States;
 use sdl_chart_words::Charting;
-use sdl_parts::Structure;
+use sdl_listing_body::ListedSet;
+use sdl_structure_parts::Structure;
 use std::alloc::{AllocError, Global};
 
 /// The names of the states of each set, as the listing says them, where a chart is asked for, and else of no set.

@@ -1,5 +1,5 @@
 //! Texts that are cut into tokens, and texts that hold a byte of no token.
-use sdl_tokens::{CutFault, Kind, Token, cut, position_of};
+use sdl_listing_tokens::{CutFault, Kind, Token, cut, position_of};
 use std::alloc::{AllocError, Global};
 use std::str;
 

@@ -1,6 +1,6 @@
 //! A line on standard error that is longer than its buffer.
 use crate::fakes::writer_of;
-use sdl_command::errors::write_error;
+use sdl_app_command::errors::write_error;
 use std::test::Fail;
 
 /// A part of a name of a design.

@@ -1,11 +1,11 @@
 //! Workers in threads without ends: they hand a token round, put where nobody takes, wait for room, or take while others work.
 ghost use Rattle.std.specs.Prelude.{◌≡◌};
 
-use sdl_ends::mark_of;
-use sdl_parts::Structure;
+use sdl_forward_ends::mark_of;
 use sdl_routes::{Routes, Station};
+use sdl_run_threads::{Kind, Marks, Returned, Stepped, Work};
 use sdl_signal::BlockId;
-use sdl_threads::{Kind, Marks, Returned, Stepped, Work};
+use sdl_structure_parts::Structure;
 use std::alloc::Global;
 use std::sync::atomic::AtomicU64;
 use std::sync::atomic::Ordering::SeqCst;

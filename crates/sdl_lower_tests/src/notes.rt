@@ -1,9 +1,9 @@
 //! What is noted, of many kinds: by its number, the same in each log.
 use arrayvec::ArrayVec;
-use sdl_behaviour::{Action, Dest, Frame, Next, Step};
-use sdl_log::{Cause, Done, Keeps, Trigger};
+use sdl_instances_log::{Cause, Done, LogStore, Trigger};
 use sdl_routes::Via;
 use sdl_signal::{Item, Origin, Pid, RouteId, SetId, Signal, SignalId, StateId, Value};
+use sdl_transition_behaviour::{Action, Dest, Frame, Next, Step};
 
 fn signal_of(number: u32) -> Signal {
     let mut params: ArrayVec<Value, 4> = ArrayVec::new();
@@ -102,7 +102,7 @@ fn done_of(number: u32) -> ArrayVec<Done, 8> {
 }
 
 /// Notes the event of this number, where there is room for it.
-pub fn note<K: Keeps>(log: &mut K, number: u32) -> bool {
+pub fn note<K: LogStore>(log: &mut K, number: u32) -> bool {
     if log.make_room().is_err() {
         return false;
     }

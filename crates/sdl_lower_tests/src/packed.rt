@@ -1,8 +1,8 @@
 //! What a packed log shows, beside what a list of events has.
 use crate::notes::note;
 use crate::same::is_same;
-use sdl_log::{Event, Keeps};
-use sdl_packed_log::Packed;
+use sdl_instances_log::{Event, LogStore};
+use sdl_instances_packed_log::Packed;
 use std::process::Abort;
 
 /// So many events that the lists of a packed log grow several times.
@@ -22,7 +22,7 @@ fn shows_all(rt: &impl Abort, packed: &Packed, events: &[Event]) {
 #[test]
 fn a_packed_log_shows_each_event_with_all_its_parts(rt: HostRuntime) {
     let mut packed = Packed::new(rt.alloc());
-    let mut events: Vec<Event> = Keeps::new(rt.alloc());
+    let mut events: Vec<Event> = LogStore::new(rt.alloc());
     for number in 0..EVENTS {
         assert!(&rt; note(&mut packed, number) && note(&mut events, number));
     }
@@ -33,7 +33,7 @@ fn a_packed_log_shows_each_event_with_all_its_parts(rt: HostRuntime) {
 #[test]
 fn a_refusal_loses_no_event(rt: HostRuntime) {
     let mut packed = Packed::new(rt.alloc());
-    let mut events: Vec<Event> = Keeps::new(rt.alloc());
+    let mut events: Vec<Event> = LogStore::new(rt.alloc());
     for number in 0..EVENTS {
         let noted = note(&mut packed, number) || note(&mut packed, number);
         let listed = note(&mut events, number) || note(&mut events, number);

@@ -1,8 +1,8 @@
 //! A pile of saved signals, of which each change of state lets one through.
 use arrayvec::ArrayVec;
-use sdl_processes::Instance;
-use sdl_saves::{Save, StateSaves};
+use sdl_instances_processes::Instance;
 use sdl_signal::{Item, Pid, SignalId, StateId, Value};
+use sdl_transition_saves::{Save, StateSaves};
 use std::alloc::{AllocError, Global};
 use std::process::Abort;
 

@@ -1,13 +1,13 @@
 //! How workers in threads come to rest: a token goes round among them, one runs far ahead where nobody takes, or one waits for room.
 ghost use Rattle.std.specs.Prelude.{◌≡◌, ◌≤◌, [], ⊤, IfOk, vec_capacity};
 ghost use Rattle.std.specs.List.{All};
-ghost use Rattle.sdl_threads.specs.Kinds.{KeepsOneOf};
+ghost use Rattle.sdl_run_threads.specs.Kinds.{KeepsOneOf};
 
 use super::jobs::{Job, Jobber, Ring, done_by, done_in_list, station_at};
-use sdl_parts::{Checked, Lists, Structure, check};
 use sdl_routes::{Routes, Station};
+use sdl_run_threads::{Gate, Kind, Returned, Team, run_all};
 use sdl_signal::name;
-use sdl_threads::{Gate, Kind, Returned, Team, run_all};
+use sdl_structure_parts::{Checked, Lists, Structure, check};
 use std::alloc::{AllocError, Global};
 use std::sync::atomic::AtomicU64;
 use std::sync::atomic::Ordering::SeqCst;

@@ -1,7 +1,7 @@
 //! Whether what is shown of an event is that event.
-use sdl_behaviour::{Frame, Step};
-use sdl_log::Event;
-use sdl_packed_log::{Shown, ShownStep};
+use sdl_instances_log::Event;
+use sdl_instances_packed_log::{Shown, ShownStep};
+use sdl_transition_behaviour::{Frame, Step};
 
 fn is_same_frame(left: &Frame, right: &Frame) -> bool {
     left.self_pid == right.self_pid

@@ -1,5 +1,5 @@
 //! The words that no name can be.
-use sdl_tokens::is_reserved;
+use sdl_listing_tokens::is_reserved;
 
 static WORDS: [&str; 26] = [
     "output",

@@ -2,7 +2,7 @@
 use Rattle.std.proofs.Common.{◌≡◌, ℕ, ◌+◌, ◌<◌, List, [], ◌∷◌, ◌++◌, map, refl, ap, sym, ◌∙◌, inl, arith}
 use Rattle.std.specs.List.{AllByRecursion, range_with_len}
 use Rattle.sdl_signal.specs.declared.values.Item.{Item}
-use Rattle.sdl_ring.specs.RingEnds.{RingTapEnd, RingAccount}
+use Rattle.sdl_queue_ring.specs.RingEnds.{RingTapEnd, RingAccount}
 use Rattle.sdl_queue.specs.declared.rule.Tagged.{Tagged}
 use Rattle.sdl_queue.specs.declared.rest.Rest.TheVariants.{Ruled, Ring}
 use Rattle.sdl_queue.specs.declared.any.TapKind.TheVariants as tap

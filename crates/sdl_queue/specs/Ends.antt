@@ -2,7 +2,7 @@
 use Rattle.std.specs.Prelude.{◌≡◌, ℕ, List, [], length, map, ⊤}
 use Rattle.std.specs.List.{AllByRecursion, range_with_len}
 use Rattle.sdl_signal.specs.declared.values.Item.{Item}
-use Rattle.sdl_ring.specs.RingEnds.{RingOpening}
+use Rattle.sdl_queue_ring.specs.RingEnds.{RingOpening}
 use Rattle.sdl_queue.specs.declared.rule.Tagged.{Tagged}
 use Rattle.sdl_queue.specs.declared.rule.PutList.{PutList}
 use Rattle.sdl_queue.specs.DelayLine.{Covers}

@@ -1,7 +1,7 @@
 -- What is left of a queue, of any kind.
 use Rattle.std.specs.Prelude.{◌≡◌, List, [], ◌∷◌, map}
 use Rattle.sdl_signal.specs.declared.values.Item.{Item}
-use Rattle.sdl_ring.specs.RingEnds.{RingAccount}
+use Rattle.sdl_queue_ring.specs.RingEnds.{RingAccount}
 use Rattle.sdl_queue.specs.declared.rule.Tagged.{Tagged}
 use Rattle.sdl_queue.specs.declared.rest.Rest.{Rest}
 use Rattle.sdl_queue.specs.declared.rest.Rest.TheVariants.{Serial, Ruled, Ring}

@@ -2,7 +2,7 @@
 ghost use Rattle.std.specs.Prelude.{◌≡◌, ◌↔◌, [], ◌∷◌, ◌++◌, map, None, MatchOption, IfOk, IsTrue};
 ghost use Rattle.std.specs.Arc.{arc_value};
 ghost use Rattle.crossbeam_queue.specs.SegTies.{IsSegPassOf};
-ghost use Rattle.sdl_ring.specs.RingEnds.{IsPutFrom};
+ghost use Rattle.sdl_queue_ring.specs.RingEnds.{IsPutFrom};
 ghost use Rattle.sdl_queue.specs.DelayLine.{IsDelayLine};
 ghost use Rattle.sdl_queue.specs.declared.rule.Tagged.{Tagged};
 ghost use Rattle.sdl_queue.specs.Rule.{IsTap, tap_of};

@@ -1,7 +1,7 @@
 //! The ends of a queue, each of which its thread owns, and the queue once they are all in one thread again.
 ghost use Rattle.std.specs.Prelude.{◌≡◌, [], ◌∷◌, ◌++◌, ◌+◌, length, map, None, MatchResult, MatchOption, IfOk};
 ghost use Rattle.crossbeam_queue.specs.SegTies.{IsSegPassOf};
-ghost use Rattle.sdl_ring.specs.RingEnds.{IsPutFrom};
+ghost use Rattle.sdl_queue_ring.specs.RingEnds.{IsPutFrom};
 ghost use Rattle.sdl_queue.specs.DelayLine.{IsDelayLine};
 ghost use Rattle.sdl_queue.specs.Rule.{IsTap, IsWhole, tap_of, left_of};
 ghost use Rattle.sdl_queue.specs.declared.rule.Tagged.{Tagged};

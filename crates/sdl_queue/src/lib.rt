@@ -12,4 +12,4 @@ pub use any::{AnyFeed, AnyTap, any_queue, any_rejoin, any_ring};
 pub use ends::{Feed, Rejoined, Tap, queue_open, rejoin};
 pub use rest::Rest;
 pub use rule::{PutList, Tagged};
-pub use sdl_ring::{RingFeed, RingRejoined, RingTap, SerialQueue, ring_open, ring_rejoin};
+pub use sdl_queue_ring::{RingFeed, RingRejoined, RingTap, SerialQueue, ring_open, ring_rejoin};

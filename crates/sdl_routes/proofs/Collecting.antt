@@ -1,7 +1,7 @@
 -- The routes found grow from bound to bound, also where memory for some was refused.
 use Rattle.std.proofs.Common.{◌≡◌, ◌≢◌, ℕ, ◌+◌, ◌<◌, ◌≤◌, false, List, [], ◌∷◌, ◌++◌, map, length, Result, Ok, Err, OnOk, IfErr, refl, ap, sym, ◌∙◌, subst, arith, length-append}
 use Rattle.sdl_signal.specs.declared.ids.SignalId.{SignalId}
-use Rattle.sdl_parts.specs.Structure.{Structure, IsStructure}
+use Rattle.sdl_structure_parts.specs.Structure.{Structure, IsStructure}
 use Rattle.sdl_routes.specs.declared.route.Hop.{Hop}
 use Rattle.sdl_routes.specs.declared.route.TableRow.{TableRow}
 use Rattle.sdl_routes.specs.declared.search.Collected.{Collected}

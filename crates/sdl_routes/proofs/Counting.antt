@@ -1,12 +1,12 @@
 -- A list in order that is part of another in order is no longer than it.
 use Rattle.std.proofs.Common.{◌≡◌, ℕ, zero, suc, ◌<◌, ◌≤◌, List, [], ◌∷◌, length, Contains, ◌⊎◌, inl, inr, refl, sym, ◌∙◌, subst, arith}
 use Rattle.std.specs.List.{AllByRecursion}
-use Rattle.sdl_parts.specs.Structure.{Structure}
+use Rattle.sdl_structure_parts.specs.Structure.{Structure}
 use Rattle.sdl_routes.specs.declared.route.TableRow.{TableRow}
 use Rattle.sdl_routes.proofs.Found.{each_of}
 use Rattle.sdl_routes.proofs.Walks.{contained}
 use Rattle.sdl_routes.specs.Routes.{IsRoute, StandsBefore, AreInOrder, AreRoutesOf, HasTooMany, row_place}
-use Rattle.sdl_parts.specs.Order.{IsBefore}
+use Rattle.sdl_structure_parts.specs.Order.{IsBefore}
 
 pub before_not_same : (xs : List ℕ) → ¬ IsBefore xs xs
 before_not_same [] h = h

@@ -2,12 +2,12 @@
 use Rattle.std.proofs.Common.{◌≡◌, ℕ, List, [], ◌∷◌, Some, None, true, false, refl, codes, arith, inl, inr, ap}
 use Rattle.arrayvec.specs.ArrayString.{ArrayString}
 use Rattle.sdl_signal.specs.declared.values.Sort.TheVariants as sort
-use Rattle.sdl_parts.specs.declared.parts.End.{End}
-use Rattle.sdl_parts.specs.declared.parts.Gate.{Gate}
-use Rattle.sdl_parts.specs.declared.parts.Owner.TheVariants as owner
-use Rattle.sdl_parts.specs.declared.parts.Scope.TheVariants as scope
-use Rattle.sdl_parts.specs.declared.parts.Side.TheVariants.{Outer, Inner}
-use Rattle.sdl_parts.specs.Structure.{Structure}
+use Rattle.sdl_structure_parts.specs.declared.parts.End.{End}
+use Rattle.sdl_structure_parts.specs.declared.parts.Gate.{Gate}
+use Rattle.sdl_structure_parts.specs.declared.parts.Owner.TheVariants as owner
+use Rattle.sdl_structure_parts.specs.declared.parts.Scope.TheVariants as scope
+use Rattle.sdl_structure_parts.specs.declared.parts.Side.TheVariants.{Outer, Inner}
+use Rattle.sdl_structure_parts.specs.Structure.{Structure}
 use Rattle.sdl_routes.specs.declared.route.Hop.{Hop}
 use Rattle.sdl_routes.specs.declared.route.TableRow.{TableRow}
 use Rattle.sdl_routes.specs.declared.route.Source.TheVariants as source

@@ -2,10 +2,10 @@
 use Rattle.std.proofs.Common.{◌≡◌, ◌≢◌, ℕ, ◌<◌, List, [], ◌∷◌, ◌++◌, Contains, inl, inr, refl, sym, subst, arith, lit<}
 use Rattle.std.specs.List.{AllByRecursion}
 use Rattle.std.proofs.lemmas.List.Elements.{Contains-append_left, Contains-append_right}
-use Rattle.sdl_parts.specs.Structure.{Structure}
+use Rattle.sdl_structure_parts.specs.Structure.{Structure}
 use Rattle.sdl_routes.specs.declared.route.TableRow.{TableRow}
 use Rattle.sdl_routes.specs.Routes.{IsRoute, StandsBefore, row_place, AreInOrder}
-use Rattle.sdl_parts.specs.Order.{IsBefore}
+use Rattle.sdl_structure_parts.specs.Order.{IsBefore}
 use Rattle.sdl_routes.specs.Found.{place_behind, Begins, HasFound}
 use Rattle.sdl_routes.proofs.Places.{before_after_cases, before_to_after, begins_to_after, before_longer, before_first, before_longer_cases, begins_cases, below_number}
 

@@ -1,6 +1,6 @@
 -- Places before a bound.
 use Rattle.std.proofs.Common.{◌≡◌, ℕ, suc, ◌<◌, List, [], ◌∷◌, ◌++◌, ◌⊎◌, inl, inr, refl, ap, arith}
-use Rattle.sdl_parts.specs.Order.{IsBefore}
+use Rattle.sdl_structure_parts.specs.Order.{IsBefore}
 use Rattle.sdl_routes.specs.Found.{place_behind, Begins}
 
 pub le_cases : (y x : ℕ) → y < suc x → (y < x) ⊎ (y ≡ x)

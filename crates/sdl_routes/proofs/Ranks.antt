@@ -3,21 +3,21 @@ use Rattle.std.proofs.Common.{◌≡◌, ◌≢◌, ℕ, zero, suc, ◌+◌, ◌
 use Rattle.std.specs.List.{AllByRecursion}
 use Rattle.sdl_signal.specs.declared.ids.SignalId.{SignalId}
 use Rattle.sdl_signal.specs.declared.ids.BlockId.{BlockId}
-use Rattle.sdl_parts.specs.declared.parts.Block.{Block}
-use Rattle.sdl_parts.specs.declared.parts.Set.{Set}
-use Rattle.sdl_parts.specs.declared.parts.Gate.{Gate}
-use Rattle.sdl_parts.specs.declared.parts.Channel.{Channel}
-use Rattle.sdl_parts.specs.declared.parts.End.{End}
-use Rattle.sdl_parts.specs.declared.parts.Owner.{Owner}
-use Rattle.sdl_parts.specs.declared.parts.Owner.TheVariants as owner
-use Rattle.sdl_parts.specs.declared.parts.Scope.{Scope}
-use Rattle.sdl_parts.specs.declared.parts.Scope.TheVariants as scope
-use Rattle.sdl_parts.specs.declared.parts.Side.{Side}
-use Rattle.sdl_parts.specs.declared.parts.Side.TheVariants.{Outer, Inner}
-use Rattle.sdl_parts.specs.declared.parts.Direction.{Direction}
-use Rattle.sdl_parts.specs.declared.parts.Direction.TheVariants.{Forth, Back}
-use Rattle.sdl_parts.specs.Structure.{Structure, IsStructure, Path, path_of, block_at, set_at, gate_at, channel_at, other_side, JoinsAt, IsEnd, IsDepthIn, LiesIn, ScopeExists, SignalsExist}
-use Rattle.sdl_parts.specs.Rules.{IsWellFormed, IsBlockGate, HasEndsApart}
+use Rattle.sdl_structure_parts.specs.declared.parts.Block.{Block}
+use Rattle.sdl_structure_parts.specs.declared.parts.Set.{Set}
+use Rattle.sdl_structure_parts.specs.declared.parts.Gate.{Gate}
+use Rattle.sdl_structure_parts.specs.declared.parts.Channel.{Channel}
+use Rattle.sdl_structure_parts.specs.declared.parts.End.{End}
+use Rattle.sdl_structure_parts.specs.declared.parts.Owner.{Owner}
+use Rattle.sdl_structure_parts.specs.declared.parts.Owner.TheVariants as owner
+use Rattle.sdl_structure_parts.specs.declared.parts.Scope.{Scope}
+use Rattle.sdl_structure_parts.specs.declared.parts.Scope.TheVariants as scope
+use Rattle.sdl_structure_parts.specs.declared.parts.Side.{Side}
+use Rattle.sdl_structure_parts.specs.declared.parts.Side.TheVariants.{Outer, Inner}
+use Rattle.sdl_structure_parts.specs.declared.parts.Direction.{Direction}
+use Rattle.sdl_structure_parts.specs.declared.parts.Direction.TheVariants.{Forth, Back}
+use Rattle.sdl_structure_parts.specs.Structure.{Structure, IsStructure, Path, path_of, block_at, set_at, gate_at, channel_at, other_side, JoinsAt, IsEnd, IsDepthIn, LiesIn, ScopeExists, SignalsExist}
+use Rattle.sdl_structure_parts.specs.Rules.{IsWellFormed, IsBlockGate, HasEndsApart}
 use Rattle.sdl_routes.specs.declared.route.Hop.{Hop}
 use Rattle.sdl_routes.specs.declared.route.EndPoint.{EndPoint}
 use Rattle.sdl_routes.specs.declared.route.EndPoint.TheVariants as ends

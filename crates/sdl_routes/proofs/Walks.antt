@@ -4,11 +4,11 @@ use Rattle.std.specs.List.{AllByRecursion}
 use Rattle.std.proofs.lemmas.List.{map-append, length-append}
 use Rattle.sdl_signal.specs.declared.ids.SignalId.{SignalId}
 use Rattle.sdl_signal.specs.declared.ids.GateId.{GateId}
-use Rattle.sdl_parts.specs.declared.parts.Channel.{Channel}
-use Rattle.sdl_parts.specs.declared.parts.Direction.{Direction}
-use Rattle.sdl_parts.specs.declared.parts.Direction.TheVariants.{Forth, Back}
-use Rattle.sdl_parts.specs.Structure.{Structure, IsStructure, path_of, channel_at, SignalsExist}
-use Rattle.sdl_parts.specs.Rules.{IsWellFormed}
+use Rattle.sdl_structure_parts.specs.declared.parts.Channel.{Channel}
+use Rattle.sdl_structure_parts.specs.declared.parts.Direction.{Direction}
+use Rattle.sdl_structure_parts.specs.declared.parts.Direction.TheVariants.{Forth, Back}
+use Rattle.sdl_structure_parts.specs.Structure.{Structure, IsStructure, path_of, channel_at, SignalsExist}
+use Rattle.sdl_structure_parts.specs.Rules.{IsWellFormed}
 use Rattle.sdl_routes.specs.declared.route.Hop.{Hop}
 use Rattle.sdl_routes.specs.declared.route.TableRow.{TableRow}
 use Rattle.sdl_routes.specs.declared.route.Source.{Source}

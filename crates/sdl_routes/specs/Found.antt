@@ -1,10 +1,10 @@
 -- The routes found so far: those whose places are before a bound.
 use Rattle.std.specs.Prelude.{◌≡◌, ℕ, suc, List, [], ◌∷◌, ⊤, Contains}
 use Rattle.std.specs.List.{AllByRecursion}
-use Rattle.sdl_parts.specs.Structure.{Structure}
+use Rattle.sdl_structure_parts.specs.Structure.{Structure}
 use Rattle.sdl_routes.specs.declared.route.TableRow.{TableRow}
 use Rattle.sdl_routes.specs.Routes.{IsRoute, row_place, AreInOrder}
-use Rattle.sdl_parts.specs.Order.{IsBefore}
+use Rattle.sdl_structure_parts.specs.Order.{IsBefore}
 
 -- the first place behind all that begin with this one
 abbrev pub place_behind : List ℕ → List ℕ

@@ -4,13 +4,13 @@ use Rattle.std.specs.List.{AllByRecursion}
 use Rattle.sdl_signal.specs.declared.ids.SignalId.{SignalId}
 use Rattle.sdl_signal.specs.declared.ids.GateId.{GateId}
 use Rattle.sdl_signal.specs.declared.ids.RouteId.{RouteId}
-use Rattle.sdl_parts.specs.declared.parts.Channel.{Channel}
-use Rattle.sdl_parts.specs.declared.parts.Owner.TheVariants as owner
-use Rattle.sdl_parts.specs.declared.parts.Direction.{Direction}
-use Rattle.sdl_parts.specs.declared.parts.Direction.TheVariants.{Forth, Back}
-use Rattle.sdl_parts.specs.Structure.{Structure, Path, path_at, set_at, gate_at, channel_at, other_side}
-use Rattle.sdl_parts.specs.Rules.{IsBlockGate}
-use Rattle.sdl_parts.specs.Order.{IsBefore}
+use Rattle.sdl_structure_parts.specs.declared.parts.Channel.{Channel}
+use Rattle.sdl_structure_parts.specs.declared.parts.Owner.TheVariants as owner
+use Rattle.sdl_structure_parts.specs.declared.parts.Direction.{Direction}
+use Rattle.sdl_structure_parts.specs.declared.parts.Direction.TheVariants.{Forth, Back}
+use Rattle.sdl_structure_parts.specs.Structure.{Structure, Path, path_at, set_at, gate_at, channel_at, other_side}
+use Rattle.sdl_structure_parts.specs.Rules.{IsBlockGate}
+use Rattle.sdl_structure_parts.specs.Order.{IsBefore}
 use Rattle.sdl_routes.specs.declared.route.Hop.{Hop}
 use Rattle.sdl_routes.specs.declared.route.Route.{Route}
 use Rattle.sdl_routes.specs.declared.route.TableRow.{TableRow}

@@ -1,11 +1,11 @@
 //! One hop: its path, what it carries, and which hop it joins.
 ghost use Rattle.std.specs.Prelude.{◌≡◌, IsTrue, ◌↔◌, option_map};
-ghost use Rattle.sdl_parts.specs.Structure.{other_side};
+ghost use Rattle.sdl_structure_parts.specs.Structure.{other_side};
 ghost use Rattle.sdl_routes.specs.Routes.{hop_path, last_of, Carries, Joins, JoinsLast, is_delaying as is_delaying_hop};
 
 use crate::route::Hop;
-use sdl_parts::{End, Side, Structure};
 use sdl_signal::SignalId;
+use sdl_structure_parts::{End, Side, Structure};
 
 /// Whether the path of the hop carries the signal.
 pub fn carries(structure: &Structure, signal: SignalId, hop: Hop) -> bool

@@ -5,8 +5,8 @@ ghost use Rattle.sdl_routes.specs.Index.{end_goal, group_place, goal_place, list
 
 use crate::entries::{Entry, add_entries, find};
 use crate::route::{EndPoint, Goal, Source, TableRow, Wish};
-use sdl_parts::limits::MOST_SIGNALS;
 use sdl_signal::SignalId;
+use sdl_structure_parts::limits::MOST_SIGNALS;
 use std::alloc::{AllocError, Global};
 
 /// The entries of all wishes that some route fits: in groups, one for each source and signal, and in a group in lists, one

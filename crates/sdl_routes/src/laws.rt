@@ -4,7 +4,7 @@ ghost use Rattle.sdl_routes.specs.declared.route.TableRow.{TableRow};
 ghost use Rattle.sdl_routes.specs.Routes.{IsRoute, AreRoutesOf, AreRoutesShort};
 ghost use Rattle.sdl_routes.specs.Table.{IsTableRoute};
 
-use sdl_parts::Checked;
+use sdl_structure_parts::Checked;
 
 /// A route has at most nine hops and ten stations, and no station twice. What a table shows of its routes holds of each.
 pub fn routes_are_short(checked: &Checked)

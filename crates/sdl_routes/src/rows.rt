@@ -6,8 +6,8 @@ ghost use Rattle.sdl_routes.specs.Finding.{Finds};
 use crate::hops::{finish_of, is_delaying, last_hop, start_of};
 use crate::route::{EndPoint, Hop, Route, Source, Station, TableRow};
 use arrayvec::ArrayVec;
-use sdl_parts::{Owner, Structure};
 use sdl_signal::{GateId, SignalId};
+use sdl_structure_parts::{Owner, Structure};
 
 /// The gate at which the hops start.
 fn start_gate(structure: &Structure, hops: &[Hop]) -> Option<GateId>

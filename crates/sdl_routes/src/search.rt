@@ -1,7 +1,7 @@
 //! Finding all routes of a structure, in their order.
 ghost use Rattle.std.specs.Prelude.{◌≡◌, ℕ, ◌+◌, ◌*◌, ◌^◌, ◌<◌, ◌≤◌, [], ◌∷◌, ◌++◌, length, IfOk, IfErr, OnOk, OnErr, IsErrOf, ◌↔◌};
-ghost use Rattle.sdl_parts.specs.Structure.{IsStructure};
-ghost use Rattle.sdl_parts.specs.Rules.{IsWellFormed};
+ghost use Rattle.sdl_structure_parts.specs.Structure.{IsStructure};
+ghost use Rattle.sdl_structure_parts.specs.Rules.{IsWellFormed};
 ghost use Rattle.sdl_routes.specs.Routes.{HasTooMany, IsWalk, hop_number, place, AreRoutesOf};
 ghost use Rattle.sdl_routes.specs.Found.{place_behind};
 ghost use Rattle.sdl_routes.specs.Collected.{HasCollected, AddsRoute};
@@ -11,8 +11,8 @@ use crate::route::{Hop, TableRow};
 use crate::rows::{copied, may_start, row_of};
 use crate::table::RouteFault;
 use arrayvec::ArrayVec;
-use sdl_parts::Structure;
 use sdl_signal::{ChannelId, SignalId};
+use sdl_structure_parts::Structure;
 use std::alloc::Global;
 
 /// The most routes of a table.

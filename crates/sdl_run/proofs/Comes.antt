@@ -1,12 +1,12 @@
 -- The workers of two kinds that come back, kind by kind.
 use Rattle.std.proofs.Common.{List, [], ◌∷◌, ◌++◌, map, ◌≡◌, refl, sym, subst}
 use Rattle.std.specs.List.{AllZip}
-use Rattle.sdl_threads.specs.declared.work.Returned.{Returned}
-use Rattle.sdl_threads.specs.declared.kinds.Kind.{Kind}
-use Rattle.sdl_threads.specs.declared.kinds.Kind.TheVariants.{Block, Forwarder}
-use Rattle.sdl_threads.specs.Back.{worker_in, ComesFrom}
-use Rattle.sdl_threads.specs.Kinds.{KeepsOneOf, SameOneOf}
-use Rattle.sdl_settling.specs.Coming.{block_if, forwarder_if, blocks_back, forwarders_back}
+use Rattle.sdl_run_threads.specs.declared.work.Returned.{Returned}
+use Rattle.sdl_run_threads.specs.declared.kinds.Kind.{Kind}
+use Rattle.sdl_run_threads.specs.declared.kinds.Kind.TheVariants.{Block, Forwarder}
+use Rattle.sdl_run_threads.specs.Back.{worker_in, ComesFrom}
+use Rattle.sdl_run_threads.specs.Kinds.{KeepsOneOf, SameOneOf}
+use Rattle.sdl_run_settling.specs.Coming.{block_if, forwarder_if, blocks_back, forwarders_back}
 
 -- it keeps what its steps keep, and is the one that was given
 abbrev pub CameBack : {X : Type 0} → (X → Type 0) → (X → X → Type 0) → X → X → Type 0

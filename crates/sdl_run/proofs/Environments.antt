@@ -5,19 +5,19 @@ use Rattle.std.specs.Io.KnownBytes.{Keeps}
 use Rattle.sdl_signal.specs.declared.values.Item.{Item}
 use Rattle.sdl_signal.specs.declared.ends.OutputEnd.{OutputEnd}
 use Rattle.sdl_signal.specs.declared.ends.OutputEnd.TheVariants as output
-use Rattle.sdl_parts.specs.Structure.{Structure, lexicon_of}
+use Rattle.sdl_structure_parts.specs.Structure.{Structure, lexicon_of}
 use Rattle.sdl_routes.specs.declared.route.TableRow.{TableRow}
 use Rattle.sdl_routes.specs.declared.route.Station.{Station}
-use Rattle.sdl_ends.specs.Ends.{WorkerEnds, IsSameEnds, put_at}
-use Rattle.sdl_hand.specs.declared.hand.Refused.{Refused}
-use Rattle.sdl_hand.specs.declared.hand.Stepped.{Stepped}
-use Rattle.sdl_hand.specs.declared.hand.Stepped.TheVariants.{Memory}
-use Rattle.sdl_hand.specs.Puts.{answer_of}
+use Rattle.sdl_forward_ends.specs.Ends.{WorkerEnds, IsSameEnds, put_at}
+use Rattle.sdl_block_hand.specs.declared.hand.Refused.{Refused}
+use Rattle.sdl_block_hand.specs.declared.hand.Stepped.{Stepped}
+use Rattle.sdl_block_hand.specs.declared.hand.Stepped.TheVariants.{Memory}
+use Rattle.sdl_block_hand.specs.Puts.{answer_of}
 use Rattle.sdl_forward.specs.ByEnds.{has_feed_still}
-use Rattle.sdl_threads.proofs.Flushes.{taken_same}
-use Rattle.sdl_outcome.specs.EnvironmentWork.{EnvWorking, HasReadSoFar, HasWritten, HasWrittenSoFar, received_text}
-use Rattle.sdl_environment.specs.EnvApart.{IsEnvPuttingOut}
-use Rattle.sdl_environment.specs.EnvPhasesApart.{ReceivesApart, TakesOne}
+use Rattle.sdl_run_threads.proofs.Flushes.{taken_same}
+use Rattle.sdl_run_outcome.specs.EnvironmentWork.{EnvWorking, HasReadSoFar, HasWritten, HasWrittenSoFar, received_text}
+use Rattle.sdl_run_environment.specs.EnvApart.{IsEnvPuttingOut}
+use Rattle.sdl_run_environment.specs.EnvPhasesApart.{ReceivesApart, TakesOne}
 use Rattle.sdl_run.specs.Environment.{KeepsEnvironment}
 
 module _ (s : Structure) (rows : List TableRow) (old : EnvWorking) (was : Option Item) (before : WorkerEnds) (read_from read_to written_from written_to : Option (List ℕ)) (kept : KeepsEnvironment s rows old was before read_from read_to written_from written_to) where

@@ -3,37 +3,37 @@ use Rattle.std.proofs.Common.{ℕ, zero, suc, ◌+◌, ◌<◌, List, [], ◌∷
 use Rattle.std.proofs.lemmas.List.{length-map, map-append}
 use Rattle.std.proofs.lemmas.Option.{none-some, same_Some}
 use Rattle.std.specs.List.{AllByRecursion}
-use Rattle.sdl_parts.specs.Structure.{Structure, IsStructure}
+use Rattle.sdl_structure_parts.specs.Structure.{Structure, IsStructure}
 use Rattle.sdl_routes.specs.declared.route.Hop.{Hop}
 use Rattle.sdl_routes.specs.declared.route.Station.{Station}
 use Rattle.sdl_routes.specs.declared.route.Station.TheVariants.{Line, Inlet, Outlet}
 use Rattle.sdl_routes.specs.Routes.{EachOnce}
-use Rattle.sdl_behaviour.specs.declared.step.Frame.{Frame}
-use Rattle.sdl_behaviour.specs.declared.step.Step.{Step}
-use Rattle.sdl_ends.specs.Ends.{WorkerEnds}
-use Rattle.sdl_ends.specs.Marks.{mark}
-use Rattle.sdl_opening.specs.declared.worker.Worker.{Worker}
-use Rattle.sdl_opening.specs.declared.worker.Worker.TheVariants as worker
-use Rattle.sdl_opening.specs.Workers.{place, mark_at, blocks_from, workers_in}
+use Rattle.sdl_transition_behaviour.specs.declared.step.Frame.{Frame}
+use Rattle.sdl_transition_behaviour.specs.declared.step.Step.{Step}
+use Rattle.sdl_forward_ends.specs.Ends.{WorkerEnds}
+use Rattle.sdl_forward_ends.specs.Marks.{mark}
+use Rattle.sdl_forward_opening.specs.declared.worker.Worker.{Worker}
+use Rattle.sdl_forward_opening.specs.declared.worker.Worker.TheVariants as worker
+use Rattle.sdl_forward_opening.specs.Workers.{place, mark_at, blocks_from, workers_in}
 use Rattle.sdl_forward.specs.Forwards.{Forwarding}
 use Rattle.sdl_block.specs.declared.worker.BlockWorker.{BlockWorker}
 use Rattle.sdl_block.specs.Workers.{worker_of}
-use Rattle.sdl_hand.specs.Work.{Working}
-use Rattle.sdl_outcome.specs.Plan.{lines_from}
-use Rattle.sdl_driver.specs.Drivers.{site_of}
-use Rattle.sdl_driver.specs.Systems.{plan_of}
-use Rattle.sdl_join.specs.Back.{AreNew}
-use Rattle.sdl_threads.specs.declared.workers.BlockThread.{BlockThread}
-use Rattle.sdl_threads.specs.declared.workers.ForwarderThread.{ForwarderThread}
-use Rattle.sdl_threads.specs.declared.kinds.Kind.{Kind}
-use Rattle.sdl_threads.specs.declared.kinds.Kind.TheVariants.{Block, Forwarder}
-use Rattle.sdl_threads.specs.Kinds.{station_of_one}
+use Rattle.sdl_block_hand.specs.Work.{Working}
+use Rattle.sdl_run_outcome.specs.Plan.{delaying_from}
+use Rattle.sdl_run_driver.specs.Drivers.{site_of}
+use Rattle.sdl_run_driver.specs.Systems.{plan_of}
+use Rattle.sdl_run_join.specs.Back.{AreNew}
+use Rattle.sdl_run_threads.specs.declared.workers.BlockThread.{BlockThread}
+use Rattle.sdl_run_threads.specs.declared.workers.ForwarderThread.{ForwarderThread}
+use Rattle.sdl_run_threads.specs.declared.kinds.Kind.{Kind}
+use Rattle.sdl_run_threads.specs.declared.kinds.Kind.TheVariants.{Block, Forwarder}
+use Rattle.sdl_run_threads.specs.Kinds.{station_of_one}
 use Rattle.sdl_run.specs.Sharing.{paired, block_thread, forwarder_thread, GivesOut}
-use Rattle.sdl_driver.specs.declared.system.System.{System}
+use Rattle.sdl_run_driver.specs.declared.system.System.{System}
 use Rattle.sdl_run.specs.declared.room.Opened.{Opened}
 use Rattle.sdl_run.specs.Room.{IsReadyToRun}
 use Rattle.sdl_run.proofs.Begin.{are_new}
-use Rattle.sdl_serial_run.proofs.Fresh.{started_count}
+use Rattle.sdl_run_serial.proofs.Fresh.{started_count}
 use Rattle.sdl_run.proofs.Together.{started}
 
 -- one of a list may stand first
@@ -104,10 +104,10 @@ module _ {S K I : Type 0} {F : I → Type 0} {g : _} (may : ℕ → Frame → St
       by_list (f ∷ gs) [] same = absurd (omega (arith, same))
       by_list (f ∷ gs) (d ∷ ds) same = ap (λ (ms : List ℕ). mark (Line f.hop) ∷ ms) (by_list gs ds (omega (arith, same)))
 
-  of_lines : map mark (map of_both (map {B = Kind (BlockThread S K I F g) ForwarderThread} Forwarder fs)) ≡ map mark_at (map worker.Forwarder (lines_from 0 x.checked.channels))
-  of_lines = line_marks o.forwarders.items given.of_forwarders (lines_from 0 x.checked.channels) given.forwarder_count new.forwarders
+  of_lines : map mark (map of_both (map {B = Kind (BlockThread S K I F g) ForwarderThread} Forwarder fs)) ≡ map mark_at (map worker.Forwarder (delaying_from 0 x.checked.channels))
+  of_lines = line_marks o.forwarders.items given.of_forwarders (delaying_from 0 x.checked.channels) given.forwarder_count new.forwarders
 
-  of_all : map mark (map of_both ws) ≡ map mark_at (blocks_from 0 (length x.checked.blocks)) ++ map mark_at (map worker.Forwarder (lines_from 0 x.checked.channels))
+  of_all : map mark (map of_both ws) ≡ map mark_at (blocks_from 0 (length x.checked.blocks)) ++ map mark_at (map worker.Forwarder (delaying_from 0 x.checked.channels))
   of_all =
       ap (λ (vs : List (Kind (BlockThread S K I F g) ForwarderThread)). map mark (map of_both vs)) given.workers_are
       ∙ ap (map mark) (map-append of_both (map Block bs) (map Forwarder fs))
@@ -118,7 +118,7 @@ module _ {S K I : Type 0} {F : I → Type 0} {g : _} (may : ℕ → Frame → St
   pub marks_once : EachOnce (map mark (Outlet ∷ map of_both ws))
   marks_once =
       let blocks = map mark_at (blocks_from 0 (length x.checked.blocks)) in
-      let lines = map mark_at (map worker.Forwarder (lines_from 0 x.checked.channels)) in
+      let lines = map mark_at (map worker.Forwarder (delaying_from 0 x.checked.channels)) in
       let whole : EachOnce (blocks ++ mark Outlet ∷ lines) =
-      subst EachOnce (map-append mark_at (blocks_from 0 (length x.checked.blocks)) (worker.Environment ∷ map worker.Forwarder (lines_from 0 x.checked.channels))) (once x.checked ready.started.structure) in
+      subst EachOnce (map-append mark_at (blocks_from 0 (length x.checked.blocks)) (worker.Environment ∷ map worker.Forwarder (delaying_from 0 x.checked.channels))) (once x.checked ready.started.structure) in
       subst (λ (ms : List ℕ). EachOnce (mark Outlet ∷ ms)) (sym of_all) (moved_first blocks lines (mark Outlet) whole)

@@ -1,14 +1,14 @@
 -- Ends given out, place by place.
 use Rattle.std.proofs.Common.{ℕ, ◌+◌, List, [], ◌∷◌, ◌++◌, length, map, ◌≡◌, refl, ap, sym, ◌∙◌, arith, append_assoc}
 use Rattle.std.proofs.lemmas.List.{append-nil, length-append}
-use Rattle.sdl_ends.specs.Ends.{WorkerEnds}
-use Rattle.sdl_serial_run.proofs.Begins.{one_over, none_left, nothing}
+use Rattle.sdl_forward_ends.specs.Ends.{WorkerEnds}
+use Rattle.sdl_run_serial.proofs.Begins.{one_over, none_left, nothing}
 use Rattle.sdl_forward.specs.Forwards.{Forwarding}
 use Rattle.sdl_block.specs.declared.worker.BlockWorker.{BlockWorker}
-use Rattle.sdl_threads.specs.declared.workers.BlockThread.{BlockThread}
-use Rattle.sdl_threads.specs.declared.workers.ForwarderThread.{ForwarderThread}
-use Rattle.sdl_threads.specs.declared.kinds.Kind.{Kind}
-use Rattle.sdl_threads.specs.declared.kinds.Kind.TheVariants.{Block, Forwarder}
+use Rattle.sdl_run_threads.specs.declared.workers.BlockThread.{BlockThread}
+use Rattle.sdl_run_threads.specs.declared.workers.ForwarderThread.{ForwarderThread}
+use Rattle.sdl_run_threads.specs.declared.kinds.Kind.{Kind}
+use Rattle.sdl_run_threads.specs.declared.kinds.Kind.TheVariants.{Block, Forwarder}
 use Rattle.sdl_run.specs.Sharing.{paired, block_thread, forwarder_thread, Gives, GivesOut}
 
 paired_push : {X W : Type 0} (f : X → WorkerEnds → W) (xs : List X) (es : List WorkerEnds) (x : X) (e : WorkerEnds) → length es ≡ length xs → paired f (xs ++ x ∷ []) (es ++ e ∷ []) ≡ paired f xs es ++ f x e ∷ []

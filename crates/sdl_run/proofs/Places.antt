@@ -2,7 +2,7 @@
 use Rattle.std.proofs.Common.{ℕ, zero, suc, ◌+◌, ◌<◌, List, [], ◌∷◌, ◌++◌, length, map, get_or, slice_get, Some, All, ◌≡◌, refl, ap, ◌∙◌, subst, arith}
 use Rattle.std.proofs.lemmas.Option.{none-some, same_Some}
 use Rattle.std.specs.List.{AllByRecursion, AllZip}
-use Rattle.sdl_ends.specs.Ends.{WorkerEnds}
+use Rattle.sdl_forward_ends.specs.Ends.{WorkerEnds}
 use Rattle.sdl_run.specs.Sharing.{paired}
 
 pub all_places : {X : Type 0} (P : X → Type 0) (xs : List X) → ((k : ℕ) (x : X) → slice_get xs k ≡ Some x → P x) → AllByRecursion P xs

@@ -7,30 +7,30 @@ use Rattle.std.specs.List.{AllZip}
 use Rattle.sdl_signal.specs.declared.values.Item.{Item}
 use Rattle.sdl_routes.specs.declared.route.Station.{Station}
 use Rattle.sdl_queue.specs.declared.rest.Rest.{Rest}
-use Rattle.sdl_behaviour.specs.declared.step.Frame.{Frame}
-use Rattle.sdl_behaviour.specs.declared.step.Step.{Step}
+use Rattle.sdl_transition_behaviour.specs.declared.step.Frame.{Frame}
+use Rattle.sdl_transition_behaviour.specs.declared.step.Step.{Step}
 use Rattle.sdl_transition.specs.Rules.{Rules, block_rules}
 use Rattle.sdl_instances.specs.Machine.{System}
 use Rattle.sdl_instances.specs.CoreOf.{CanFire}
-use Rattle.sdl_instances.specs.Calls.{KeepsRest}
-use Rattle.sdl_ends.specs.Ends.{WorkerEnds, IsSameEnds}
-use Rattle.sdl_opening.specs.Used.{AreUsed}
+use Rattle.sdl_instances.specs.Calls.{LeavesOthers}
+use Rattle.sdl_forward_ends.specs.Ends.{WorkerEnds, IsSameEnds}
+use Rattle.sdl_forward_opening.specs.Used.{AreUsed}
 use Rattle.sdl_forward.specs.Boards.{lists_of}
 use Rattle.sdl_forward.specs.Forwards.{Forwarding}
 use Rattle.sdl_forward.specs.HandsOn.{IsHandingOn}
-use Rattle.sdl_hand.specs.Work.{Working}
-use Rattle.sdl_hand.specs.Apart.{IsPuttingOut}
+use Rattle.sdl_block_hand.specs.Work.{Working}
+use Rattle.sdl_block_hand.specs.Apart.{IsPuttingOut}
 use Rattle.sdl_block.specs.declared.worker.BlockWorker.{BlockWorker}
 use Rattle.sdl_block.specs.Workers.{worker_of, behaviours_of, system_around}
-use Rattle.sdl_outcome.specs.Plan.{Plan, blocks_in, system_at}
-use Rattle.sdl_outcome.specs.EnvironmentWork.{EnvWorking}
-use Rattle.sdl_order.specs.Driver.{Site, IsCoreAt}
-use Rattle.sdl_environment.specs.EnvApart.{IsEnvPuttingOut}
-use Rattle.sdl_driver.proofs.Driving.{system_is}
-use Rattle.sdl_driver.proofs.Drives.{map_map}
-use Rattle.sdl_join.specs.Back.{HaveComeBack}
-use Rattle.sdl_threads.specs.declared.workers.BlockThread.{BlockThread}
-use Rattle.sdl_threads.specs.declared.workers.ForwarderThread.{ForwarderThread}
+use Rattle.sdl_run_outcome.specs.Plan.{Plan, blocks_in, system_at}
+use Rattle.sdl_run_outcome.specs.EnvironmentWork.{EnvWorking}
+use Rattle.sdl_run_order.specs.Driver.{Site, IsCoreAt}
+use Rattle.sdl_run_environment.specs.EnvApart.{IsEnvPuttingOut}
+use Rattle.sdl_run_driver.proofs.Driving.{system_is}
+use Rattle.sdl_run_driver.proofs.Drives.{map_map}
+use Rattle.sdl_run_join.specs.Back.{HaveComeBack}
+use Rattle.sdl_run_threads.specs.declared.workers.BlockThread.{BlockThread}
+use Rattle.sdl_run_threads.specs.declared.workers.ForwarderThread.{ForwarderThread}
 use Rattle.sdl_run.specs.Sharing.{paired, block_thread, forwarder_thread}
 use Rattle.sdl_run.proofs.Places.{all_places, all_of, front, behind, at_map, map_at, at_paired, zip_left, zip_map, paired_left, paired_right, paired_length}
 use Rattle.sdl_run.proofs.Comes.{CameBack}
@@ -58,7 +58,7 @@ module _ {S K I : Type 0} {F : I → Type 0} {g : _} (may : ℕ → Frame → St
       ap (λ (rs : List (List Rules)). unwrap_or (slice_get rs n) []) rules ∙ ap (λ (o : Option (List Rules)). unwrap_or o []) (map_at (λ w. block_rules (behaviours_of w)) bs n b at)
 
   -- the system of a block with the behaviours of the one at this place
-  pub system_here : (n : ℕ) (b v : BlockWorker S K I F g) → slice_get bs n ≡ Some b → IsCoreAt may plan n (worker_of b).core → behaviours_of v ≡ behaviours_of b → KeepsRest (worker_of b).core (worker_of v).core
+  pub system_here : (n : ℕ) (b v : BlockWorker S K I F g) → slice_get bs n ≡ Some b → IsCoreAt may plan n (worker_of b).core → behaviours_of v ≡ behaviours_of b → LeavesOthers (worker_of b).core (worker_of v).core
       → system_at plan n ≡ system_around v plan.routes
   system_here n b v at core same rest =
       system_is (system_at plan n) (system_around v plan.routes) (sym (rest.1 ∙ core.signals)) (sym (rest.2 ∙ core.sets)) refl
@@ -103,7 +103,7 @@ module _ {S K I : Type 0} {F : I → Type 0} {g : _} (may : ℕ → Frame → St
     -- when all have come back
     module _ (keeps_block : BlockThread S K I F g → Type 0) (same_block : BlockThread S K I F g → BlockThread S K I F g → Type 0) (keeps_forwarder : ForwarderThread → Type 0) (same_forwarder : ForwarderThread → ForwarderThread → Type 0)
         (block_keeps : (v : BlockThread S K I F g) → keeps_block v → CanFire may (behaviours_of v.block) × IsPuttingOut may (system_around v.block plan.routes) (worker_of v.block) v.ends)
-        (block_same : (u v : BlockThread S K I F g) → same_block u v → (behaviours_of v.block ≡ behaviours_of u.block) × (KeepsRest (worker_of u.block).core (worker_of v.block).core × IsSameEnds u.ends v.ends))
+        (block_same : (u v : BlockThread S K I F g) → same_block u v → (behaviours_of v.block ≡ behaviours_of u.block) × (LeavesOthers (worker_of u.block).core (worker_of v.block).core × IsSameEnds u.ends v.ends))
         (forwarder_keeps : (v : ForwarderThread) → keeps_forwarder v → IsHandingOn plan.routes v.forwarder v.ends)
         (forwarder_same : (u v : ForwarderThread) → same_forwarder u v → (v.forwarder.hop ≡ u.forwarder.hop) × IsSameEnds u.ends v.ends)
         (came : List (BlockThread S K I F g)) (lines : List ForwarderThread) (blocks_came : AllZip (CameBack keeps_block same_block) (paired (block_thread budget) bs of_blocks) came)
@@ -123,7 +123,7 @@ module _ {S K I : Type 0} {F : I → Type 0} {g : _} (may : ℕ → Frame → St
 
       -- which block came back at a place
       pub block_at : (n : ℕ) (v : BlockThread S K I F g) → slice_get came n ≡ Some v
-          → (b : BlockWorker S K I F g) × (slice_get bs n ≡ Some b) × keeps_block v × (behaviours_of v.block ≡ behaviours_of b) × KeepsRest (worker_of b).core (worker_of v.block).core
+          → (b : BlockWorker S K I F g) × (slice_get bs n ≡ Some b) × keeps_block v × (behaviours_of v.block ≡ behaviours_of b) × LeavesOthers (worker_of b).core (worker_of v.block).core
       block_at n v at =
           let (u, found, kept_u) = zip_left _ (paired (block_thread budget) bs of_blocks) came blocks_came n v at in
           let (b, e, at_b, at_e, is) = at_paired (block_thread budget) bs of_blocks n u found in

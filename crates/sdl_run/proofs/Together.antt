@@ -7,50 +7,50 @@ use Rattle.std.specs.List.{AllByRecursion, AllZip}
 use Rattle.std.specs.Option.{is_some}
 use Rattle.std.specs.Prelude.{⊤}
 use Rattle.sdl_signal.specs.declared.values.Item.{Item}
-use Rattle.sdl_parts.specs.Structure.{Structure, IsStructure}
+use Rattle.sdl_structure_parts.specs.Structure.{Structure, IsStructure}
 use Rattle.sdl_routes.specs.declared.route.TableRow.{TableRow}
 use Rattle.sdl_routes.specs.declared.route.Station.{Station}
 use Rattle.sdl_routes.specs.Table.{IsTable}
 use Rattle.sdl_queue.specs.declared.rest.Rest.{Rest}
-use Rattle.sdl_behaviour.specs.declared.step.Frame.{Frame}
-use Rattle.sdl_behaviour.specs.declared.step.Step.{Step}
+use Rattle.sdl_transition_behaviour.specs.declared.step.Frame.{Frame}
+use Rattle.sdl_transition_behaviour.specs.declared.step.Step.{Step}
 use Rattle.sdl_transition.specs.Bound.{AreOneSystem}
 use Rattle.sdl_instances.specs.CoreOf.{CanFire}
-use Rattle.sdl_ends.specs.Ends.{WorkerEnds, IsSameEnds, AreRejoined}
-use Rattle.sdl_opening.specs.Opens.{AreOpen}
-use Rattle.sdl_opening.specs.Workers.{workers_in}
-use Rattle.sdl_opening.specs.Used.{AreUsed}
+use Rattle.sdl_forward_ends.specs.Ends.{WorkerEnds, IsSameEnds, AreRejoined}
+use Rattle.sdl_forward_opening.specs.Opens.{AreOpen}
+use Rattle.sdl_forward_opening.specs.Workers.{workers_in}
+use Rattle.sdl_forward_opening.specs.Used.{AreUsed}
 use Rattle.sdl_forward.specs.Boards.{lists_of}
 use Rattle.sdl_forward.specs.Forwards.{Forwarding}
 use Rattle.sdl_forward.specs.HandsOn.{IsHandingOn}
-use Rattle.sdl_hand.specs.Apart.{IsPuttingOut}
+use Rattle.sdl_block_hand.specs.Apart.{IsPuttingOut}
 use Rattle.sdl_block.specs.declared.worker.BlockWorker.{BlockWorker}
 use Rattle.sdl_block.specs.Workers.{worker_of, behaviours_of, system_around}
-use Rattle.sdl_outcome.specs.Plan.{Plan, IsPlan, lines_from, workers_of}
-use Rattle.sdl_outcome.specs.EnvironmentWork.{EnvWorking, IsEnvFresh, HasReadSoFar, HasWrittenSoFar}
-use Rattle.sdl_order.specs.Driver.{Site, IsAtWork}
-use Rattle.sdl_environment.specs.EnvApart.{IsEnvPuttingOut}
-use Rattle.sdl_driver.specs.declared.driver.Driver.{Driver}
-use Rattle.sdl_driver.specs.declared.parked.Parked.{Parked}
-use Rattle.sdl_driver.specs.declared.system.System.{System}
-use Rattle.sdl_driver.specs.Drivers.{site_of}
-use Rattle.sdl_driver.specs.Stopped.{site_of_parked, IsParked}
-use Rattle.sdl_driver.specs.Systems.{plan_of}
-use Rattle.sdl_driver.proofs.Drives.{same_plan, workers_few}
-use Rattle.sdl_driver.proofs.Readings.{reads_none, writes_none}
-use Rattle.sdl_join.specs.Back.{HaveComeBack, AreNew}
-use Rattle.sdl_serial_run.specs.Starting.{idle_at}
-use Rattle.sdl_serial_run.proofs.Fresh.{started_count}
-use Rattle.sdl_threads.specs.declared.workers.BlockThread.{BlockThread}
-use Rattle.sdl_threads.specs.declared.workers.ForwarderThread.{ForwarderThread}
-use Rattle.sdl_threads.specs.declared.work.Returned.{Returned}
-use Rattle.sdl_threads.specs.declared.kinds.Kind.{Kind}
-use Rattle.sdl_threads.specs.declared.kinds.Kind.TheVariants.{Block, Forwarder}
-use Rattle.sdl_threads.specs.Back.{ComesFrom, worker_in}
-use Rattle.sdl_threads.specs.Kinds.{KeepsOneOf, SameOneOf}
-use Rattle.sdl_threads.specs.Workers.{IsSameBlock, IsSameForwarder}
+use Rattle.sdl_run_outcome.specs.Plan.{Plan, IsPlan, delaying_from, workers_of}
+use Rattle.sdl_run_outcome.specs.EnvironmentWork.{EnvWorking, IsEnvFresh, HasReadSoFar, HasWrittenSoFar}
+use Rattle.sdl_run_order.specs.Driver.{Site, IsAtWork}
+use Rattle.sdl_run_environment.specs.EnvApart.{IsEnvPuttingOut}
+use Rattle.sdl_run_driver.specs.declared.driver.Driver.{Driver}
+use Rattle.sdl_run_driver.specs.declared.parked.Parked.{Parked}
+use Rattle.sdl_run_driver.specs.declared.system.System.{System}
+use Rattle.sdl_run_driver.specs.Drivers.{site_of}
+use Rattle.sdl_run_driver.specs.Stopped.{site_of_parked, IsParked}
+use Rattle.sdl_run_driver.specs.Systems.{plan_of}
+use Rattle.sdl_run_driver.proofs.Drives.{same_plan, workers_few}
+use Rattle.sdl_run_driver.proofs.Readings.{reads_none, writes_none}
+use Rattle.sdl_run_join.specs.Back.{HaveComeBack, AreNew}
+use Rattle.sdl_run_serial.specs.Starting.{idle_at}
+use Rattle.sdl_run_serial.proofs.Fresh.{started_count}
+use Rattle.sdl_run_threads.specs.declared.workers.BlockThread.{BlockThread}
+use Rattle.sdl_run_threads.specs.declared.workers.ForwarderThread.{ForwarderThread}
+use Rattle.sdl_run_threads.specs.declared.work.Returned.{Returned}
+use Rattle.sdl_run_threads.specs.declared.kinds.Kind.{Kind}
+use Rattle.sdl_run_threads.specs.declared.kinds.Kind.TheVariants.{Block, Forwarder}
+use Rattle.sdl_run_threads.specs.Back.{ComesFrom, worker_in}
+use Rattle.sdl_run_threads.specs.Kinds.{KeepsOneOf, SameOneOf}
+use Rattle.sdl_run_threads.specs.Workers.{IsSameBlock, IsSameForwarder}
 use Rattle.sdl_run.specs.Sharing.{paired, block_thread, forwarder_thread, GivesOut}
-use Rattle.sdl_settling.specs.Coming.{blocks_back, forwarders_back, ends_back}
+use Rattle.sdl_run_settling.specs.Coming.{blocks_back, forwarders_back, ends_back}
 use Rattle.sdl_run.specs.Environment.{KeepsEnvironment}
 use Rattle.sdl_run.proofs.Places.{all_places, all_of, at_paired, paired_length}
 use Rattle.sdl_run.proofs.Comes.{CameBack, all_come}
@@ -152,7 +152,7 @@ module _ {S K I : Type 0} {F : I → Type 0} {g : _} (may : ℕ → Frame → St
     abbrev environment : IsEnvFresh (length d.system.checked.blocks) d.environment
     environment = ready.opened.environment
 
-    abbrev forwarders : d.forwarders.items ≡ map idle_at (lines_from 0 d.system.checked.channels)
+    abbrev forwarders : d.forwarders.items ≡ map idle_at (delaying_from 0 d.system.checked.channels)
     forwarders = ready.opened.forwarders
 
     abbrev opened : AreOpen d.system.checked d.system.routes all shelf

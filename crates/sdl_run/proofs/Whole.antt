@@ -1,23 +1,23 @@
 -- A run that has stopped is that of the system that was started.
 use Rattle.std.proofs.Common.{ℕ, ◌+◌, List, Option, length, map, ◌≡◌, ap, sym, ◌∙◌, subst}
-use Rattle.sdl_parts.specs.Structure.{Structure}
+use Rattle.sdl_structure_parts.specs.Structure.{Structure}
 use Rattle.sdl_routes.specs.declared.route.TableRow.{TableRow}
 use Rattle.sdl_transition.specs.declared.block_parts.BlockParts.{BlockParts}
 use Rattle.sdl_forward.specs.Forwards.{Forwarding}
 use Rattle.sdl_block.specs.declared.worker.BlockWorker.{BlockWorker}
-use Rattle.sdl_outcome.specs.Plan.{Plan, blocks_in, lines_from}
-use Rattle.sdl_outcome.specs.EnvironmentWork.{HasReadSoFar, HasWrittenSoFar}
-use Rattle.sdl_driver.specs.declared.closing.Closing.{Closing}
-use Rattle.sdl_driver.specs.declared.closing.Room.{Room}
-use Rattle.sdl_driver.specs.declared.parked.Parked.{Parked}
-use Rattle.sdl_driver.specs.declared.system.System.{System}
-use Rattle.sdl_driver.specs.Closings.{HasRoom, HasReadIn, HasWrittenIn}
-use Rattle.sdl_driver.specs.Systems.{plan_of, IsSameSystem}
-use Rattle.sdl_driver.proofs.Drives.{same_plan}
-use Rattle.sdl_driver.proofs.Rooms.{room_as}
-use Rattle.sdl_serial_run.specs.Starting.{idle_at}
-use Rattle.sdl_serial_run.specs.Serial.{IsStartOf}
-use Rattle.sdl_serial_run.proofs.Fresh.{hops_of, start_count}
+use Rattle.sdl_run_outcome.specs.Plan.{Plan, blocks_in, delaying_from}
+use Rattle.sdl_run_outcome.specs.EnvironmentWork.{HasReadSoFar, HasWrittenSoFar}
+use Rattle.sdl_run_driver.specs.declared.closing.Closing.{Closing}
+use Rattle.sdl_run_driver.specs.declared.closing.Room.{Room}
+use Rattle.sdl_run_driver.specs.declared.parked.Parked.{Parked}
+use Rattle.sdl_run_driver.specs.declared.system.System.{System}
+use Rattle.sdl_run_driver.specs.Closings.{HasRoom, HasReadIn, HasWrittenIn}
+use Rattle.sdl_run_driver.specs.Systems.{plan_of, IsSameSystem}
+use Rattle.sdl_run_driver.proofs.Drives.{same_plan}
+use Rattle.sdl_run_driver.proofs.Rooms.{room_as}
+use Rattle.sdl_run_serial.specs.Starting.{idle_at}
+use Rattle.sdl_run_serial.specs.Serial.{IsStartOf}
+use Rattle.sdl_run_serial.proofs.Fresh.{hops_of, start_count}
 use Rattle.sdl_run.specs.declared.room.Opened.{Opened}
 use Rattle.sdl_run.specs.Room.{IsOpened}
 
@@ -35,8 +35,8 @@ module _ {S K I : Type 0} {F : I → Type 0} {g : _} (b : System (BlockParts S I
       subst (λ (v : Room S K I F g). HasRoom (length x.blocks.items) (length x.blocks.items + (lines + 1)) v) (sym same)
       (room_as taken (length b.checked.blocks) (length b.checked.blocks + (lines + 1)) (length x.blocks.items) (length x.blocks.items + (lines + 1)) blocks (ap (λ (n : ℕ). n + (lines + 1)) blocks) h)
 
-  pub hops_opened : (o : Opened S K I F g) → IsOpened b.checked b.routes o → map (λ (f : Forwarding). f.hop) o.forwarders.items ≡ lines_from 0 x.checked.channels
-  hops_opened o h = ap (map (λ (f : Forwarding). f.hop)) (opened_at o h).forwarders ∙ hops_of (lines_from 0 x.checked.channels)
+  pub hops_opened : (o : Opened S K I F g) → IsOpened b.checked b.routes o → map (λ (f : Forwarding). f.hop) o.forwarders.items ≡ delaying_from 0 x.checked.channels
+  hops_opened o h = ap (map (λ (f : Forwarding). f.hop)) (opened_at o h).forwarders ∙ hops_of (delaying_from 0 x.checked.channels)
 
 -- what was read and written until the workers stopped
 module _ {S K I : Type 0} {F : I → Type 0} {g : _} (x : System (BlockWorker S K I F g)) (p : Parked S K I F g) (same : IsSameSystem x p.system) (c : Closing S K I F g) (start mid now : Option (List ℕ)) where

@@ -1,12 +1,12 @@
 -- Which worker of a run in threads has which ends. (This project's own.)
 use Rattle.std.specs.Prelude.{◌≡◌, ℕ, List, [], ◌∷◌, ◌++◌, map, length}
-use Rattle.sdl_ends.specs.Ends.{WorkerEnds}
+use Rattle.sdl_forward_ends.specs.Ends.{WorkerEnds}
 use Rattle.sdl_forward.specs.Forwards.{Forwarding}
 use Rattle.sdl_block.specs.declared.worker.BlockWorker.{BlockWorker}
-use Rattle.sdl_threads.specs.declared.workers.BlockThread.{BlockThread}
-use Rattle.sdl_threads.specs.declared.workers.ForwarderThread.{ForwarderThread}
-use Rattle.sdl_threads.specs.declared.kinds.Kind.{Kind}
-use Rattle.sdl_threads.specs.declared.kinds.Kind.TheVariants as kind
+use Rattle.sdl_run_threads.specs.declared.workers.BlockThread.{BlockThread}
+use Rattle.sdl_run_threads.specs.declared.workers.ForwarderThread.{ForwarderThread}
+use Rattle.sdl_run_threads.specs.declared.kinds.Kind.{Kind}
+use Rattle.sdl_run_threads.specs.declared.kinds.Kind.TheVariants as kind
 
 -- each with the ends at its place
 abbrev pub paired : {X W : Type 0} → (X → WorkerEnds → W) → List X → List WorkerEnds → List W

@@ -3,19 +3,19 @@ ghost use Rattle.std.specs.Prelude.{◌≡◌, ◌<◌, ◌≤◌, ◌^◌, [], 
 ghost use Rattle.std.specs.List.{All, AllZip};
 ghost use Rattle.sdl_routes.specs.Routes.{EachOnce};
 ghost use Rattle.sdl_routes.specs.declared.route.Station.TheVariants.{Outlet};
-ghost use Rattle.sdl_ends.specs.Ends.{IsSameEnds};
-ghost use Rattle.sdl_ends.specs.Marks.{mark};
-ghost use Rattle.sdl_threads.specs.Back.{ComesFrom};
+ghost use Rattle.sdl_forward_ends.specs.Ends.{IsSameEnds};
+ghost use Rattle.sdl_forward_ends.specs.Marks.{mark};
+ghost use Rattle.sdl_run_threads.specs.Back.{ComesFrom};
 ghost use Rattle.sdl_run.specs.Environment.{KeepsEnvironment};
 
 use crate::environment_thread::EnvironmentThread;
-use sdl_ends::Ends;
-use sdl_environment::EnvApart;
-use sdl_log::Keeps;
-use sdl_parts::Structure;
+use sdl_forward_ends::Ends;
+use sdl_instances_log::LogStore;
 use sdl_routes::Routes;
-use sdl_settling::back::put_apart;
-use sdl_threads::{AtWork, Gate, Returned, Team, Work, run_workers};
+use sdl_run_environment::EnvApart;
+use sdl_run_settling::back::split_returned;
+use sdl_run_threads::{AtWork, Gate, Returned, Team, Work, run_workers};
+use sdl_structure_parts::Structure;
 use sdl_transition::Agents;
 use std::io::{Read, Write};
 use std::snapshot::Snapshot;
@@ -36,7 +36,7 @@ fn run_until_told<
     'i,
     'o,
     S: Agents + Send,
-    K: Keeps + Send,
+    K: LogStore + Send,
     G: Gate,
     T: Threads + Wait + Sync,
     R: Read,
@@ -68,7 +68,7 @@ fn run_until_told<
     ensures ends { IsSameEnds team.entry.environment.ends result.1.ends }
 {
     let (done, environment) = run_workers(rt, team, structure, routes, gate);
-    let (environment, way) = put_apart(environment);
+    let (environment, way) = split_returned(environment);
     (done, environment, way)
 }
 
@@ -76,7 +76,7 @@ fn run_until_told<
 /// and to write to. It answers the environment and its ends, and how it came back, beside the others as they came back.
 pub fn run_beside<
     S: Agents + Send,
-    K: Keeps + Send,
+    K: LogStore + Send,
     G: Gate,
     T: Threads + Wait + Sync,
     R: Read,

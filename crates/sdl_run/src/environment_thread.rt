@@ -2,12 +2,12 @@
 ghost use Rattle.std.specs.Prelude.{◌≡◌};
 ghost use Rattle.std.specs.Io.KnownBytes.{Keeps};
 
-use sdl_ends::{Ends, Marks, mark_of};
-use sdl_environment::{EnvApart, RoutedStructure};
-use sdl_hand::Stepped;
-use sdl_parts::Structure;
+use sdl_block_hand::Stepped;
+use sdl_forward_ends::{Ends, Marks, mark_of};
 use sdl_routes::{Routes, Station};
-use sdl_threads::Work;
+use sdl_run_environment::{EnvApart, RoutedStructure};
+use sdl_run_threads::Work;
+use sdl_structure_parts::Structure;
 use std::io::{Read, Write};
 use std::snapshot::Snapshot;
 use std::sync::Wait;
@@ -58,7 +58,7 @@ impl<'e, 'i, 'o, I: Read, O: Write> Work for EnvironmentThread<'e, 'i, 'o, I, O>
     ghost use Rattle.std.specs.Prelude.{◌≡◌, [], None, refl};
     ghost use Rattle.std.proofs.Common.{◌∙◌};
     ghost use Rattle.sdl_run.specs.Environment.{KeepsEnvironment};
-    ghost use Rattle.sdl_ends.specs.Ends.{IsSameEnds};
+    ghost use Rattle.sdl_forward_ends.specs.Ends.{IsSameEnds};
     ghost use Rattle.sdl_routes.specs.declared.route.Station.TheVariants.{Outlet};
 
     ghost keeps = { λ s rows w. KeepsEnvironment s rows w.environment.now.worker w.environment.now.astray w.ends (I.remaining w.started_input.value) (I.remaining w.input.now) (O.contents w.started_output.value) (O.contents w.output.now) };

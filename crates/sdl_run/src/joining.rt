@@ -1,25 +1,25 @@
 //! All workers make their steps at once, come back, and are taken apart.
 ghost use Rattle.std.specs.Prelude.{◌≡◌, ◌<◌, length, map, MatchOption, ⊤};
-ghost use Rattle.sdl_outcome.specs.Plan.{workers_of};
-ghost use Rattle.sdl_outcome.specs.EnvironmentWork.{HasReadSoFar, HasWrittenSoFar};
-ghost use Rattle.sdl_driver.specs.Stopped.{IsParked};
-ghost use Rattle.sdl_driver.specs.Systems.{plan_of, IsSameSystem};
-ghost use Rattle.sdl_settling.specs.Coming.{blocks_back, NamesFirst};
+ghost use Rattle.sdl_run_outcome.specs.Plan.{workers_of};
+ghost use Rattle.sdl_run_outcome.specs.EnvironmentWork.{HasReadSoFar, HasWrittenSoFar};
+ghost use Rattle.sdl_run_driver.specs.Stopped.{IsParked};
+ghost use Rattle.sdl_run_driver.specs.Systems.{plan_of, IsSameSystem};
+ghost use Rattle.sdl_run_settling.specs.Coming.{blocks_back, NamesFirst};
 ghost use Rattle.sdl_run.specs.Room.{IsReadyToRun};
 
 use crate::beside::{EnvironmentWithEnds, run_beside};
 use crate::room::Opened;
 use crate::sharing::give_out;
 use sdl_block::BlockWorker;
-use sdl_driver::{Parked, System};
-use sdl_environment::EnvApart;
-use sdl_join::laws::{joined_workers_stand, new_workers_keep};
-use sdl_log::Keeps;
-use sdl_opening::laws::{no_two_workers_have_one_mark, used_ends_come_back};
-use sdl_settling::back::name_refused;
-use sdl_settling::rejoining::join_ends;
-use sdl_settling::settling::Stopped;
-use sdl_threads::{Gate, Team};
+use sdl_forward_opening::laws::{no_two_workers_have_one_mark, used_ends_come_back};
+use sdl_instances_log::LogStore;
+use sdl_run_driver::{Parked, System};
+use sdl_run_environment::EnvApart;
+use sdl_run_join::laws::{joined_workers_stand, new_workers_keep};
+use sdl_run_settling::back::name_refused;
+use sdl_run_settling::rejoining::join_ends;
+use sdl_run_settling::settling::Stopped;
+use sdl_run_threads::{Gate, Team};
 use sdl_transition::Agents;
 use std::io::{Read, Write};
 use std::snapshot::Snapshot;
@@ -30,7 +30,7 @@ use std::thread::Threads;
 /// It answers them as they stand then, and the number of one that was refused memory or whose thread could not start, if any was.
 pub fn run_apart<
     S: Agents + Send,
-    K: Keeps + Send,
+    K: LogStore + Send,
     G: Gate,
     T: Threads + Wait + Sync,
     R: Read,

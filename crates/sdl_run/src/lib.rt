@@ -9,9 +9,9 @@ mod room;
 mod sharing;
 mod threads;
 
-pub use sdl_audit::{AuditFault, Recounts, audit};
-pub use sdl_serial_run::{
+pub use sdl_run_audit::{AuditFault, Recounts, audit};
+pub use sdl_run_serial::{
     Closing, EnvOut, Ledger, RunEnd, StartFault, Worker, run_keeping, run_serial,
 };
-pub use sdl_threads::{Gate, OpenGate};
+pub use sdl_run_threads::{Gate, OpenGate};
 pub use threads::{run_threads, run_threads_keeping};

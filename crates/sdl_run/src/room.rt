@@ -1,28 +1,28 @@
 //! What a run in threads takes before its blocks start.
 ghost use Rattle.std.specs.Prelude.{◌≡◌, ◌<◌, ◌≤◌, ◌^◌, [], length, IfOk};
 ghost use Rattle.sdl_routes.specs.Routes.{AreRoutesOf};
-ghost use Rattle.sdl_settling.specs.Room.{HasApartRoom};
+ghost use Rattle.sdl_run_settling.specs.Room.{HasRejoiningRoom};
 ghost use Rattle.sdl_run.specs.Room.{IsOpened, IsThreadRoom};
 
 use sdl_block::BlockWorker;
-use sdl_driver::closing::Room;
-use sdl_ends::{Ends, Shelf};
-use sdl_environment::EnvWorker;
 use sdl_forward::Forwarder;
-use sdl_log::{Event, Keeps};
-use sdl_opening::ends_open;
-use sdl_parts::Checked;
+use sdl_forward_ends::{Ends, Shelf};
+use sdl_forward_opening::ends_open;
+use sdl_instances_log::{Event, LogStore};
 use sdl_routes::Routes;
-use sdl_serial_run::start::{forwarders_of, make_room};
-use sdl_settling::rejoining::ApartRoom;
-use sdl_threads::{AtWork, Returned};
+use sdl_run_driver::closing::Room;
+use sdl_run_environment::EnvWorker;
+use sdl_run_serial::start::{forwarders_of, make_room};
+use sdl_run_settling::rejoining::RejoiningRoom;
+use sdl_run_threads::{AtWork, Returned};
+use sdl_structure_parts::Checked;
 use sdl_transition::Agents;
 use std::alloc::{AllocError, Global};
 use std::sync::Wait;
 
 /// The environment, the forwarders and all ends, and lists with room for all that is to come into them.
 #[derive(Drop)]
-pub struct Opened<S, K: Keeps = Vec<Event>> {
+pub struct Opened<S, K: LogStore = Vec<Event>> {
     /// The environment's worker.
     pub environment: EnvWorker,
     /// A forwarder for each delaying path that carries a signal.
@@ -36,12 +36,12 @@ pub struct Opened<S, K: Keeps = Vec<Event>> {
     /// Room for them as they come back.
     pub done: Vec<Returned<AtWork<S, K>>>,
     /// Room for them as they are taken apart.
-    pub apart: ApartRoom<S, K>,
+    pub apart: RejoiningRoom<S, K>,
 }
 
 /// What a run in threads takes before its blocks start.
 #[derive(Drop)]
-pub struct ThreadRoom<S, K: Keeps = Vec<Event>> {
+pub struct ThreadRoom<S, K: LogStore = Vec<Event>> {
     pub opened: Opened<S, K>,
     /// Room for the closing.
     pub room: Room<S, K>,
@@ -50,16 +50,16 @@ pub struct ThreadRoom<S, K: Keeps = Vec<Event>> {
 }
 
 /// Room for so many blocks and forwarders, and the environment, as they are taken apart.
-fn make_apart_room<S: Agents, K: Keeps>(
+fn make_rejoining_room<S: Agents, K: LogStore>(
     alloc: Global,
     blocks: usize,
     forwarders: usize,
-) -> Result<ApartRoom<S, K>, AllocError>
+) -> Result<RejoiningRoom<S, K>, AllocError>
     requires blocks { blocks ≤ 64 }
     requires forwarders { forwarders < 2 ^ 63 }
-    ensures { IfOk result (HasApartRoom blocks forwarders) }
+    ensures { IfOk result (HasRejoiningRoom blocks forwarders) }
 {
-    Ok(ApartRoom {
+    Ok(RejoiningRoom {
         block_threads: Vec::with_capacity(alloc, blocks)?,
         forwarder_threads: Vec::with_capacity(alloc, forwarders)?,
         blocks: Vec::with_capacity(alloc, blocks)?,
@@ -69,7 +69,7 @@ fn make_apart_room<S: Agents, K: Keeps>(
 }
 
 /// Makes the environment and the forwarders, opens the ends of all workers, and takes the room for them and so many blocks.
-fn open_all<S: Agents, K: Keeps, T: Wait>(
+fn open_all<S: Agents, K: LogStore, T: Wait>(
     rt: &T,
     alloc: Global,
     checked: &Checked,
@@ -84,7 +84,7 @@ fn open_all<S: Agents, K: Keeps, T: Wait>(
     let (ends, shelf) = ends_open(rt, alloc, checked, routes)?;
     let lines = forwarders.len();
     let environment = EnvWorker::new(alloc, blocks as u32)?;
-    let apart = make_apart_room(alloc, blocks, lines)?;
+    let apart = make_rejoining_room(alloc, blocks, lines)?;
     Ok(Opened {
         environment,
         forwarders,
@@ -97,7 +97,7 @@ fn open_all<S: Agents, K: Keeps, T: Wait>(
 }
 
 /// Takes what a run in threads of so many blocks needs, before any block starts.
-pub fn make_thread_room<S: Agents, K: Keeps, T: Wait>(
+pub fn make_thread_room<S: Agents, K: LogStore, T: Wait>(
     rt: &T,
     alloc: Global,
     checked: &Checked,

@@ -1,19 +1,19 @@
 //! Each worker is given its ends.
 ghost use Rattle.std.specs.Prelude.{◌≡◌, ℕ, ◌+◌, ◌≤◌, [], length, vec_len, vec_capacity};
-ghost use Rattle.sdl_threads.specs.declared.kinds.Kind.TheVariants as kind;
+ghost use Rattle.sdl_run_threads.specs.declared.kinds.Kind.TheVariants as kind;
 ghost use Rattle.sdl_run.specs.Sharing.{block_thread, forwarder_thread, Gives, GivesOut};
 
 use sdl_block::BlockWorker;
-use sdl_ends::Ends;
 use sdl_forward::Forwarder;
-use sdl_log::Keeps;
+use sdl_forward_ends::Ends;
+use sdl_instances_log::LogStore;
+use sdl_run_threads::{AtWork, BlockThread, ForwarderThread, Kind};
 use sdl_signal::lists::{put_last, take_front};
-use sdl_threads::{AtWork, BlockThread, ForwarderThread, Kind};
 use sdl_transition::Agents;
 use std::collections::VecDeque;
 
 /// Adds each block with the next of the ends behind the workers.
-fn give_blocks<S: Agents, K: Keeps>(
+fn give_blocks<S: Agents, K: LogStore>(
     workers: &mut Vec<AtWork<S, K>>,
     budget: u32,
     blocks: Vec<BlockWorker<S, K>>,
@@ -38,7 +38,7 @@ fn give_blocks<S: Agents, K: Keeps>(
 }
 
 /// Adds each forwarder with the next of the ends behind the workers.
-fn give_forwarders<S: Agents, K: Keeps>(
+fn give_forwarders<S: Agents, K: LogStore>(
     workers: &mut Vec<AtWork<S, K>>,
     forwarders: Vec<Forwarder>,
     ends: &mut VecDeque<Ends>,
@@ -62,7 +62,7 @@ fn give_forwarders<S: Agents, K: Keeps>(
 }
 
 /// Gives each block and each forwarder the ends of its number, and answers those of the environment beside them.
-pub fn give_out<S: Agents, K: Keeps>(
+pub fn give_out<S: Agents, K: LogStore>(
     workers: Vec<AtWork<S, K>>,
     budget: u32,
     blocks: Vec<BlockWorker<S, K>>,

@@ -1,23 +1,23 @@
 //! A whole run in threads.
 ghost use Rattle.std.specs.Prelude.{◌≡◌, ◌≤◌, length, IfOk, IfErr};
 ghost use Rattle.sdl_transition.specs.Bound.{AreOneSystem, IsBound};
-ghost use Rattle.sdl_driver.specs.Closings.{HasReadIn, HasWrittenIn, StopsByMemory, IsSameBound, outcome_in, plan_of_bound};
-ghost use Rattle.sdl_driver.specs.Ended.{HasEnded};
-ghost use Rattle.sdl_outcome.specs.Lists.{items_in};
-ghost use Rattle.sdl_driver.specs.Systems.{plan_of_parts, IsBoundOf};
-ghost use Rattle.sdl_serial_run.specs.Serial.{IsBackIn};
+ghost use Rattle.sdl_run_driver.specs.Closings.{HasReadIn, HasWrittenIn, StopsByMemory, IsSameBound, outcome_in, plan_of_bound};
+ghost use Rattle.sdl_run_driver.specs.Ended.{HasEnded};
+ghost use Rattle.sdl_run_outcome.specs.Lists.{items_in};
+ghost use Rattle.sdl_run_driver.specs.Systems.{plan_of_parts, IsBoundOf};
+ghost use Rattle.sdl_run_serial.specs.Serial.{IsBackIn};
 ghost use Rattle.sdl_run.specs.Room.{IsThreadRoom};
 ghost use Rattle.sdl_run.specs.Stops.{EndsAsTheyCame};
 
 use crate::joining::run_apart;
 use crate::room::{ThreadRoom, make_thread_room};
-use sdl_driver::closing::{Closing, StartFault};
-use sdl_driver::system::{System, bound_again, with_budget};
-use sdl_log::{FilledAhead, Keeps};
-use sdl_serial_run::blocks::start_system;
-use sdl_serial_run::lists::{in_lists, room_for_lists};
-use sdl_settling::settling::{Stopped, settle};
-use sdl_threads::Gate;
+use sdl_instances_log::{FilledAhead, LogStore};
+use sdl_run_driver::closing::{Closing, StartFault};
+use sdl_run_driver::system::{System, bound_again, with_budget};
+use sdl_run_serial::blocks::start_system;
+use sdl_run_serial::lists::{in_lists, room_for_lists};
+use sdl_run_settling::settling::{Stopped, settle};
+use sdl_run_threads::Gate;
 use sdl_transition::{Agents, BlockParts, Bound};
 use std::alloc::Global;
 use std::io::{Read, Write};
@@ -27,14 +27,21 @@ use std::thread::Threads;
 
 /// A run in threads that has ended.
 #[derive(Drop)]
-pub struct Ended<S, K: Keeps> {
+pub struct Ended<S, K: LogStore> {
     pub closing: Closing<S, K>,
     /// Its workers as they stopped, before anything was settled; for contracts alone.
     pub stopped: Snapshot<Stopped<S, K>>,
 }
 
 /// Runs a system in threads, where all of its blocks start, and settles what they leave.
-fn run_in<S: Agents + Send, K: Keeps + Send, G: Gate, T: Threads + Wait + Sync, R: Read, W: Write>(
+fn run_in<
+    S: Agents + Send,
+    K: LogStore + Send,
+    G: Gate,
+    T: Threads + Wait + Sync,
+    R: Read,
+    W: Write,
+>(
     rt: &T,
     alloc: Global,
     system: System<BlockParts<S>>,
@@ -78,7 +85,7 @@ fn run_in<S: Agents + Send, K: Keeps + Send, G: Gate, T: Threads + Wait + Sync, 
 /// Runs a system as `run_threads` does, and keeps the log of each block as the type of the logs says: whole, or counted alone.
 pub fn run_threads_keeping<
     S: Agents + Send,
-    K: Keeps + Send,
+    K: LogStore + Send,
     G: Gate,
     T: Threads + Wait + Sync,
     R: Read,

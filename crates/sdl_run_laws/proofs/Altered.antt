@@ -8,21 +8,21 @@ use Rattle.sdl_signal.specs.declared.values.Signal.{Signal}
 use Rattle.sdl_routes.specs.declared.route.Station.{Station}
 use Rattle.sdl_routes.specs.declared.route.Station.TheVariants as station
 use Rattle.sdl_agents.specs.Tables.{EchoMay}
-use Rattle.sdl_log.specs.declared.event.Done.TheVariants as done
+use Rattle.sdl_instances_log.specs.declared.event.Done.TheVariants as done
 use Rattle.sdl_instances.specs.Machine.{State, FitsAt, DoesAll, next_any}
-use Rattle.sdl_opening.specs.declared.worker.Worker.{Worker}
-use Rattle.sdl_opening.specs.declared.worker.Worker.TheVariants.{Block, Environment, Forwarder}
-use Rattle.sdl_outcome.specs.declared.environment_output.EnvOut.TheVariants as env_out
-use Rattle.sdl_outcome.specs.declared.end.RunEnd.{RunEnd}
-use Rattle.sdl_outcome.specs.declared.end.RunEnd.TheVariants as run_end
-use Rattle.sdl_outcome.specs.Books.{NoOther, outs, came, left}
-use Rattle.sdl_outcome.specs.Causes.{IsCause, direct}
-use Rattle.sdl_outcome.specs.Plan.{system_at, ways_of}
-use Rattle.sdl_outcome.specs.Outcome.{IsComplete, IsLawful, LeftsAreLegal, books_of, all_origins, log_at}
-use Rattle.sdl_outcome.specs.Ends.{IsQuiet, IsSpentAt, EndsAs}
-use Rattle.sdl_outcome.specs.Ring.{no_hand}
-use Rattle.sdl_ledger.specs.declared.ledger.Ledger.{Ledger}
-use Rattle.sdl_driver.specs.Ended.{HasEnded}
+use Rattle.sdl_forward_opening.specs.declared.worker.Worker.{Worker}
+use Rattle.sdl_forward_opening.specs.declared.worker.Worker.TheVariants.{Block, Environment, Forwarder}
+use Rattle.sdl_run_outcome.specs.declared.environment_output.EnvOut.TheVariants as env_out
+use Rattle.sdl_run_outcome.specs.declared.end.RunEnd.{RunEnd}
+use Rattle.sdl_run_outcome.specs.declared.end.RunEnd.TheVariants as run_end
+use Rattle.sdl_run_outcome.specs.Books.{NoOther, outs, came, left}
+use Rattle.sdl_run_outcome.specs.Causes.{IsCause, direct}
+use Rattle.sdl_run_outcome.specs.Plan.{system_at, ways_of}
+use Rattle.sdl_run_outcome.specs.Outcome.{IsComplete, IsLawful, LeftsAreLegal, books_of, all_origins, log_at}
+use Rattle.sdl_run_outcome.specs.Ends.{IsQuiet, IsSpentAt, EndsAs}
+use Rattle.sdl_run_outcome.specs.Ring.{no_hand}
+use Rattle.sdl_run_ledger.specs.declared.ledger.Ledger.{Ledger}
+use Rattle.sdl_run_driver.specs.Ended.{HasEnded}
 use Rattle.sdl_run_laws.specs.Echo.{to_line, plan}
 use Rattle.sdl_run_laws.specs.EchoRun.{ping, pong, final, leaves, rests, with_log, with_put, with_received, with_rests, enters, starts, e, answer, answers, log_of}
 use Rattle.sdl_run_laws.proofs.Ending.{quiet}

@@ -11,19 +11,19 @@ use Rattle.sdl_signal.specs.declared.values.EnvLine.{EnvLine}
 use Rattle.sdl_signal.specs.declared.reading.LineFault.{LineFault}
 use Rattle.sdl_signal.specs.declared.ends.InputEnd.TheVariants as input
 use Rattle.sdl_signal.specs.declared.ends.OutputEnd.TheVariants as output
-use Rattle.sdl_lines.specs.Bytes.{ended_line, IsFirstLine}
+use Rattle.sdl_signal_lines.specs.Bytes.{ended_line, IsFirstLine}
 use Rattle.sdl_signal.specs.Line.{line_text}
-use Rattle.sdl_parts.specs.Structure.{lexicon_of}
+use Rattle.sdl_structure_parts.specs.Structure.{lexicon_of}
 use Rattle.sdl_routes.specs.declared.route.TableRow.{TableRow}
 use Rattle.sdl_routes.specs.declared.route.Source.{Source}
 use Rattle.sdl_routes.specs.declared.route.Source.TheVariants as source
-use Rattle.sdl_outcome.specs.declared.environment_output.EnvOut.TheVariants as env_out
-use Rattle.sdl_outcome.specs.declared.end.RunEnd.{RunEnd}
-use Rattle.sdl_outcome.specs.declared.end.RunEnd.TheVariants as run_end
-use Rattle.sdl_outcome.specs.EnvironmentWork.{HasReadAll, HasWritten, received_text}
-use Rattle.sdl_ledger.specs.declared.ledger.Ledger.{Ledger}
-use Rattle.sdl_ledger.specs.Counts.{IsLedgerOf, Balances, waiting_in}
-use Rattle.sdl_driver.specs.Closings.{StopsByMemory}
+use Rattle.sdl_run_outcome.specs.declared.environment_output.EnvOut.TheVariants as env_out
+use Rattle.sdl_run_outcome.specs.declared.end.RunEnd.{RunEnd}
+use Rattle.sdl_run_outcome.specs.declared.end.RunEnd.TheVariants as run_end
+use Rattle.sdl_run_outcome.specs.EnvironmentWork.{HasReadAll, HasWritten, received_text}
+use Rattle.sdl_run_ledger.specs.declared.ledger.Ledger.{Ledger}
+use Rattle.sdl_run_ledger.specs.Counts.{IsLedgerOf, Balances, waiting_in}
+use Rattle.sdl_run_driver.specs.Closings.{StopsByMemory}
 use Rattle.sdl_run_laws.specs.Echo.{echo, to_e, routes}
 use Rattle.sdl_run_laws.specs.EchoRun.{leaves, ledger, final, ping, signal, input_text, output_text}
 

@@ -11,26 +11,26 @@ use Rattle.sdl_routes.specs.declared.route.TableRow.{TableRow}
 use Rattle.sdl_routes.specs.declared.route.Station.{Station}
 use Rattle.sdl_routes.specs.declared.route.Station.TheVariants as station
 use Rattle.sdl_agents.specs.Tables.{EchoMay}
-use Rattle.sdl_processes.specs.Ports.{AllSaved}
-use Rattle.sdl_processes.specs.Record.{Record, saved_now}
+use Rattle.sdl_instances_processes.specs.Ports.{AllSaved}
+use Rattle.sdl_instances_processes.specs.Record.{Record, saved_now}
 use Rattle.sdl_instances.specs.Machine.{State}
 use Rattle.sdl_instances.specs.Run.{IsStamped}
 use Rattle.sdl_instances.specs.Core.{IsReady}
 use Rattle.sdl_forward.specs.Boards.{same_station, stations_of, waiting, IsStationOf, IsBoardOf}
-use Rattle.sdl_opening.specs.declared.worker.Worker.{Worker}
-use Rattle.sdl_opening.specs.declared.worker.Worker.TheVariants.{Block, Environment, Forwarder}
-use Rattle.sdl_outcome.specs.declared.end.RunEnd.TheVariants as run_end
-use Rattle.sdl_outcome.specs.Stations.{Among, Leads, same_worker, taker}
-use Rattle.sdl_outcome.specs.Books.{NoOther, outs, came, left, standing}
-use Rattle.sdl_outcome.specs.Causes.{IsCause}
-use Rattle.sdl_outcome.specs.Plan.{MayTravel, ways_of}
-use Rattle.sdl_outcome.specs.Outcome.{IsComplete, Headline, LeftsAreLegal, books_of, all_origins, log_at}
-use Rattle.sdl_outcome.specs.Ends.{IsQuiet, IsSettled}
-use Rattle.sdl_outcome.specs.Ring.{block, hop}
-use Rattle.sdl_outcome.proofs.Comparisons.{same_worker_is}
-use Rattle.sdl_order.proofs.Stamps.{cause_stamp}
-use Rattle.sdl_ledger.specs.Counts.{IsLedgerOf, Balances, waiting_in}
-use Rattle.sdl_driver.specs.Ended.{HasEnded}
+use Rattle.sdl_forward_opening.specs.declared.worker.Worker.{Worker}
+use Rattle.sdl_forward_opening.specs.declared.worker.Worker.TheVariants.{Block, Environment, Forwarder}
+use Rattle.sdl_run_outcome.specs.declared.end.RunEnd.TheVariants as run_end
+use Rattle.sdl_run_outcome.specs.Stations.{Among, Leads, same_worker, taker}
+use Rattle.sdl_run_outcome.specs.Books.{NoOther, outs, came, left, standing}
+use Rattle.sdl_run_outcome.specs.Causes.{IsCause}
+use Rattle.sdl_run_outcome.specs.Plan.{MayTravel, ways_of}
+use Rattle.sdl_run_outcome.specs.Outcome.{IsComplete, Headline, LeftsAreLegal, books_of, all_origins, log_at}
+use Rattle.sdl_run_outcome.specs.Ends.{IsQuiet, IsSettled}
+use Rattle.sdl_run_outcome.specs.Ring.{block, hop}
+use Rattle.sdl_run_outcome.proofs.Comparisons.{same_worker_is}
+use Rattle.sdl_run_order.proofs.Stamps.{cause_stamp}
+use Rattle.sdl_run_ledger.specs.Counts.{IsLedgerOf, Balances, waiting_in}
+use Rattle.sdl_run_driver.specs.Ended.{HasEnded}
 use Rattle.sdl_run_laws.specs.Echo.{to_e, to_line, routes, plan, idle}
 use Rattle.sdl_run_laws.specs.EchoRun.{ping, pong, instance, final, leaves, rests, ledger}
 use Rattle.sdl_run_laws.proofs.Running.{lawful}

@@ -9,21 +9,21 @@ use Rattle.sdl_routes.specs.declared.route.EndPoint.{EndPoint}
 use Rattle.sdl_routes.specs.declared.route.EndPoint.TheVariants as ends
 use Rattle.sdl_routes.specs.declared.route.TableRow.{TableRow}
 use Rattle.sdl_routes.specs.Routes.{Fits, picked}
-use Rattle.sdl_behaviour.specs.Offers.{Conforms, IsActionOf, IsLegalValue}
-use Rattle.sdl_log.specs.declared.event.Event.{Event}
-use Rattle.sdl_log.specs.declared.event.Event.TheVariants as event
-use Rattle.sdl_log.specs.declared.event.Arrival.{Arrival}
-use Rattle.sdl_log.specs.declared.event.Arrival.TheVariants as arrival
-use Rattle.sdl_processes.specs.Record.{Record}
+use Rattle.sdl_transition_behaviour.specs.Offers.{Conforms, IsActionOf, IsLegalValue}
+use Rattle.sdl_instances_log.specs.declared.event.Event.{Event}
+use Rattle.sdl_instances_log.specs.declared.event.Event.TheVariants as event
+use Rattle.sdl_instances_log.specs.declared.event.Arrival.{Arrival}
+use Rattle.sdl_instances_log.specs.declared.event.Arrival.TheVariants as arrival
+use Rattle.sdl_instances_processes.specs.Record.{Record}
 use Rattle.sdl_instances.specs.Legal.{GoesTo}
 use Rattle.sdl_instances.specs.Machine.{State, number_living}
 use Rattle.sdl_instances.specs.Core.{IsLivingAt, arrival_event}
 use Rattle.sdl_instances.specs.Calls.{IsReadyAt, IsTurnOf}
 use Rattle.sdl_instances.specs.Spawn.{spawn, spawn_may, boss, kid, set, fresh, waits, all_started, at_first, starts, start_offer, go_idle, to_kid}
 use Rattle.sdl_block.specs.Picks.{ArrivesAt, TurnsAt}
-use Rattle.sdl_outcome.specs.EnvironmentWork.{wish_for}
-use Rattle.sdl_environment.specs.EnvPicks.{IsRoutedAt}
-use Rattle.sdl_driver.specs.Runs.{scheduled}
+use Rattle.sdl_run_outcome.specs.EnvironmentWork.{wish_for}
+use Rattle.sdl_run_environment.specs.EnvPicks.{IsRoutedAt}
+use Rattle.sdl_run_driver.specs.Runs.{scheduled}
 use Rattle.sdl_run_laws.specs.Echo.{plan}
 use Rattle.sdl_run_laws.specs.Picks.{ask, in_state, second_has_it, third_started, two_ways, line, along}
 

@@ -3,11 +3,11 @@ use Rattle.std.proofs.Common.{◌≡◌, [], ◌∷◌, Some, refl, codes, lit�
 use Rattle.std.specs.Fmt.{digits}
 use Rattle.sdl_signal.specs.declared.ends.InputEnd.TheVariants as input
 use Rattle.sdl_signal.specs.declared.ends.OutputEnd.TheVariants as output
-use Rattle.sdl_lines.specs.Bytes.{HasNoNewline}
+use Rattle.sdl_signal_lines.specs.Bytes.{HasNoNewline}
 use Rattle.sdl_signal.specs.Line.{line_text}
 use Rattle.sdl_signal.specs.Reading.{NamesFirst}
-use Rattle.sdl_parts.specs.Structure.{lexicon_of}
-use Rattle.sdl_outcome.specs.EnvironmentWork.{HasReadAll, HasWritten, received_text}
+use Rattle.sdl_structure_parts.specs.Structure.{lexicon_of}
+use Rattle.sdl_run_outcome.specs.EnvironmentWork.{HasReadAll, HasWritten, received_text}
 use Rattle.sdl_run_laws.specs.Echo.{echo, to_e, routes}
 use Rattle.sdl_run_laws.specs.EchoRun.{leaves, ping_line, input_text, output_text}
 

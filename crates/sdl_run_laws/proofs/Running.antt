@@ -3,17 +3,17 @@ use Rattle.std.proofs.Common.{[], ◌∷◌, None, Some, refl, lit<, true≢fals
 use Rattle.std.proofs.lemmas.List.Elements.{All-nil, All-cons}
 use Rattle.sdl_signal.specs.declared.values.Pid.TheVariants as pid
 use Rattle.sdl_routes.specs.declared.route.Via.TheVariants as via
-use Rattle.sdl_behaviour.specs.declared.step.Action.TheVariants as action
-use Rattle.sdl_behaviour.specs.declared.step.Dest.TheVariants as dest
-use Rattle.sdl_behaviour.specs.Offers.{Conforms, IsActionOf, IsLegalValue}
+use Rattle.sdl_transition_behaviour.specs.declared.step.Action.TheVariants as action
+use Rattle.sdl_transition_behaviour.specs.declared.step.Dest.TheVariants as dest
+use Rattle.sdl_transition_behaviour.specs.Offers.{Conforms, IsActionOf, IsLegalValue}
 use Rattle.sdl_agents.specs.Tables.{EchoMay}
-use Rattle.sdl_log.specs.declared.event.Event.TheVariants as event
-use Rattle.sdl_processes.specs.Record.{Record}
+use Rattle.sdl_instances_log.specs.declared.event.Event.TheVariants as event
+use Rattle.sdl_instances_processes.specs.Record.{Record}
 use Rattle.sdl_instances.specs.Machine.{System, next_any}
 use Rattle.sdl_instances.specs.Run.{IsRun}
-use Rattle.sdl_outcome.specs.Plan.{system_at}
-use Rattle.sdl_outcome.specs.Outcome.{IsLawful}
-use Rattle.sdl_outcome.specs.Ring.{block}
+use Rattle.sdl_run_outcome.specs.Plan.{system_at}
+use Rattle.sdl_run_outcome.specs.Outcome.{IsLawful}
+use Rattle.sdl_run_outcome.specs.Ring.{block}
 use Rattle.sdl_run_laws.specs.Echo.{to_e, to_line, plan, idle, start_offer, ping_offer}
 use Rattle.sdl_run_laws.specs.EchoRun.{go_idle, answer, signal, e, ping, pong, instance, with, final, starts, answers, log_of, leaves}
 

@@ -3,8 +3,8 @@ use Rattle.std.proofs.Common.{◌≡◌, ℕ, zero, suc, List, [], ◌∷◌, ma
 use Rattle.std.proofs.lemmas.Option.{none-some, same_Some}
 use Rattle.sdl_signal.specs.declared.ids.BlockId.{BlockId}
 use Rattle.sdl_signal.specs.declared.ids.GateId.{GateId}
-use Rattle.sdl_parts.specs.declared.parts.Set.{Set}
-use Rattle.sdl_parts.specs.Structure.{Structure}
+use Rattle.sdl_structure_parts.specs.declared.parts.Set.{Set}
+use Rattle.sdl_structure_parts.specs.Structure.{Structure}
 use Rattle.sdl_routes.specs.declared.route.Hop.{Hop}
 use Rattle.sdl_routes.specs.declared.route.Source.TheVariants as source
 use Rattle.sdl_routes.specs.declared.route.Station.{Station}
@@ -13,16 +13,16 @@ use Rattle.sdl_routes.specs.declared.route.TableRow.{TableRow}
 use Rattle.sdl_instances.specs.declared.process_set.ProcessSet.{ProcessSet}
 use Rattle.sdl_instances.specs.Core.{numbers_of, sets_of}
 use Rattle.sdl_instances.specs.Machine.{System}
-use Rattle.sdl_ends.specs.Stations.{station_behind}
-use Rattle.sdl_ends.specs.Ends.{WorkerEnds, IsSameEnds, AreFresh, HasFeed}
-use Rattle.sdl_ends.specs.Ways.{HasGateWays}
+use Rattle.sdl_forward_ends.specs.Stations.{station_behind}
+use Rattle.sdl_forward_ends.specs.Ends.{WorkerEnds, IsSameEnds, AreFresh, HasFeed}
+use Rattle.sdl_forward_ends.specs.Ways.{HasGateWays}
 use Rattle.sdl_forward.specs.Carries.{HasWaysOn}
-use Rattle.sdl_hand.specs.Apart.{StartsIn, HasOwnWays}
+use Rattle.sdl_block_hand.specs.Apart.{StartsIn, HasOwnWays}
 use Rattle.sdl_forward.specs.ByEnds.{has_feed_still}
-use Rattle.sdl_opening.specs.declared.worker.Worker.{Worker}
-use Rattle.sdl_opening.specs.declared.worker.Worker.TheVariants.{Block, Environment, Forwarder}
-use Rattle.sdl_opening.specs.Workers.{first, starter, workers_in, ways_in}
-use Rattle.sdl_opening.specs.Opens.{AreOpen, ends_of}
+use Rattle.sdl_forward_opening.specs.declared.worker.Worker.{Worker}
+use Rattle.sdl_forward_opening.specs.declared.worker.Worker.TheVariants.{Block, Environment, Forwarder}
+use Rattle.sdl_forward_opening.specs.Workers.{first, starter, workers_in, ways_in}
+use Rattle.sdl_forward_opening.specs.Opens.{AreOpen, ends_of}
 
 -- a set by its numbers
 set_found : (xs : List Set) (k : ℕ) (d : ProcessSet) → slice_get (map numbers_of xs) k ≡ Some d → (t : Set) × (slice_get xs k ≡ Some t) × (numbers_of t ≡ d)

@@ -2,24 +2,24 @@
 use Rattle.std.specs.Prelude.{ℕ, true, false, List, [], ◌∷◌, Some, None, codes}
 use Rattle.sdl_signal.specs.declared.ids.StateId.{StateId}
 use Rattle.sdl_signal.specs.declared.values.Sort.TheVariants as sort
-use Rattle.sdl_parts.specs.declared.parts.Channel.{Channel}
-use Rattle.sdl_parts.specs.declared.parts.End.{End}
-use Rattle.sdl_parts.specs.declared.parts.Gate.{Gate}
-use Rattle.sdl_parts.specs.declared.parts.Owner.{Owner}
-use Rattle.sdl_parts.specs.declared.parts.Owner.TheVariants as owner
-use Rattle.sdl_parts.specs.declared.parts.Scope.{Scope}
-use Rattle.sdl_parts.specs.declared.parts.Scope.TheVariants as scope
-use Rattle.sdl_parts.specs.declared.parts.Side.TheVariants.{Outer, Inner}
-use Rattle.sdl_parts.specs.Structure.{Structure}
+use Rattle.sdl_structure_parts.specs.declared.parts.Channel.{Channel}
+use Rattle.sdl_structure_parts.specs.declared.parts.End.{End}
+use Rattle.sdl_structure_parts.specs.declared.parts.Gate.{Gate}
+use Rattle.sdl_structure_parts.specs.declared.parts.Owner.{Owner}
+use Rattle.sdl_structure_parts.specs.declared.parts.Owner.TheVariants as owner
+use Rattle.sdl_structure_parts.specs.declared.parts.Scope.{Scope}
+use Rattle.sdl_structure_parts.specs.declared.parts.Scope.TheVariants as scope
+use Rattle.sdl_structure_parts.specs.declared.parts.Side.TheVariants.{Outer, Inner}
+use Rattle.sdl_structure_parts.specs.Structure.{Structure}
 use Rattle.sdl_routes.specs.declared.route.TableRow.{TableRow}
 use Rattle.sdl_routes.specs.declared.route.Source.TheVariants as source
 use Rattle.sdl_routes.specs.declared.route.EndPoint.TheVariants as ends
 use Rattle.sdl_routes.specs.declared.route.Station.TheVariants as station
-use Rattle.sdl_behaviour.specs.declared.offer.Offer.{Offer}
+use Rattle.sdl_transition_behaviour.specs.declared.offer.Offer.{Offer}
 use Rattle.sdl_transition.specs.Rules.{Rules}
 use Rattle.sdl_agents.specs.Offered.{sorted, offered}
-use Rattle.sdl_outcome.specs.Plan.{Plan}
-use Rattle.sdl_outcome.specs.Ring.{named, end_at, block, hop}
+use Rattle.sdl_run_outcome.specs.Plan.{Plan}
+use Rattle.sdl_run_outcome.specs.Ring.{named, end_at, block, hop}
 
 -- Echo: its signals are ping and pong, its gates those of the system, of B and of E, and its channels c0 and c1
 abbrev pub gate_of : List ℕ → Owner → Gate

@@ -7,26 +7,26 @@ use Rattle.sdl_signal.specs.declared.values.Pid.TheVariants as pid
 use Rattle.sdl_signal.specs.declared.values.Signal.{Signal}
 use Rattle.sdl_signal.specs.declared.values.Item.{Item}
 use Rattle.sdl_signal.specs.declared.values.EnvLine.{EnvLine}
-use Rattle.sdl_lines.specs.Bytes.{ended_line}
+use Rattle.sdl_signal_lines.specs.Bytes.{ended_line}
 use Rattle.sdl_routes.specs.declared.route.Station.{Station}
 use Rattle.sdl_routes.specs.declared.route.Station.TheVariants as station
 use Rattle.sdl_routes.specs.declared.route.Via.TheVariants as via
-use Rattle.sdl_behaviour.specs.declared.step.Frame.{Frame}
-use Rattle.sdl_behaviour.specs.declared.step.Step.{Step}
-use Rattle.sdl_behaviour.specs.declared.step.Next.TheVariants as next_is
-use Rattle.sdl_behaviour.specs.declared.step.Action.TheVariants as action
-use Rattle.sdl_behaviour.specs.declared.step.Dest.TheVariants as dest
-use Rattle.sdl_log.specs.declared.event.Event.{Event}
-use Rattle.sdl_log.specs.declared.event.Event.TheVariants as event
-use Rattle.sdl_log.specs.declared.event.Done.TheVariants as done
-use Rattle.sdl_log.specs.declared.event.Trigger.TheVariants as trigger
-use Rattle.sdl_processes.specs.Record.{Record}
+use Rattle.sdl_transition_behaviour.specs.declared.step.Frame.{Frame}
+use Rattle.sdl_transition_behaviour.specs.declared.step.Step.{Step}
+use Rattle.sdl_transition_behaviour.specs.declared.step.Next.TheVariants as next_is
+use Rattle.sdl_transition_behaviour.specs.declared.step.Action.TheVariants as action
+use Rattle.sdl_transition_behaviour.specs.declared.step.Dest.TheVariants as dest
+use Rattle.sdl_instances_log.specs.declared.event.Event.{Event}
+use Rattle.sdl_instances_log.specs.declared.event.Event.TheVariants as event
+use Rattle.sdl_instances_log.specs.declared.event.Done.TheVariants as done
+use Rattle.sdl_instances_log.specs.declared.event.Trigger.TheVariants as trigger
+use Rattle.sdl_instances_processes.specs.Record.{Record}
 use Rattle.sdl_instances.specs.Machine.{State}
-use Rattle.sdl_outcome.specs.declared.environment_output.EnvOut.{EnvOut}
-use Rattle.sdl_outcome.specs.declared.environment_output.EnvOut.TheVariants as env_out
-use Rattle.sdl_outcome.specs.Outcome.{Outcome}
-use Rattle.sdl_outcome.specs.Ring.{block, hop, no_hand}
-use Rattle.sdl_ledger.specs.declared.ledger.Ledger.{Ledger}
+use Rattle.sdl_run_outcome.specs.declared.environment_output.EnvOut.{EnvOut}
+use Rattle.sdl_run_outcome.specs.declared.environment_output.EnvOut.TheVariants as env_out
+use Rattle.sdl_run_outcome.specs.Outcome.{Outcome}
+use Rattle.sdl_run_outcome.specs.Ring.{block, hop, no_hand}
+use Rattle.sdl_run_ledger.specs.declared.ledger.Ledger.{Ledger}
 use Rattle.sdl_run_laws.specs.Echo.{idle}
 
 -- the signals, of which the environment's worker, number 1, outputs ping and E outputs pong

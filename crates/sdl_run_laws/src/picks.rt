@@ -1,12 +1,12 @@
 //! What a pick chooses, written out: which instance of Spawn a signal enters and which makes a turn, which route a line takes, and
 //! which workers of Echo a schedule names. These functions do nothing: they carry the proofs.
 ghost use Rattle.std.specs.Prelude.{◌≡◌, [], ◌∷◌};
-ghost use Rattle.sdl_log.specs.declared.event.Event.TheVariants as event;
+ghost use Rattle.sdl_instances_log.specs.declared.event.Event.TheVariants as event;
 ghost use Rattle.sdl_instances.specs.Machine.{State};
 ghost use Rattle.sdl_instances.specs.Spawn.{spawn, spawn_may, boss, kid, all_started, at_first, starts};
 ghost use Rattle.sdl_block.specs.Picks.{ArrivesAt, TurnsAt};
-ghost use Rattle.sdl_environment.specs.EnvPicks.{IsRoutedAt};
-ghost use Rattle.sdl_driver.specs.Runs.{scheduled};
+ghost use Rattle.sdl_run_environment.specs.EnvPicks.{IsRoutedAt};
+ghost use Rattle.sdl_run_driver.specs.Runs.{scheduled};
 ghost use Rattle.sdl_run_laws.specs.Echo.{plan};
 ghost use Rattle.sdl_run_laws.specs.Picks.{ask, in_state, second_has_it, third_started, two_ways, line, along};
 

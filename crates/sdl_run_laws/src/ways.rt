@@ -1,20 +1,20 @@
 //! What holds of the ends that an opening gives each worker. These functions do nothing: they carry the proofs.
 ghost use Rattle.std.specs.Prelude.{◌≡◌, ℕ, List, Some, slice_get};
 ghost use Rattle.sdl_signal.specs.declared.ids.BlockId.{BlockId};
-ghost use Rattle.sdl_parts.specs.Structure.{Structure};
+ghost use Rattle.sdl_structure_parts.specs.Structure.{Structure};
 ghost use Rattle.sdl_routes.specs.declared.route.Hop.{Hop};
 ghost use Rattle.sdl_routes.specs.declared.route.Station.{Station};
 ghost use Rattle.sdl_routes.specs.declared.route.TableRow.{TableRow};
 ghost use Rattle.sdl_instances.specs.Core.{sets_of};
 ghost use Rattle.sdl_instances.specs.Machine.{System};
-ghost use Rattle.sdl_ends.specs.Ends.{WorkerEnds, IsSameEnds, AreFresh};
-ghost use Rattle.sdl_ends.specs.Ways.{HasGateWays};
+ghost use Rattle.sdl_forward_ends.specs.Ends.{WorkerEnds, IsSameEnds, AreFresh};
+ghost use Rattle.sdl_forward_ends.specs.Ways.{HasGateWays};
 ghost use Rattle.sdl_forward.specs.Carries.{HasWaysOn};
-ghost use Rattle.sdl_hand.specs.Apart.{HasOwnWays};
-ghost use Rattle.sdl_opening.specs.declared.worker.Worker.{Worker};
-ghost use Rattle.sdl_opening.specs.declared.worker.Worker.TheVariants.{Block, Environment, Forwarder};
-ghost use Rattle.sdl_opening.specs.Workers.{workers_in};
-ghost use Rattle.sdl_opening.specs.Opens.{AreOpen, ends_of};
+ghost use Rattle.sdl_block_hand.specs.Apart.{HasOwnWays};
+ghost use Rattle.sdl_forward_opening.specs.declared.worker.Worker.{Worker};
+ghost use Rattle.sdl_forward_opening.specs.declared.worker.Worker.TheVariants.{Block, Environment, Forwarder};
+ghost use Rattle.sdl_forward_opening.specs.Workers.{workers_in};
+ghost use Rattle.sdl_forward_opening.specs.Opens.{AreOpen, ends_of};
 
 /// The ends of each block have a feed at the first station of each route that starts at one of its sets.
 pub fn blocks_have_their_ways()

@@ -3,9 +3,9 @@ ghost use Rattle.std.specs.Prelude.{◌≡◌};
 ghost use Rattle.sdl_transition.specs.Bound.{structure_of, routes_of};
 ghost use Rattle.sdl_routes.specs.Routes.{AreRoutesOf};
 ghost use Rattle.sdl_forward.specs.Boards.{stations_of, lists_of};
-ghost use Rattle.sdl_outcome.specs.Lists.{items_in};
-ghost use Rattle.sdl_outcome.specs.Outcome.{IsComplete};
-ghost use Rattle.sdl_driver.specs.Closings.{outcome_in, plan_of_bound};
+ghost use Rattle.sdl_run_outcome.specs.Lists.{items_in};
+ghost use Rattle.sdl_run_outcome.specs.Outcome.{IsComplete};
+ghost use Rattle.sdl_run_driver.specs.Closings.{outcome_in, plan_of_bound};
 
 use sdl_queue::Rest;
 use sdl_routes::Station;

@@ -1,7 +1,7 @@
 //! Relay, where each `num` that B consumes is counted.
 ghost use Rattle.std.specs.Prelude.{◌∷◌, [], IfOk};
 ghost use Rattle.sdl_signal.specs.declared.values.Sort.TheVariants as sort;
-ghost use Rattle.sdl_behaviour.specs.Transitions.{IsAllowed, IsAllowedBehaviour};
+ghost use Rattle.sdl_transition_behaviour.specs.Transitions.{IsAllowed, IsAllowedBehaviour};
 ghost use Rattle.sdl_agents.specs.Tables.{LeadsToIdle, RelayMay, forwarded};
 ghost use Rattle.sdl_agents.specs.Offered.{KeepsTo, OffersOne};
 

@@ -2,11 +2,11 @@
 ghost use Rattle.std.specs.Prelude.{◌≤◌, IfErr};
 ghost use Rattle.std.specs.List.{AllByRecursion};
 ghost use Rattle.sdl_transition.specs.Bound.{IsBound};
-ghost use Rattle.sdl_behaviour.specs.Transitions.{IsAllowedBehaviour};
-ghost use Rattle.sdl_serial_run.specs.Serial.{IsBackIn};
+ghost use Rattle.sdl_transition_behaviour.specs.Transitions.{IsAllowedBehaviour};
+ghost use Rattle.sdl_run_serial.specs.Serial.{IsBackIn};
 
 use sdl_agents::Runner;
-use sdl_hand::Hand;
+use sdl_block_hand::Hand;
 use sdl_instances::Event;
 use sdl_queue::Rest;
 use sdl_routes::Station;

@@ -1,7 +1,7 @@
 //! What a run of Ring is to leave.
 use crate::plan::{Left, Plan};
 use arrayvec::ArrayVec;
-use sdl_hand::Hand;
+use sdl_block_hand::Hand;
 use sdl_queue::Rest;
 use sdl_routes::Station;
 use sdl_run::{Ledger, RunEnd};

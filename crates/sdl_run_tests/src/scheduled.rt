@@ -1,12 +1,12 @@
 //! Relay under schedules, as a program runs it.
 ghost use Rattle.std.specs.List.{AllByRecursion};
 ghost use Rattle.sdl_transition.specs.Bound.{IsBound};
-ghost use Rattle.sdl_behaviour.specs.Transitions.{IsAllowedBehaviour};
+ghost use Rattle.sdl_transition_behaviour.specs.Transitions.{IsAllowedBehaviour};
 
 use sdl_agents::{Runner, relay};
-use sdl_command::arguments::{Command, Options};
+use sdl_app_command::arguments::{Command, Options};
+use sdl_app_file_runs::running::{Settings, run_bound};
 use sdl_examples::RELAY;
-use sdl_file_runs::running::{Settings, run_bound};
 use sdl_test_systems::{Stop, bind_to};
 use sdl_transition::{Agents, Behaviour, Bound};
 use std::alloc::Global;

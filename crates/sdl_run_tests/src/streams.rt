@@ -3,10 +3,10 @@
 ghost use Rattle.std.specs.Prelude.{◌≤◌, length, IfOk, IfErr};
 ghost use Rattle.sdl_routes.specs.Routes.{AreRoutesOf};
 ghost use Rattle.sdl_transition.specs.Bound.{IsBound, structure_of, routes_of};
-ghost use Rattle.sdl_outcome.specs.Lists.{items_in};
-ghost use Rattle.sdl_outcome.specs.Outcome.{IsComplete};
-ghost use Rattle.sdl_driver.specs.Closings.{outcome_in, plan_of_bound};
-ghost use Rattle.sdl_serial_run.specs.Serial.{IsBackIn};
+ghost use Rattle.sdl_run_outcome.specs.Lists.{items_in};
+ghost use Rattle.sdl_run_outcome.specs.Outcome.{IsComplete};
+ghost use Rattle.sdl_run_driver.specs.Closings.{outcome_in, plan_of_bound};
+ghost use Rattle.sdl_run_serial.specs.Serial.{IsBackIn};
 
 use crate::changes::{Change, changed};
 use sdl_agents::echo_behaviours;

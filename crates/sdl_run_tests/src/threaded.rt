@@ -1,11 +1,11 @@
 //! Runs of a system in threads, and what each left.
 ghost use Rattle.std.specs.List.{AllByRecursion};
 ghost use Rattle.sdl_transition.specs.Bound.{IsBound};
-ghost use Rattle.sdl_behaviour.specs.Transitions.{IsAllowedBehaviour};
+ghost use Rattle.sdl_transition_behaviour.specs.Transitions.{IsAllowedBehaviour};
 
 use crate::gates::Holding;
-use sdl_hand::Hand;
-use sdl_instances::{Keeps, Unstored};
+use sdl_block_hand::Hand;
+use sdl_instances::{LogStore, Unstored};
 use sdl_queue::Rest;
 use sdl_routes::Station;
 use sdl_run::{Closing, EnvOut, Ledger, RunEnd, StartFault, run_threads, run_threads_keeping};
@@ -143,7 +143,7 @@ fn resting_in(rests: &[(Station, Rest)]) -> usize {
 }
 
 /// How many events are stored in the logs.
-fn stored_in<K: Keeps>(logs: &[K]) -> usize {
+fn stored_in<K: LogStore>(logs: &[K]) -> usize {
     let mut stored: usize = 0;
     for log in logs {
         stored = stored.saturating_add(log.stored().len());
@@ -152,7 +152,10 @@ fn stored_in<K: Keeps>(logs: &[K]) -> usize {
 }
 
 /// What is left, without the system and its logs.
-fn left_by<S: Agents + Drop, K: Keeps>(closing: Closing<S, K>, written: Vec<u8>) -> LeftInThreads {
+fn left_by<S: Agents + Drop, K: LogStore>(
+    closing: Closing<S, K>,
+    written: Vec<u8>,
+) -> LeftInThreads {
     LeftInThreads {
         held: held_in(closing.hands.as_slice()),
         resting: resting_in(closing.rests.as_slice()),

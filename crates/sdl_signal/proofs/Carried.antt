@@ -2,8 +2,8 @@
 use Rattle.std.proofs.Common.{◌≡◌, ℕ, ◌+◌, ◌<◌, ◌≤◌, List, [], ◌∷◌, ◌++◌, length, Option, Some, None, IfSome, flat_map, refl, sym, ap, ◌∙◌, subst, append_assoc, append-nil, inl, inr, arith, length-append}
 use Rattle.std.specs.List.{AllByRecursion}
 use Rattle.std.specs.Io.KnownBytes.{Keeps, Consumes, IsAtEnd, prepend_known}
-use Rattle.sdl_lines.specs.Bytes.{newline, HasNoNewline, IsFirstLine, BeginsWithLines, BeginsTooLong, ended_line}
-use Rattle.sdl_lines.specs.Source.{Source, HandsOut, to_come}
+use Rattle.sdl_signal_lines.specs.Bytes.{newline, HasNoNewline, IsFirstLine, BeginsWithLines, BeginsTooLong, ended_line}
+use Rattle.sdl_signal_lines.specs.Source.{Source, HandsOut, to_come}
 use Rattle.sdl_signal.specs.Names.{Lexicon}
 use Rattle.sdl_signal.specs.Line.{line_text}
 use Rattle.sdl_signal.specs.Reading.{IsFirstFault, NamesFirst}
@@ -12,8 +12,8 @@ use Rattle.sdl_signal.specs.declared.values.EnvLine.{EnvLine}
 use Rattle.sdl_signal.specs.declared.reading.LineFault.{LineFault}
 use Rattle.sdl_signal.specs.declared.reading.LineFault.TheVariants.{TooLong}
 use Rattle.sdl_signal.specs.declared.ends.InputEnd.TheVariants as ends
-use Rattle.sdl_lines.specs.declared.sources.Ended.{Ended}
-use Rattle.sdl_lines.specs.declared.sources.Ended.TheVariants as ended
+use Rattle.sdl_signal_lines.specs.declared.sources.Ended.{Ended}
+use Rattle.sdl_signal_lines.specs.declared.sources.Ended.TheVariants as ended
 
 -- lists of lines, with one more
 flat-push : (lines : List (List ℕ)) (line rest : List ℕ) → flat_map ended_line lines ++ (ended_line line ++ rest) ≡ flat_map ended_line (lines ++ line ∷ []) ++ rest

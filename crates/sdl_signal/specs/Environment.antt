@@ -9,12 +9,12 @@ use Rattle.sdl_signal.specs.declared.ends.InputEnd.{InputEnd}
 use Rattle.sdl_signal.specs.declared.ends.InputEnd.TheVariants as ends
 use Rattle.sdl_signal.specs.declared.environment.EnvRead.{EnvRead}
 use Rattle.sdl_signal.specs.declared.environment.EnvRead.TheVariants as env
-use Rattle.sdl_lines.specs.declared.sources.Ended.TheVariants as ended
+use Rattle.sdl_signal_lines.specs.declared.sources.Ended.TheVariants as ended
 use Rattle.sdl_signal.specs.Names.{Lexicon}
 use Rattle.sdl_signal.specs.Line.{line_text}
 use Rattle.sdl_signal.specs.Reading.{IsFirstFault, NamesFirst}
-use Rattle.sdl_lines.specs.Source.{Source}
-use Rattle.sdl_lines.specs.Bytes.{HasNoNewline, IsFirstLine, BeginsWithLines, BeginsTooLong, ended_line}
+use Rattle.sdl_signal_lines.specs.Source.{Source}
+use Rattle.sdl_signal_lines.specs.Bytes.{HasNoNewline, IsFirstLine, BeginsWithLines, BeginsTooLong, ended_line}
 
 -- how many lines of an input are carried out at most
 abbrev pub most_lines : ℕ

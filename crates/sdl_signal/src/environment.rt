@@ -1,16 +1,16 @@
 //! The environment's reading of an input: its lines, read as signals, up to the end, a fault or the limit.
 ghost use Rattle.std.specs.Prelude.{◌≡◌, ◌≤◌, ℕ, true, false, List, length, [], Option, None, Some};
-ghost use Rattle.sdl_lines.specs.Bytes.{HasNoNewline};
+ghost use Rattle.sdl_signal_lines.specs.Bytes.{HasNoNewline};
 ghost use Rattle.sdl_signal.specs.declared.values.EnvLine.{EnvLine};
-ghost use Rattle.sdl_lines.specs.declared.sources.Ended.{Ended};
-ghost use Rattle.sdl_lines.specs.Source.{HoldsLine};
+ghost use Rattle.sdl_signal_lines.specs.declared.sources.Ended.{Ended};
+ghost use Rattle.sdl_signal_lines.specs.Source.{HoldsLine};
 ghost use Rattle.sdl_signal.specs.Environment.{Counts, EndsItself, GoesOn, HasCarried, IsEnvLine};
 
 use crate::ends::InputEnd;
 use crate::naming::Names;
 use crate::reading::{LineFault, read_into};
 use crate::values::EnvLine;
-use sdl_lines::{LineSource, Seen};
+use sdl_signal_lines::{LineSource, Seen};
 use std::io::Read;
 use std::marker::Model;
 

@@ -16,6 +16,6 @@ pub use environment::{EnvRead, EnvReader};
 pub use ids::{BlockId, ChannelId, GateId, RouteId, SetId, SignalId, StateId};
 pub use naming::{Name, Names, name};
 pub use reading::{LineFault, read_line};
-pub use sdl_lines::{LineRead, LineSink, LineSource, Written, write_line};
+pub use sdl_signal_lines::{LineRead, LineSink, LineSource, Written, write_line};
 pub use values::{EnvLine, Item, Origin, Pid, Signal, Sort, Value};
 pub use writing::line_of;

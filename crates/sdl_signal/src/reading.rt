@@ -14,7 +14,7 @@ use crate::values::{EnvLine, Pid, Signal};
 use arrayvec::ArrayVec;
 use fields::{MANY, fields_of, parts};
 use in_order::read_in_order;
-use sdl_lines::LONGEST_LINE;
+use sdl_signal_lines::LONGEST_LINE;
 use std::fmt::{self, Display, Formatter};
 use values::{read_pid, read_values};
 

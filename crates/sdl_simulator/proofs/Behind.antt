@@ -1,7 +1,7 @@
 -- The words after `run`, of which the last two name the files.
 use Rattle.std.proofs.Common.{◌≡◌, ℕ, List, [], ◌∷◌, ◌++◌, Some, Bor, map, refl, ap, ◌∙◌}
 use Rattle.std.proofs.lemmas.List.{map-append}
-use Rattle.sdl_command.specs.Arguments.{last_word, words_before}
+use Rattle.sdl_app_command.specs.Arguments.{last_word, words_before}
 use Rattle.sdl_simulator.specs.Words.{run_of, run_with, chosen_of, chart_of, chart_with, charted}
 
 last_behind : (words : List (List ℕ)) (file : List ℕ) → last_word (words ++ file ∷ []) ≡ Some file

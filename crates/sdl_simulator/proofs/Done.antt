@@ -1,13 +1,13 @@
 -- What a run of both files comes to.
 use Rattle.std.proofs.Common.{◌≡◌, ℕ, Bool, List, Option, Some, None, inl, inr, subst}
-use Rattle.sdl_parts.specs.Structure.{Structure}
-use Rattle.sdl_body.specs.declared.listing.ListedSet.{ListedSet}
+use Rattle.sdl_structure_parts.specs.Structure.{Structure}
+use Rattle.sdl_listing_body.specs.declared.listing.ListedSet.{ListedSet}
 use Rattle.sdl_chart_words.specs.declared.asked.Request.{Request}
 use Rattle.sdl_chart_words.specs.declared.sets.Charting.{Charting}
-use Rattle.sdl_command.specs.declared.arguments.Options.{Options}
-use Rattle.sdl_file_agents.specs.Answers.{rows_of, IsAnswerIn}
-use Rattle.sdl_file_commands.specs.Files.{Declares}
-use Rattle.sdl_file_commands.specs.Running.{CanRun}
+use Rattle.sdl_app_command.specs.declared.arguments.Options.{Options}
+use Rattle.sdl_listing_binding.specs.Answers.{rows_of, IsAnswerIn}
+use Rattle.sdl_app_file_commands.specs.Files.{Declares}
+use Rattle.sdl_app_file_commands.specs.Running.{CanRun}
 use Rattle.sdl_graph_program.specs.declared.commands.Prepared.{Prepared}
 use Rattle.sdl_listing_runs.specs.Outcomes.{HasRunListed, HasRunMarked}
 use Rattle.sdl_simulator.specs.Files.{Describes}

@@ -1,9 +1,9 @@
 -- What is asked for with options is a run.
 use Rattle.std.proofs.Common.{◌≡◌, ℕ, Bool, true, false, ◌||◌, if◌then◌else◌, List, [], ◌∷◌, Option, Some, None, option_map, refl, subst, codes, bytes_eq}
 use Rattle.std.specs.List.{list_all}
-use Rattle.sdl_command.specs.declared.arguments.Command.TheVariants as command
-use Rattle.sdl_command.specs.declared.arguments.Options.{Options}
-use Rattle.sdl_command.specs.Arguments.{is_option, has, last_word, words_before, options_in}
+use Rattle.sdl_app_command.specs.declared.arguments.Command.TheVariants as command
+use Rattle.sdl_app_command.specs.declared.arguments.Options.{Options}
+use Rattle.sdl_app_command.specs.Arguments.{is_option, has, last_word, words_before, options_in}
 use Rattle.sdl_drawing_text.specs.declared.commands.Form.{Form}
 use Rattle.sdl_drawing_text.specs.Words.{form_of}
 use Rattle.sdl_chart_words.specs.declared.asked.Request.{Request}

@@ -1,18 +1,18 @@
 -- What the simulator does of its words, and its exit statuses. (This project's own.)
 use Rattle.std.specs.Prelude.{◌≡◌, ℕ, ◌⊎◌, Bool, false, List, Option, Some, None, IsSomeAnd}
 use Rattle.std.specs.Io.KnownBytes.{Keeps}
-use Rattle.sdl_parts.specs.Structure.{Structure}
+use Rattle.sdl_structure_parts.specs.Structure.{Structure}
 use Rattle.sdl_routes.specs.declared.route.TableRow.{TableRow}
 use Rattle.sdl_routes.specs.Routes.{AreRoutesOf}
-use Rattle.sdl_body.specs.declared.listing.ListedSet.{ListedSet}
-use Rattle.sdl_command.specs.declared.arguments.Options.{Options}
+use Rattle.sdl_listing_body.specs.declared.listing.ListedSet.{ListedSet}
+use Rattle.sdl_app_command.specs.declared.arguments.Options.{Options}
 use Rattle.sdl_chart_words.specs.declared.asked.Request.{Request}
 use Rattle.sdl_chart_words.specs.declared.sets.Charting.{Charting}
 use Rattle.sdl_chart_words.specs.Sets.{AreNamed}
-use Rattle.sdl_file_commands.specs.Files.{Declares}
-use Rattle.sdl_file_commands.specs.Commands.{HasPrinted}
-use Rattle.sdl_file_commands.specs.Texts.{check_text}
-use Rattle.sdl_file_agents.specs.Answers.{rows_of, IsAnswerIn}
+use Rattle.sdl_app_file_commands.specs.Files.{Declares}
+use Rattle.sdl_app_file_commands.specs.Commands.{HasPrinted}
+use Rattle.sdl_app_file_commands.specs.Texts.{check_text}
+use Rattle.sdl_listing_binding.specs.Answers.{rows_of, IsAnswerIn}
 use Rattle.sdl_graph_program.specs.Outcomes.{IsToldOf}
 use Rattle.sdl_listing_runs.specs.Outcomes.{HasRunListed}
 use Rattle.sdl_drawing_text.specs.Commands.{IsShown}

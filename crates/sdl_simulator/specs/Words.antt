@@ -1,11 +1,11 @@
 -- What the words after the simulator's name ask for. (This project's own.)
 use Rattle.std.specs.Prelude.{ℕ, Bool, false, ◌||◌, if◌then◌else◌, List, [], ◌∷◌, Option, Some, None, option_map, codes, bytes_eq}
 use Rattle.std.specs.List.{list_all}
-use Rattle.sdl_command.specs.declared.arguments.Command.{Command}
-use Rattle.sdl_command.specs.declared.arguments.Command.TheVariants as command
-use Rattle.sdl_command.specs.Arguments.{is_option, is_run_option, has, last_word, words_before, options_in}
+use Rattle.sdl_app_command.specs.declared.arguments.Command.{Command}
+use Rattle.sdl_app_command.specs.declared.arguments.Command.TheVariants as command
+use Rattle.sdl_app_command.specs.Arguments.{is_option, is_run_option, has, last_word, words_before, options_in}
 use Rattle.sdl_drawing_text.specs.Words.{form_of}
-use Rattle.sdl_command.specs.declared.arguments.Options.{Options}
+use Rattle.sdl_app_command.specs.declared.arguments.Options.{Options}
 use Rattle.sdl_chart_words.specs.declared.asked.Request.{Request}
 use Rattle.sdl_chart_words.specs.Words.{request_of}
 use Rattle.sdl_simulator.specs.declared.words.Asked.{Asked}

@@ -2,12 +2,12 @@
 ghost use Rattle.std.specs.Prelude.{◌≡◌, ℕ, List, IfOk, IfSome};
 ghost use Rattle.sdl_simulator.specs.Files.{Describes};
 
-use sdl_agents_faults::write_agents_fault;
-use sdl_agents_file::{AgentsFault, ListedSet, read_agents};
-use sdl_command::errors::write_error;
-use sdl_command::stack::takes_stack;
-use sdl_file_commands::files::{FileRead, read_file};
-use sdl_parts::Structure;
+use sdl_app_command::errors::write_error;
+use sdl_app_command::stack::takes_stack;
+use sdl_app_file_commands::files::{FileRead, read_file};
+use sdl_listing_faults::write_agents_fault;
+use sdl_listing_file::{AgentsFault, ListedSet, read_agents};
+use sdl_structure_parts::Structure;
 use std::alloc::Global;
 use std::io::Write;
 use std::rt::Files;

@@ -6,8 +6,8 @@ mod agents;
 mod program;
 mod words;
 
-use sdl_command::status::REFUSED;
-use sdl_file_commands::streams::{Input, Output, shared_buffer};
+use sdl_app_command::status::REFUSED;
+use sdl_app_file_commands::streams::{Input, Output, shared_buffer};
 use std::process::ExitCode;
 
 fn main(rt: HostRuntime) -> ExitCode {

@@ -1,10 +1,10 @@
 //! What the program does, over any reader and writers, and its exit statuses.
 ghost use Rattle.std.specs.Prelude.{◌≡◌, ℕ, List, map, IfOk, IfErr, IfSome, IsErr};
 ghost use Rattle.std.specs.Io.KnownBytes.{Keeps};
-ghost use Rattle.sdl_file_commands.specs.Commands.{HasPrinted};
-ghost use Rattle.sdl_file_commands.specs.Files.{Declares};
-ghost use Rattle.sdl_file_commands.specs.Running.{CanRun};
-ghost use Rattle.sdl_file_commands.specs.Texts.{check_text};
+ghost use Rattle.sdl_app_file_commands.specs.Commands.{HasPrinted};
+ghost use Rattle.sdl_app_file_commands.specs.Files.{Declares};
+ghost use Rattle.sdl_app_file_commands.specs.Running.{CanRun};
+ghost use Rattle.sdl_app_file_commands.specs.Texts.{check_text};
 ghost use Rattle.sdl_graph_program.specs.Outcomes.{IsToldOf};
 ghost use Rattle.sdl_simulator.specs.Words as rule;
 ghost use Rattle.sdl_simulator.specs.Files.{Describes};
@@ -12,19 +12,19 @@ ghost use Rattle.sdl_simulator.specs.Answers.{Answers, HasRunAsked, IsAnswered, 
 
 use crate::agents::listing_of;
 use crate::words::{Asked, asked_of};
+use sdl_app_command::arguments::{Command, Options};
+use sdl_app_command::errors::{without_memory, write_error};
+use sdl_app_command::status::{REFUSED, WRONG_ARGUMENTS};
+use sdl_app_file_commands::commands::check_command;
+use sdl_app_file_commands::files::{FileRead, read_file};
+use sdl_app_file_commands::words::{words_behind_the_name, words_of};
 use sdl_chart_words::{Charting, Request, charting_of};
-use sdl_command::arguments::{Command, Options};
-use sdl_command::errors::{without_memory, write_error};
-use sdl_command::status::{REFUSED, WRONG_ARGUMENTS};
 use sdl_drawing_text::structure_at;
-use sdl_file_agents::{ListedSet, are_sound};
-use sdl_file_commands::commands::check_command;
-use sdl_file_commands::files::{FileRead, read_file};
-use sdl_file_commands::words::{words_behind_the_name, words_of};
 use sdl_graph_program::{Prepared, prepare_file};
+use sdl_listing_binding::{ListedSet, are_sound};
 use sdl_listing_runs::run_listing;
-use sdl_parts::Structure;
 use sdl_structure::FileFault;
+use sdl_structure_parts::Structure;
 use std::alloc::{AllocError, Global};
 use std::io::{Read, Write};
 use std::rt::{Env, Files};

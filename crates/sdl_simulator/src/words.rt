@@ -1,12 +1,12 @@
 //! What the words after the program's name ask for.
 ghost use Rattle.std.specs.Prelude.{◌≡◌, map};
 ghost use Rattle.std.specs.List.{list_all};
-ghost use Rattle.sdl_command.specs.Arguments.{has};
+ghost use Rattle.sdl_app_command.specs.Arguments.{has};
 ghost use Rattle.sdl_simulator.specs.Words as rule;
 ghost use Rattle.sdl_simulator.specs.Words.{is_choice};
 
+use sdl_app_command::arguments::{Command, Options};
 use sdl_chart_words::{Request, request_of};
-use sdl_command::arguments::{Command, Options};
 use sdl_drawing_text::{Form, form_of};
 
 /// What the program is to do.

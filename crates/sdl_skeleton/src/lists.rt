@@ -3,7 +3,7 @@ use crate::names::Names;
 use crate::numbers::{has_room_for_gates, write_sorts};
 use crate::texts::{write_lines, write_texts};
 use itoa::Buffer;
-use sdl_parts::{Gate, Owner, Structure};
+use sdl_structure_parts::{Gate, Owner, Structure};
 use std::io::{Result, Write};
 
 /// How many outputs an offer has at most.

@@ -1,7 +1,7 @@
 //! The names of the constants of a skeleton: the name of each part in capital letters. A gate has that of its set before its own, as
 //! `LAMP_BUTTON`. Names that would be one constant, as they differ in case alone, have the number of the part behind them, but the
 //! first. Since a constant is in capital letters, it is no keyword.
-use sdl_parts::{Gate, Owner, Structure};
+use sdl_structure_parts::{Gate, Owner, Structure};
 use std::alloc::{AllocError, Global};
 
 /// The constants of all parts, of each kind by number.

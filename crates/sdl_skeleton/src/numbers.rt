@@ -4,9 +4,9 @@ use crate::lists::write_lists;
 use crate::names::Names;
 use crate::texts::{write_lines, write_texts};
 use itoa::Buffer;
-use sdl_parts::limits::MOST_USES;
-use sdl_parts::{Gate, Owner, Structure};
 use sdl_signal::Sort;
+use sdl_structure_parts::limits::MOST_USES;
+use sdl_structure_parts::{Gate, Owner, Structure};
 use std::io::{Result, Write};
 
 /// Writes the text of `numbers.rt`.

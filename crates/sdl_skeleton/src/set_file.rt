@@ -2,7 +2,7 @@
 use crate::lists::{has_many_creates, is_received};
 use crate::names::Names;
 use crate::texts::{write_lines, write_texts};
-use sdl_parts::Structure;
+use sdl_structure_parts::Structure;
 use std::io::{Result, Write};
 
 /// Writes the text of the file of the set of this number.

@@ -5,8 +5,8 @@
 
 mod program;
 
-use sdl_command::status::REFUSED;
-use sdl_file_commands::streams::{Output, shared_buffer};
+use sdl_app_command::status::REFUSED;
+use sdl_app_file_commands::streams::{Output, shared_buffer};
 use std::process::ExitCode;
 
 fn main(rt: HostRuntime) -> ExitCode {

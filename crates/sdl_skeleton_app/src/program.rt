@@ -1,14 +1,14 @@
 //! What the program does, over any writers, and its exit statuses.
-use sdl_command::errors::{without_memory, write_error};
-use sdl_command::status::{REFUSED, WRONG_ARGUMENTS};
-use sdl_file_commands::commands::{checked_file, written};
-use sdl_file_commands::files::{FileRead, read_file};
-use sdl_file_commands::words::{words_behind_the_name, words_of};
-use sdl_parts::Structure;
+use sdl_app_command::errors::{without_memory, write_error};
+use sdl_app_command::status::{REFUSED, WRONG_ARGUMENTS};
+use sdl_app_file_commands::commands::{checked_file, written};
+use sdl_app_file_commands::files::{FileRead, read_file};
+use sdl_app_file_commands::words::{words_behind_the_name, words_of};
 use sdl_skeleton::{
     Names, RUNNING, write_agents, write_lines, write_main, write_numbers, write_set, write_texts,
 };
 use sdl_structure::FileFault;
+use sdl_structure_parts::Structure;
 use std::alloc::{AllocError, Global};
 use std::io::{Result as Written, Write};
 use std::rt::{Env, Files};

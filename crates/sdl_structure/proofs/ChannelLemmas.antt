@@ -7,35 +7,35 @@ use Rattle.std.specs.List.{AllZip, HoldsAt, position_or_len}
 use Rattle.toml.specs.Data.{Data, Members, as_str}
 use Rattle.toml.specs.View.{view}
 use Rattle.toml.specs.declared.value.Value.{Value}
-use Rattle.sdl_parts.specs.declared.parts.Block.{Block}
-use Rattle.sdl_parts.specs.declared.parts.Set.{Set}
-use Rattle.sdl_parts.specs.declared.parts.Gate.{Gate}
-use Rattle.sdl_parts.specs.declared.parts.Channel.{Channel}
-use Rattle.sdl_parts.specs.declared.parts.End.{End}
-use Rattle.sdl_parts.specs.declared.parts.Scope.{Scope}
-use Rattle.sdl_parts.specs.declared.parts.Scope.TheVariants as scope
-use Rattle.sdl_tables.specs.declared.place.Key.{Key}
-use Rattle.sdl_tables.specs.declared.place.Key.TheVariants as key
-use Rattle.sdl_tables.specs.declared.place.Part.{Part}
-use Rattle.sdl_tables.specs.declared.place.Part.TheVariants as part
-use Rattle.sdl_tables.specs.declared.place.Place.{Place}
-use Rattle.sdl_tables.specs.declared.fault.FileFault.TheVariants as fault
+use Rattle.sdl_structure_parts.specs.declared.parts.Block.{Block}
+use Rattle.sdl_structure_parts.specs.declared.parts.Set.{Set}
+use Rattle.sdl_structure_parts.specs.declared.parts.Gate.{Gate}
+use Rattle.sdl_structure_parts.specs.declared.parts.Channel.{Channel}
+use Rattle.sdl_structure_parts.specs.declared.parts.End.{End}
+use Rattle.sdl_structure_parts.specs.declared.parts.Scope.{Scope}
+use Rattle.sdl_structure_parts.specs.declared.parts.Scope.TheVariants as scope
+use Rattle.sdl_structure_tables.specs.declared.place.Key.{Key}
+use Rattle.sdl_structure_tables.specs.declared.place.Key.TheVariants as key
+use Rattle.sdl_structure_tables.specs.declared.place.Part.{Part}
+use Rattle.sdl_structure_tables.specs.declared.place.Part.TheVariants as part
+use Rattle.sdl_structure_tables.specs.declared.place.Place.{Place}
+use Rattle.sdl_structure_tables.specs.declared.fault.FileFault.TheVariants as fault
 use Rattle.sdl_structure.specs.declared.reading.draft.Draft.{Draft}
-use Rattle.sdl_tables.specs.declared.walk.Walk.{Walk}
-use Rattle.sdl_tables.specs.Keys.{is_key, is_key_of, key_text, keys_of, channel_keys}
-use Rattle.sdl_tables.specs.declared.version.Version.{Version}
-use Rattle.sdl_tables.specs.declared.version.Version.TheVariants.{One, Two}
-use Rattle.sdl_tables.specs.Tables.{data_at, elements_at, tables_at, text_at, table_in, names_of, channel_names, is_text, own_version, HasKindAt}
-use Rattle.sdl_tables.specs.Places.{table_of, inside, part_inside, names_before}
-use Rattle.sdl_tables.specs.Blocks.{left_before}
-use Rattle.sdl_tables.specs.Names.{HasOneDot, is_dot, agent_part, gate_part}
+use Rattle.sdl_structure_tables.specs.declared.walk.Walk.{Walk}
+use Rattle.sdl_structure_tables.specs.Keys.{is_key, is_key_of, key_text, keys_of, channel_keys}
+use Rattle.sdl_structure_tables.specs.declared.version.Version.{Version}
+use Rattle.sdl_structure_tables.specs.declared.version.Version.TheVariants.{One, Two}
+use Rattle.sdl_structure_tables.specs.Tables.{data_at, elements_at, tables_at, text_at, table_in, names_of, channel_names, is_text, own_version, HasKindAt}
+use Rattle.sdl_structure_tables.specs.Places.{table_of, inside, part_inside, names_before}
+use Rattle.sdl_structure_tables.specs.Blocks.{left_before}
+use Rattle.sdl_structure_tables.specs.Names.{HasOneDot, is_dot, agent_part, gate_part}
 use Rattle.sdl_structure.specs.File.{IsChannelTable, NamesEnd, IsAgent, side_in}
-use Rattle.sdl_tables.specs.Faults.{IsBroken, IsGateOf, IsKnownEnd, agents_within, so_far}
-use Rattle.sdl_tables.specs.Walks.{file_of, own, IsHere, name_texts}
+use Rattle.sdl_structure_tables.specs.Faults.{IsBroken, IsGateOf, IsKnownEnd, agents_within, so_far}
+use Rattle.sdl_structure_tables.specs.Walks.{file_of, own, IsHere, name_texts}
 use Rattle.sdl_structure.specs.Drafts.{ServesChannels, IsScope, IsChannelScope, HasGateOf, HasSignals, blocks_before}
-use Rattle.sdl_tables.proofs.FaultLemmas.{breaks}
-use Rattle.sdl_tables.proofs.PlaceLemmas.{channel_keys_inside, before_top_channel, before_block_channel}
-use Rattle.sdl_tables.proofs.SignalLemmas.{text_in, unknown, some_and}
+use Rattle.sdl_structure_tables.proofs.FaultLemmas.{breaks}
+use Rattle.sdl_structure_tables.proofs.PlaceLemmas.{channel_keys_inside, before_top_channel, before_block_channel}
+use Rattle.sdl_structure_tables.proofs.SignalLemmas.{text_in, unknown, some_and}
 
 -- a required key whose value is of its kind is there
 pub present : (o : Option Data) (P : Data → Type 0) → MatchOption o (true ≡ false) P → o ≢ None

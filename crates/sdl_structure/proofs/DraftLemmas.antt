@@ -6,37 +6,37 @@ use Rattle.std.specs.List.{AllZip}
 use Rattle.toml.specs.Data.{Data, Members, no_members, as_str}
 use Rattle.toml.specs.View.{view}
 use Rattle.toml.specs.declared.value.Value.{Value}
-use Rattle.sdl_parts.specs.declared.parts.SignalDecl.{SignalDecl}
-use Rattle.sdl_parts.specs.declared.parts.Block.{Block}
-use Rattle.sdl_parts.specs.declared.parts.Set.{Set}
-use Rattle.sdl_parts.specs.declared.parts.Gate.{Gate}
-use Rattle.sdl_parts.specs.declared.parts.Channel.{Channel}
-use Rattle.sdl_parts.specs.declared.parts.End.{End}
-use Rattle.sdl_parts.specs.declared.parts.Owner.{Owner}
-use Rattle.sdl_parts.specs.declared.parts.Owner.TheVariants as owner
-use Rattle.sdl_parts.specs.declared.parts.Scope.{Scope}
-use Rattle.sdl_parts.specs.declared.parts.Scope.TheVariants as scope
-use Rattle.sdl_tables.specs.declared.place.Key.TheVariants as key
-use Rattle.sdl_tables.specs.declared.place.Part.{Part}
-use Rattle.sdl_tables.specs.declared.place.Part.TheVariants as part
-use Rattle.sdl_tables.specs.declared.version.Version.{Version}
-use Rattle.sdl_tables.specs.declared.version.Version.TheVariants.{One, Two}
-use Rattle.sdl_tables.specs.declared.place.Place.{Place}
-use Rattle.sdl_tables.specs.declared.fault.FileFault.TheVariants as fault
+use Rattle.sdl_structure_parts.specs.declared.parts.SignalDecl.{SignalDecl}
+use Rattle.sdl_structure_parts.specs.declared.parts.Block.{Block}
+use Rattle.sdl_structure_parts.specs.declared.parts.Set.{Set}
+use Rattle.sdl_structure_parts.specs.declared.parts.Gate.{Gate}
+use Rattle.sdl_structure_parts.specs.declared.parts.Channel.{Channel}
+use Rattle.sdl_structure_parts.specs.declared.parts.End.{End}
+use Rattle.sdl_structure_parts.specs.declared.parts.Owner.{Owner}
+use Rattle.sdl_structure_parts.specs.declared.parts.Owner.TheVariants as owner
+use Rattle.sdl_structure_parts.specs.declared.parts.Scope.{Scope}
+use Rattle.sdl_structure_parts.specs.declared.parts.Scope.TheVariants as scope
+use Rattle.sdl_structure_tables.specs.declared.place.Key.TheVariants as key
+use Rattle.sdl_structure_tables.specs.declared.place.Part.{Part}
+use Rattle.sdl_structure_tables.specs.declared.place.Part.TheVariants as part
+use Rattle.sdl_structure_tables.specs.declared.version.Version.{Version}
+use Rattle.sdl_structure_tables.specs.declared.version.Version.TheVariants.{One, Two}
+use Rattle.sdl_structure_tables.specs.declared.place.Place.{Place}
+use Rattle.sdl_structure_tables.specs.declared.fault.FileFault.TheVariants as fault
 use Rattle.sdl_structure.specs.declared.reading.draft.Draft.{Draft}
-use Rattle.sdl_tables.specs.declared.walk.Walk.{Walk}
-use Rattle.sdl_tables.specs.Keys.{is_key, needs_some}
-use Rattle.sdl_tables.specs.Versions.{most_blocks}
-use Rattle.sdl_tables.specs.Tables.{text_at, elements_at, tables_at, names_of, agent_names, total, HasKindAt}
-use Rattle.sdl_tables.specs.Blocks.{BlockTable, blocks_of, block_tables, inner_tables, listed_in}
-use Rattle.sdl_tables.specs.Places.{table_at, IsPlace, block_place, inside, names_before}
+use Rattle.sdl_structure_tables.specs.declared.walk.Walk.{Walk}
+use Rattle.sdl_structure_tables.specs.Keys.{is_key, needs_some}
+use Rattle.sdl_structure_tables.specs.Versions.{most_blocks}
+use Rattle.sdl_structure_tables.specs.Tables.{text_at, elements_at, tables_at, names_of, agent_names, total, HasKindAt}
+use Rattle.sdl_structure_tables.specs.Blocks.{BlockTable, blocks_of, block_tables, inner_tables, listed_in}
+use Rattle.sdl_structure_tables.specs.Places.{table_at, IsPlace, block_place, inside, names_before}
 use Rattle.sdl_structure.specs.File.{IsBlockTable, IsSetTable, IsGateTable, IsChannelTable, IsAgent, NamesEnd, sets_of, owned, set_gates, block_gates, gates_of}
-use Rattle.sdl_tables.specs.Faults.{IsBroken, IsDeepest, so_far}
-use Rattle.sdl_tables.specs.Walks.{file_of, own, IsHere, name_texts}
+use Rattle.sdl_structure_tables.specs.Faults.{IsBroken, IsDeepest, so_far}
+use Rattle.sdl_structure_tables.specs.Walks.{file_of, own, IsHere, name_texts}
 use Rattle.sdl_structure.specs.Drafts.{HasSignals, HasAgents, HasSets, IsSetRead, Grows, tables_of}
-use Rattle.sdl_tables.proofs.FaultLemmas.{breaks}
-use Rattle.sdl_tables.proofs.PlaceLemmas.{before_set}
-use Rattle.sdl_tables.proofs.ListLemmas.{zip_length, name_texts-more, names_of-more, apart-more}
+use Rattle.sdl_structure_tables.proofs.FaultLemmas.{breaks}
+use Rattle.sdl_structure_tables.proofs.PlaceLemmas.{before_set}
+use Rattle.sdl_structure_tables.proofs.ListLemmas.{zip_length, name_texts-more, names_of-more, apart-more}
 use Rattle.sdl_structure.proofs.LimitRules.{length_tables, no_elements}
 use Rattle.sdl_structure.proofs.BlockLemmas.{zip_append, sets_of-more, set_gates-more, block_gates-more, agent_names-more, total-more, length-sets_of, take_next, nil_after}
 

@@ -6,28 +6,28 @@ use Rattle.std.proofs.lemmas.List.{length-append, length-map}
 use Rattle.std.specs.List.{AllZip, AllByRecursion}
 use Rattle.toml.specs.Data.{Members}
 use Rattle.sdl_signal.specs.Names.{IsName}
-use Rattle.sdl_parts.specs.declared.parts.Channel.{Channel}
-use Rattle.sdl_parts.specs.declared.parts.Owner.TheVariants as owner
-use Rattle.sdl_parts.specs.declared.parts.Scope.{Scope}
-use Rattle.sdl_parts.specs.declared.parts.Scope.TheVariants as scope
-use Rattle.sdl_tables.specs.declared.place.Key.TheVariants as key
-use Rattle.sdl_tables.specs.declared.place.Part.TheVariants as part
+use Rattle.sdl_structure_parts.specs.declared.parts.Channel.{Channel}
+use Rattle.sdl_structure_parts.specs.declared.parts.Owner.TheVariants as owner
+use Rattle.sdl_structure_parts.specs.declared.parts.Scope.{Scope}
+use Rattle.sdl_structure_parts.specs.declared.parts.Scope.TheVariants as scope
+use Rattle.sdl_structure_tables.specs.declared.place.Key.TheVariants as key
+use Rattle.sdl_structure_tables.specs.declared.place.Part.TheVariants as part
 use Rattle.sdl_structure.specs.declared.reading.draft.Draft.{Draft}
-use Rattle.sdl_tables.specs.declared.walk.Walk.{Walk}
-use Rattle.sdl_parts.specs.Structure.{Structure, HasLegalNames}
-use Rattle.sdl_tables.specs.declared.version.Version.{Version}
-use Rattle.sdl_tables.specs.declared.version.Version.TheVariants.{One, Two}
-use Rattle.sdl_tables.specs.Versions.{most_blocks, version_said}
-use Rattle.sdl_tables.specs.Tables.{integer_at, text_at, tables_at, names_of, channel_names, total, own_version}
-use Rattle.sdl_tables.specs.Blocks.{blocks_of, block_tables, blocks_from, leaving_of, leaving_from, left_in_all, listed_in}
+use Rattle.sdl_structure_tables.specs.declared.walk.Walk.{Walk}
+use Rattle.sdl_structure_parts.specs.Structure.{Structure, HasLegalNames}
+use Rattle.sdl_structure_tables.specs.declared.version.Version.{Version}
+use Rattle.sdl_structure_tables.specs.declared.version.Version.TheVariants.{One, Two}
+use Rattle.sdl_structure_tables.specs.Versions.{most_blocks, version_said}
+use Rattle.sdl_structure_tables.specs.Tables.{integer_at, text_at, tables_at, names_of, channel_names, total, own_version}
+use Rattle.sdl_structure_tables.specs.Blocks.{blocks_of, block_tables, blocks_from, leaving_of, leaving_from, left_in_all, listed_in}
 use Rattle.arrayvec.specs.ArrayString.{ArrayString}
-use Rattle.sdl_tables.specs.Names.{IsSignalTable}
+use Rattle.sdl_structure_tables.specs.Names.{IsSignalTable}
 use Rattle.sdl_structure.specs.File.{IsFileOf, HasDistinctNames, ListsParts, IsWithinLimits, IsBlockTable, IsWholeBlock, IsSetTable, IsGateTable, IsChannelTable, HasGates, version_number, sets_of, owned, gates_of, channels_in, block_channels}
-use Rattle.sdl_tables.specs.Faults.{so_far}
-use Rattle.sdl_tables.specs.Walks.{file_of, own, IsHere, name_texts}
+use Rattle.sdl_structure_tables.specs.Faults.{so_far}
+use Rattle.sdl_structure_tables.specs.Walks.{file_of, own, IsHere, name_texts}
 use Rattle.sdl_structure.specs.Drafts.{HasSignals, HasAgents, ComesTo, HasRead, ServesChannels, KnowsGates, entering, leaving, tables_of}
-use Rattle.sdl_tables.proofs.ListLemmas.{zip_length}
-use Rattle.sdl_tables.proofs.PlaceLemmas.{top_is}
+use Rattle.sdl_structure_tables.proofs.ListLemmas.{zip_length}
+use Rattle.sdl_structure_tables.proofs.PlaceLemmas.{top_is}
 use Rattle.sdl_structure.proofs.BlockLemmas.{zip_append, nil_after, length-block_channels, length-channel_names}
 use Rattle.sdl_structure.proofs.GateLemmas.{AreEntered, system_knows}
 use Rattle.sdl_structure.proofs.OrderLemmas.{listed_is_entered, total-leaving, few_from}

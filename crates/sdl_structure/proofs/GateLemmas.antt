@@ -4,20 +4,20 @@ use Rattle.std.proofs.lemmas.List.{length-map}
 use Rattle.std.proofs.lemmas.Option.{slice_get_read}
 use Rattle.std.specs.List.{AllZip}
 use Rattle.toml.specs.Data.{Members}
-use Rattle.sdl_parts.specs.declared.parts.Gate.{Gate}
-use Rattle.sdl_parts.specs.declared.parts.Owner.{Owner}
-use Rattle.sdl_parts.specs.declared.parts.Owner.TheVariants as owner
-use Rattle.sdl_parts.specs.declared.parts.Scope.{Scope}
-use Rattle.sdl_parts.specs.declared.parts.Scope.TheVariants as scope
-use Rattle.sdl_tables.specs.declared.version.Version.{Version}
-use Rattle.sdl_tables.specs.declared.place.Key.TheVariants as key
+use Rattle.sdl_structure_parts.specs.declared.parts.Gate.{Gate}
+use Rattle.sdl_structure_parts.specs.declared.parts.Owner.{Owner}
+use Rattle.sdl_structure_parts.specs.declared.parts.Owner.TheVariants as owner
+use Rattle.sdl_structure_parts.specs.declared.parts.Scope.{Scope}
+use Rattle.sdl_structure_parts.specs.declared.parts.Scope.TheVariants as scope
+use Rattle.sdl_structure_tables.specs.declared.version.Version.{Version}
+use Rattle.sdl_structure_tables.specs.declared.place.Key.TheVariants as key
 use Rattle.sdl_structure.specs.declared.reading.draft.Draft.{Draft}
-use Rattle.sdl_tables.specs.Tables.{text_at, tables_at, total}
-use Rattle.sdl_tables.specs.Blocks.{BlockTable, inner_tables}
+use Rattle.sdl_structure_tables.specs.Tables.{text_at, tables_at, total}
+use Rattle.sdl_structure_tables.specs.Blocks.{BlockTable, inner_tables}
 use Rattle.sdl_structure.specs.File.{IsBlockTable, IsSetTable, IsGateTable, IsAgent, IsBlockIn, sets_of, owned, set_gates, block_gates, gates_of}
-use Rattle.sdl_tables.specs.Faults.{HasGate}
+use Rattle.sdl_structure_tables.specs.Faults.{HasGate}
 use Rattle.sdl_structure.specs.Drafts.{HasAgents, HasGateOf, KnowsGates, placed, tables_of}
-use Rattle.sdl_tables.proofs.SignalLemmas.{found_at}
+use Rattle.sdl_structure_tables.proofs.SignalLemmas.{found_at}
 
 -- x is an element of xs
 pub record Has {A : Type 0} (xs : List A) (x : A) : Type 0 where

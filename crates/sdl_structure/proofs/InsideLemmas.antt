@@ -5,21 +5,21 @@ use Rattle.std.proofs.lemmas.Bool.{cases_eq}
 use Rattle.std.proofs.lemmas.List.{append_assoc, length-append, length-map, map-append}
 use Rattle.toml.specs.Data.{Members}
 use Rattle.arrayvec.specs.ArrayString.{ArrayString}
-use Rattle.sdl_parts.specs.declared.parts.Block.{Block}
-use Rattle.sdl_parts.specs.declared.parts.Gate.{Gate}
-use Rattle.sdl_parts.specs.declared.parts.Channel.{Channel}
-use Rattle.sdl_parts.specs.declared.parts.Scope.{Scope}
-use Rattle.sdl_parts.specs.declared.parts.Scope.TheVariants as scope
-use Rattle.sdl_tables.specs.declared.version.Version.{Version}
-use Rattle.sdl_tables.specs.declared.version.Version.TheVariants.{One, Two}
-use Rattle.sdl_tables.specs.declared.place.Key.TheVariants as key
-use Rattle.sdl_tables.specs.declared.place.Part.TheVariants as part
-use Rattle.sdl_tables.specs.Keys.{keys_of}
-use Rattle.sdl_tables.specs.Versions.{most_blocks}
-use Rattle.sdl_tables.specs.Tables.{tables_at, names_of, channel_names, own_version, total, HasKindAt}
-use Rattle.sdl_tables.specs.Blocks.{BlockTable, blocks_of, block_tables, blocks_from, leaving_from, left_before, inner_tables, listed_in}
-use Rattle.sdl_tables.specs.Walks.{own, name_texts}
-use Rattle.sdl_tables.proofs.ListLemmas.{zip_length}
+use Rattle.sdl_structure_parts.specs.declared.parts.Block.{Block}
+use Rattle.sdl_structure_parts.specs.declared.parts.Gate.{Gate}
+use Rattle.sdl_structure_parts.specs.declared.parts.Channel.{Channel}
+use Rattle.sdl_structure_parts.specs.declared.parts.Scope.{Scope}
+use Rattle.sdl_structure_parts.specs.declared.parts.Scope.TheVariants as scope
+use Rattle.sdl_structure_tables.specs.declared.version.Version.{Version}
+use Rattle.sdl_structure_tables.specs.declared.version.Version.TheVariants.{One, Two}
+use Rattle.sdl_structure_tables.specs.declared.place.Key.TheVariants as key
+use Rattle.sdl_structure_tables.specs.declared.place.Part.TheVariants as part
+use Rattle.sdl_structure_tables.specs.Keys.{keys_of}
+use Rattle.sdl_structure_tables.specs.Versions.{most_blocks}
+use Rattle.sdl_structure_tables.specs.Tables.{tables_at, names_of, channel_names, own_version, total, HasKindAt}
+use Rattle.sdl_structure_tables.specs.Blocks.{BlockTable, blocks_of, block_tables, blocks_from, leaving_from, left_before, inner_tables, listed_in}
+use Rattle.sdl_structure_tables.specs.Walks.{own, name_texts}
+use Rattle.sdl_structure_tables.proofs.ListLemmas.{zip_length}
 use Rattle.sdl_structure.specs.declared.reading.draft.Draft.{Draft}
 use Rattle.sdl_structure.specs.File.{IsBlockTable, IsWholeBlock, IsChannelTable, channels_in, block_channels}
 use Rattle.sdl_structure.specs.Drafts.{HasAgents, HasSets, ComesTo, HasRead, HasBegun, HasInside, HasKindsWithin, Grows, ServesChannels, levels_from, entering, leaving, entering_in, leaving_in, placed, tables_of}

@@ -2,14 +2,14 @@
 use Rattle.std.proofs.Common.{◌≡◌, ℕ, zero, suc, List, [], ◌∷◌, map, true, Some, IsSomeAnd, slice_get, refl, subst, ◌⊎◌, inl, inr}
 use Rattle.std.specs.List.{AllZip, AllByRecursion}
 use Rattle.toml.specs.Data.{Data, Members, as_str}
-use Rattle.sdl_parts.specs.Structure.{Structure}
-use Rattle.sdl_tables.specs.declared.version.Version.{Version}
-use Rattle.sdl_tables.specs.declared.version.Version.TheVariants.{One, Two}
-use Rattle.sdl_tables.specs.declared.place.Part.{Part}
-use Rattle.sdl_tables.specs.declared.place.Part.TheVariants as part
-use Rattle.sdl_tables.specs.declared.place.Key.{Key}
-use Rattle.sdl_tables.specs.declared.place.Key.TheVariants as key
-use Rattle.sdl_tables.specs.Keys.{Kind, text, whole_number, flag, sorts, signals, ends, tables, nothing, kind_of, is_key}
+use Rattle.sdl_structure_parts.specs.Structure.{Structure}
+use Rattle.sdl_structure_tables.specs.declared.version.Version.{Version}
+use Rattle.sdl_structure_tables.specs.declared.version.Version.TheVariants.{One, Two}
+use Rattle.sdl_structure_tables.specs.declared.place.Part.{Part}
+use Rattle.sdl_structure_tables.specs.declared.place.Part.TheVariants as part
+use Rattle.sdl_structure_tables.specs.declared.place.Key.{Key}
+use Rattle.sdl_structure_tables.specs.declared.place.Key.TheVariants as key
+use Rattle.sdl_structure_tables.specs.Keys.{Kind, text, whole_number, flag, sorts, signals, ends, tables, nothing, kind_of, is_key}
 use Rattle.sdl_structure.proofs.KeptLemmas.{IsKept, never, ChannelKept}
 
 -- the keys that hold that kind

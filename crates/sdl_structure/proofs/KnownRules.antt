@@ -6,28 +6,28 @@ use Rattle.toml.specs.Data.{Data, Members, no_members, as_str}
 use Rattle.sdl_signal.specs.declared.ids.SignalId.{SignalId}
 use Rattle.sdl_signal.specs.declared.ids.BlockId.{BlockId}
 use Rattle.sdl_signal.specs.declared.values.Sort.{Sort}
-use Rattle.sdl_parts.specs.declared.parts.Channel.{Channel}
-use Rattle.sdl_parts.specs.declared.parts.End.{End}
-use Rattle.sdl_parts.specs.declared.parts.Owner.{Owner}
-use Rattle.sdl_parts.specs.declared.parts.Owner.TheVariants as owner
-use Rattle.sdl_parts.specs.declared.parts.Scope.{Scope}
-use Rattle.sdl_parts.specs.declared.parts.Scope.TheVariants as scope
-use Rattle.sdl_parts.specs.Structure.{Structure}
-use Rattle.sdl_tables.specs.declared.version.Version.{Version}
-use Rattle.sdl_tables.specs.declared.version.Version.TheVariants.{One, Two}
-use Rattle.sdl_tables.specs.declared.place.Part.{Part}
-use Rattle.sdl_tables.specs.declared.place.Part.TheVariants as part
-use Rattle.sdl_tables.specs.declared.place.Key.{Key}
-use Rattle.sdl_tables.specs.declared.place.Key.TheVariants as key
-use Rattle.sdl_tables.specs.declared.place.Place.{Place}
-use Rattle.sdl_tables.specs.Keys.{Kind, whole_number, text, flag, sorts, signals, ends, tables, nothing, kind_of, is_key}
-use Rattle.sdl_tables.specs.Tables.{text_at, elements_at, tables_at, names_of, own_version}
-use Rattle.sdl_tables.specs.Blocks.{BlockTable, blocks_of, block_tables, inner_tables}
-use Rattle.sdl_tables.specs.Places.{table_at, table_of, Exists}
-use Rattle.sdl_tables.specs.Names.{sort_text, NamesSort, NamesSignal, ListsSignals, HasOneDot, agent_part, gate_part}
-use Rattle.sdl_tables.specs.Faults.{BreaksAt, NamesUnknown, HoldsText, HasGate, IsKnown, IsKnownEnd, IsGateOf, agents_within}
-use Rattle.sdl_tables.proofs.SignalLemmas.{some_and}
-use Rattle.sdl_tables.proofs.TableLemmas.{some_map}
+use Rattle.sdl_structure_parts.specs.declared.parts.Channel.{Channel}
+use Rattle.sdl_structure_parts.specs.declared.parts.End.{End}
+use Rattle.sdl_structure_parts.specs.declared.parts.Owner.{Owner}
+use Rattle.sdl_structure_parts.specs.declared.parts.Owner.TheVariants as owner
+use Rattle.sdl_structure_parts.specs.declared.parts.Scope.{Scope}
+use Rattle.sdl_structure_parts.specs.declared.parts.Scope.TheVariants as scope
+use Rattle.sdl_structure_parts.specs.Structure.{Structure}
+use Rattle.sdl_structure_tables.specs.declared.version.Version.{Version}
+use Rattle.sdl_structure_tables.specs.declared.version.Version.TheVariants.{One, Two}
+use Rattle.sdl_structure_tables.specs.declared.place.Part.{Part}
+use Rattle.sdl_structure_tables.specs.declared.place.Part.TheVariants as part
+use Rattle.sdl_structure_tables.specs.declared.place.Key.{Key}
+use Rattle.sdl_structure_tables.specs.declared.place.Key.TheVariants as key
+use Rattle.sdl_structure_tables.specs.declared.place.Place.{Place}
+use Rattle.sdl_structure_tables.specs.Keys.{Kind, whole_number, text, flag, sorts, signals, ends, tables, nothing, kind_of, is_key}
+use Rattle.sdl_structure_tables.specs.Tables.{text_at, elements_at, tables_at, names_of, own_version}
+use Rattle.sdl_structure_tables.specs.Blocks.{BlockTable, blocks_of, block_tables, inner_tables}
+use Rattle.sdl_structure_tables.specs.Places.{table_at, table_of, Exists}
+use Rattle.sdl_structure_tables.specs.Names.{sort_text, NamesSort, NamesSignal, ListsSignals, HasOneDot, agent_part, gate_part}
+use Rattle.sdl_structure_tables.specs.Faults.{BreaksAt, NamesUnknown, HoldsText, HasGate, IsKnown, IsKnownEnd, IsGateOf, agents_within}
+use Rattle.sdl_structure_tables.proofs.SignalLemmas.{some_and}
+use Rattle.sdl_structure_tables.proofs.TableLemmas.{some_map}
 use Rattle.sdl_structure.specs.File.{IsFileOf, IsChannelTable, IsBlockTable, IsSetTable, NamesEnd, IsAgent, IsBlockIn, side_in, channels_in, block_channels, channels_of, sets_of}
 use Rattle.sdl_structure.proofs.GateLemmas.{Has, map_get}
 use Rattle.sdl_structure.proofs.OrderLemmas.{within, IsListed, all_listed, stands_whole, get_right}

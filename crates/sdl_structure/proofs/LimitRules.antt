@@ -5,25 +5,25 @@ use Rattle.std.proofs.lemmas.List.{length-append, length-map}
 use Rattle.std.specs.List.{list_all}
 use Rattle.std.specs.Option.{option_map_or}
 use Rattle.toml.specs.Data.{Data, Members, no_members, as_array}
-use Rattle.sdl_parts.specs.Structure.{Structure}
-use Rattle.sdl_tables.specs.declared.version.Version.{Version}
-use Rattle.sdl_tables.specs.declared.version.Version.TheVariants.{One, Two}
-use Rattle.sdl_tables.specs.declared.place.Part.{Part}
-use Rattle.sdl_tables.specs.declared.place.Part.TheVariants as part
-use Rattle.sdl_tables.specs.declared.place.Key.{Key}
-use Rattle.sdl_tables.specs.declared.place.Key.TheVariants as key
-use Rattle.sdl_tables.specs.declared.place.Place.{Place}
-use Rattle.sdl_tables.specs.Keys.{kind_of, tables, is_key, is_over, is_required}
-use Rattle.sdl_tables.specs.Tables.{data_at, elements_at, elements_of, tables_at, is_table, is_of_kind, table_or_none, total, own_version, HasKindAt}
-use Rattle.sdl_tables.specs.Versions.{most_blocks}
-use Rattle.sdl_tables.specs.Blocks.{BlockTable, blocks_of, block_tables, inner_tables, listed_in, left_before, left_in_all}
-use Rattle.sdl_tables.specs.Places.{table_at, table_of, Exists, IsPlace}
-use Rattle.sdl_tables.specs.Names.{IsSignalTable, NamesSort}
-use Rattle.sdl_tables.specs.Faults.{BreaksAt, HasTooManyElements, IsDeepest, so_far, most_in_all}
-use Rattle.sdl_tables.proofs.SignalLemmas.{some_and}
-use Rattle.sdl_tables.proofs.ListLemmas.{zip_length}
+use Rattle.sdl_structure_parts.specs.Structure.{Structure}
+use Rattle.sdl_structure_tables.specs.declared.version.Version.{Version}
+use Rattle.sdl_structure_tables.specs.declared.version.Version.TheVariants.{One, Two}
+use Rattle.sdl_structure_tables.specs.declared.place.Part.{Part}
+use Rattle.sdl_structure_tables.specs.declared.place.Part.TheVariants as part
+use Rattle.sdl_structure_tables.specs.declared.place.Key.{Key}
+use Rattle.sdl_structure_tables.specs.declared.place.Key.TheVariants as key
+use Rattle.sdl_structure_tables.specs.declared.place.Place.{Place}
+use Rattle.sdl_structure_tables.specs.Keys.{kind_of, tables, is_key, is_over, is_required}
+use Rattle.sdl_structure_tables.specs.Tables.{data_at, elements_at, elements_of, tables_at, is_table, is_of_kind, table_or_none, total, own_version, HasKindAt}
+use Rattle.sdl_structure_tables.specs.Versions.{most_blocks}
+use Rattle.sdl_structure_tables.specs.Blocks.{BlockTable, blocks_of, block_tables, inner_tables, listed_in, left_before, left_in_all}
+use Rattle.sdl_structure_tables.specs.Places.{table_at, table_of, Exists, IsPlace}
+use Rattle.sdl_structure_tables.specs.Names.{IsSignalTable, NamesSort}
+use Rattle.sdl_structure_tables.specs.Faults.{BreaksAt, HasTooManyElements, IsDeepest, so_far, most_in_all}
+use Rattle.sdl_structure_tables.proofs.SignalLemmas.{some_and}
+use Rattle.sdl_structure_tables.proofs.ListLemmas.{zip_length}
 use Rattle.sdl_structure.specs.File.{IsFileOf, IsBlockTable, IsWholeBlock, IsSetTable, IsChannelTable, HasGates, channels_in, block_channels, channels_of, sets_of}
-use Rattle.sdl_parts.specs.declared.parts.Scope.TheVariants as scope
+use Rattle.sdl_structure_parts.specs.declared.parts.Scope.TheVariants as scope
 use Rattle.sdl_structure.proofs.BlockLemmas.{length-sets_of, length-block_channels}
 use Rattle.sdl_structure.proofs.GateLemmas.{map_get}
 use Rattle.sdl_structure.proofs.OrderLemmas.{all_weaker, all_counted, total-leaving}

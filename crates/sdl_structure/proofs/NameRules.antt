@@ -2,23 +2,23 @@
 use Rattle.std.proofs.Common.{◌≡◌, ℕ, List, true, IsSomeAnd, slice_get, sym, subst, ◌⊎◌, inl, inr}
 use Rattle.toml.specs.Data.{Data, Members, as_str}
 use Rattle.sdl_signal.specs.Names.{IsName}
-use Rattle.sdl_parts.specs.Structure.{Structure}
-use Rattle.sdl_parts.specs.declared.parts.End.{End}
-use Rattle.sdl_parts.specs.declared.parts.Scope.{Scope}
-use Rattle.sdl_tables.specs.declared.version.Version.{Version}
-use Rattle.sdl_tables.specs.declared.version.Version.TheVariants.{One, Two}
-use Rattle.sdl_tables.specs.declared.place.Part.{Part}
-use Rattle.sdl_tables.specs.declared.place.Part.TheVariants as part
-use Rattle.sdl_tables.specs.declared.place.Key.{Key}
-use Rattle.sdl_tables.specs.declared.place.Key.TheVariants as key
-use Rattle.sdl_tables.specs.declared.place.Place.{Place}
-use Rattle.sdl_tables.specs.Keys.{ends, is_key}
-use Rattle.sdl_tables.specs.Tables.{text_at, elements_at, own_version}
-use Rattle.sdl_tables.specs.Places.{table_at}
-use Rattle.sdl_tables.specs.Names.{HasName, HasOneDot, agent_part, gate_part}
-use Rattle.sdl_tables.specs.Faults.{BreaksAt, HasBadName, HoldsText}
-use Rattle.sdl_tables.proofs.SignalLemmas.{some_and}
-use Rattle.sdl_tables.proofs.TableLemmas.{some_map}
+use Rattle.sdl_structure_parts.specs.Structure.{Structure}
+use Rattle.sdl_structure_parts.specs.declared.parts.End.{End}
+use Rattle.sdl_structure_parts.specs.declared.parts.Scope.{Scope}
+use Rattle.sdl_structure_tables.specs.declared.version.Version.{Version}
+use Rattle.sdl_structure_tables.specs.declared.version.Version.TheVariants.{One, Two}
+use Rattle.sdl_structure_tables.specs.declared.place.Part.{Part}
+use Rattle.sdl_structure_tables.specs.declared.place.Part.TheVariants as part
+use Rattle.sdl_structure_tables.specs.declared.place.Key.{Key}
+use Rattle.sdl_structure_tables.specs.declared.place.Key.TheVariants as key
+use Rattle.sdl_structure_tables.specs.declared.place.Place.{Place}
+use Rattle.sdl_structure_tables.specs.Keys.{ends, is_key}
+use Rattle.sdl_structure_tables.specs.Tables.{text_at, elements_at, own_version}
+use Rattle.sdl_structure_tables.specs.Places.{table_at}
+use Rattle.sdl_structure_tables.specs.Names.{HasName, HasOneDot, agent_part, gate_part}
+use Rattle.sdl_structure_tables.specs.Faults.{BreaksAt, HasBadName, HoldsText}
+use Rattle.sdl_structure_tables.proofs.SignalLemmas.{some_and}
+use Rattle.sdl_structure_tables.proofs.TableLemmas.{some_map}
 use Rattle.sdl_structure.specs.File.{IsFileOf, NamesEnd, IsAgent, side_in}
 use Rattle.sdl_structure.proofs.KeptLemmas.{IsKept, never, ChannelKept, kept_at}
 use Rattle.sdl_structure.proofs.KeyKinds.{of_kind, text_key, channel_of, zip_left, text_has}

@@ -5,12 +5,12 @@ use Rattle.std.proofs.lemmas.Bool.{cases_lt, cases_eq}
 use Rattle.std.proofs.lemmas.List.{append_assoc, length-append, length-map, map-append, take-append-le}
 use Rattle.std.proofs.Math.Seq.{take-append-add}
 use Rattle.toml.specs.Data.{Members}
-use Rattle.sdl_parts.specs.declared.parts.Scope.{Scope}
-use Rattle.sdl_parts.specs.declared.parts.Scope.TheVariants as scope
-use Rattle.sdl_tables.specs.declared.version.Version.{Version}
-use Rattle.sdl_tables.specs.declared.place.Key.{Key}
-use Rattle.sdl_tables.specs.Tables.{total}
-use Rattle.sdl_tables.specs.Blocks.{BlockTable, inner_tables, listed_in, blocks_from, leaving_from}
+use Rattle.sdl_structure_parts.specs.declared.parts.Scope.{Scope}
+use Rattle.sdl_structure_parts.specs.declared.parts.Scope.TheVariants as scope
+use Rattle.sdl_structure_tables.specs.declared.version.Version.{Version}
+use Rattle.sdl_structure_tables.specs.declared.place.Key.{Key}
+use Rattle.sdl_structure_tables.specs.Tables.{total}
+use Rattle.sdl_structure_tables.specs.Blocks.{BlockTable, inner_tables, listed_in, blocks_from, leaving_from}
 use Rattle.sdl_structure.specs.Drafts.{tables_of}
 
 -- the list stands in all, after the first n

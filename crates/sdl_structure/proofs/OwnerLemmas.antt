@@ -4,14 +4,14 @@ use Rattle.std.proofs.lemmas.Option.{slice_get_within, get_or_from_slice_get}
 use Rattle.std.proofs.lemmas.List.{length-map}
 use Rattle.std.specs.List.{AllByRecursion}
 use Rattle.toml.specs.Data.{Members}
-use Rattle.sdl_parts.specs.declared.parts.Gate.{Gate}
-use Rattle.sdl_parts.specs.declared.parts.Owner.{Owner}
-use Rattle.sdl_parts.specs.declared.parts.Owner.TheVariants as owner
-use Rattle.sdl_parts.specs.Structure.{Structure}
-use Rattle.sdl_tables.specs.declared.place.Key.TheVariants as key
-use Rattle.sdl_tables.specs.Tables.{text_at, tables_at, names_of}
-use Rattle.sdl_tables.specs.Blocks.{block_tables}
-use Rattle.sdl_tables.specs.Faults.{HasGate}
+use Rattle.sdl_structure_parts.specs.declared.parts.Gate.{Gate}
+use Rattle.sdl_structure_parts.specs.declared.parts.Owner.{Owner}
+use Rattle.sdl_structure_parts.specs.declared.parts.Owner.TheVariants as owner
+use Rattle.sdl_structure_parts.specs.Structure.{Structure}
+use Rattle.sdl_structure_tables.specs.declared.place.Key.TheVariants as key
+use Rattle.sdl_structure_tables.specs.Tables.{text_at, tables_at, names_of}
+use Rattle.sdl_structure_tables.specs.Blocks.{block_tables}
+use Rattle.sdl_structure_tables.specs.Faults.{HasGate}
 use Rattle.sdl_structure.specs.File.{IsFileOf, IsGateTable, sets_of, owned, set_gates, block_gates, gates_of}
 use Rattle.sdl_structure.proofs.GateLemmas.{Has, map_get}
 use Rattle.sdl_structure.proofs.RepeatRules.{zip_named}

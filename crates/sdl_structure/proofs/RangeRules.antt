@@ -3,21 +3,21 @@ use Rattle.std.proofs.Common.{◌≡◌, ℕ, ℤ, pos, ◌≤◌, ◌≤ℤ◌,
 use Rattle.std.proofs.lemmas.Int.{ints}
 use Rattle.std.specs.Option.{option_map_or}
 use Rattle.toml.specs.Data.{Data, Members, as_integer}
-use Rattle.sdl_parts.specs.Structure.{Structure}
-use Rattle.sdl_tables.specs.declared.version.Version.{Version}
-use Rattle.sdl_tables.specs.declared.version.Version.TheVariants.{One, Two}
-use Rattle.sdl_tables.specs.declared.place.Part.{Part}
-use Rattle.sdl_tables.specs.declared.place.Part.TheVariants as part
-use Rattle.sdl_tables.specs.declared.place.Key.{Key}
-use Rattle.sdl_tables.specs.declared.place.Key.TheVariants as key
-use Rattle.sdl_tables.specs.declared.place.Place.{Place}
-use Rattle.sdl_tables.specs.Keys.{is_key, least_of, greatest_of}
-use Rattle.sdl_tables.specs.Tables.{data_at, integer_at, elements_at, tables_at, own_version}
-use Rattle.sdl_tables.specs.Blocks.{inner_tables}
-use Rattle.sdl_tables.specs.Places.{table_at}
-use Rattle.sdl_tables.specs.Faults.{BreaksAt, IsOutOfRange}
-use Rattle.sdl_tables.proofs.ListLemmas.{zip_length}
-use Rattle.sdl_tables.proofs.SignalLemmas.{some_and}
+use Rattle.sdl_structure_parts.specs.Structure.{Structure}
+use Rattle.sdl_structure_tables.specs.declared.version.Version.{Version}
+use Rattle.sdl_structure_tables.specs.declared.version.Version.TheVariants.{One, Two}
+use Rattle.sdl_structure_tables.specs.declared.place.Part.{Part}
+use Rattle.sdl_structure_tables.specs.declared.place.Part.TheVariants as part
+use Rattle.sdl_structure_tables.specs.declared.place.Key.{Key}
+use Rattle.sdl_structure_tables.specs.declared.place.Key.TheVariants as key
+use Rattle.sdl_structure_tables.specs.declared.place.Place.{Place}
+use Rattle.sdl_structure_tables.specs.Keys.{is_key, least_of, greatest_of}
+use Rattle.sdl_structure_tables.specs.Tables.{data_at, integer_at, elements_at, tables_at, own_version}
+use Rattle.sdl_structure_tables.specs.Blocks.{inner_tables}
+use Rattle.sdl_structure_tables.specs.Places.{table_at}
+use Rattle.sdl_structure_tables.specs.Faults.{BreaksAt, IsOutOfRange}
+use Rattle.sdl_structure_tables.proofs.ListLemmas.{zip_length}
+use Rattle.sdl_structure_tables.proofs.SignalLemmas.{some_and}
 use Rattle.sdl_structure.specs.File.{IsFileOf, NamesEnd, version_number}
 use Rattle.sdl_structure.proofs.KeptLemmas.{IsKept, never, BlockKept, ChannelKept, SetKept, kept_at}
 use Rattle.sdl_structure.proofs.KeyKinds.{number_key, channel_of}

@@ -4,22 +4,22 @@ use Rattle.std.proofs.lemmas.Option.{slice_get_within, get_or_from_slice_get}
 use Rattle.std.specs.List.{AllZip}
 use Rattle.toml.specs.Data.{Data, Members, no_members, as_str}
 use Rattle.sdl_signal.specs.declared.ids.SignalId.{SignalId}
-use Rattle.sdl_parts.specs.declared.parts.SignalDecl.{SignalDecl}
-use Rattle.sdl_parts.specs.Structure.{Structure}
-use Rattle.sdl_tables.specs.declared.version.Version.{Version}
-use Rattle.sdl_tables.specs.declared.version.Version.TheVariants.{One, Two}
-use Rattle.sdl_tables.specs.declared.place.Part.{Part}
-use Rattle.sdl_tables.specs.declared.place.Part.TheVariants as part
-use Rattle.sdl_tables.specs.declared.place.Key.{Key}
-use Rattle.sdl_tables.specs.declared.place.Key.TheVariants as key
-use Rattle.sdl_tables.specs.declared.place.Place.{Place}
-use Rattle.sdl_tables.specs.Keys.{kind_of, signals, is_key}
-use Rattle.sdl_tables.specs.Tables.{text_at, elements_at, tables_at, names_of, agent_names, channel_names, own_version}
-use Rattle.sdl_tables.specs.Blocks.{block_tables, left_in_all}
-use Rattle.sdl_tables.specs.Places.{table_at, table_of, Exists, names_before, names_before_in}
-use Rattle.sdl_tables.specs.Names.{IsSignalTable, NamesSignal, ListsSignals}
-use Rattle.sdl_tables.specs.Faults.{BreaksAt, IsDuplicate, IsRepeated, HoldsText}
-use Rattle.sdl_tables.proofs.SignalLemmas.{some_and}
+use Rattle.sdl_structure_parts.specs.declared.parts.SignalDecl.{SignalDecl}
+use Rattle.sdl_structure_parts.specs.Structure.{Structure}
+use Rattle.sdl_structure_tables.specs.declared.version.Version.{Version}
+use Rattle.sdl_structure_tables.specs.declared.version.Version.TheVariants.{One, Two}
+use Rattle.sdl_structure_tables.specs.declared.place.Part.{Part}
+use Rattle.sdl_structure_tables.specs.declared.place.Part.TheVariants as part
+use Rattle.sdl_structure_tables.specs.declared.place.Key.{Key}
+use Rattle.sdl_structure_tables.specs.declared.place.Key.TheVariants as key
+use Rattle.sdl_structure_tables.specs.declared.place.Place.{Place}
+use Rattle.sdl_structure_tables.specs.Keys.{kind_of, signals, is_key}
+use Rattle.sdl_structure_tables.specs.Tables.{text_at, elements_at, tables_at, names_of, agent_names, channel_names, own_version}
+use Rattle.sdl_structure_tables.specs.Blocks.{block_tables, left_in_all}
+use Rattle.sdl_structure_tables.specs.Places.{table_at, table_of, Exists, names_before, names_before_in}
+use Rattle.sdl_structure_tables.specs.Names.{IsSignalTable, NamesSignal, ListsSignals}
+use Rattle.sdl_structure_tables.specs.Faults.{BreaksAt, IsDuplicate, IsRepeated, HoldsText}
+use Rattle.sdl_structure_tables.proofs.SignalLemmas.{some_and}
 use Rattle.sdl_structure.specs.File.{IsFileOf}
 use Rattle.sdl_structure.proofs.GateLemmas.{zip_found, map_get}
 use Rattle.sdl_structure.proofs.KeptLemmas.{IsKept, never, kept_at}

@@ -3,21 +3,21 @@ use Rattle.std.proofs.Common.{◌≡◌, ◌≢◌, ℕ, ◌+◌, ◌<◌, List,
 use Rattle.std.specs.List.{AllByRecursion}
 use Rattle.std.proofs.lemmas.Slice.Eq.{bytes_eq-Decides}
 use Rattle.toml.specs.Data.{Data, Members}
-use Rattle.sdl_parts.specs.Structure.{Structure}
-use Rattle.sdl_parts.specs.declared.parts.Scope.TheVariants as scope
-use Rattle.sdl_tables.specs.declared.version.Version.{Version}
-use Rattle.sdl_tables.specs.declared.version.Version.TheVariants.{One, Two}
-use Rattle.sdl_tables.specs.declared.place.Part.{Part}
-use Rattle.sdl_tables.specs.declared.place.Part.TheVariants as part
-use Rattle.sdl_tables.specs.declared.place.Key.{Key}
-use Rattle.sdl_tables.specs.declared.place.Key.TheVariants as key
-use Rattle.sdl_tables.specs.declared.place.Place.{Place}
-use Rattle.sdl_tables.specs.Keys.{key_text, keys_of, kind_of, is_key, is_key_of, is_required, needs_some}
-use Rattle.sdl_tables.specs.Tables.{data_at, tables_at, own_version, is_of_kind, HasKindAt}
-use Rattle.sdl_tables.specs.Blocks.{blocks_of, blocks_from}
-use Rattle.sdl_tables.proofs.ListLemmas.{zip_length}
-use Rattle.sdl_tables.specs.Places.{table_at, IsPlace}
-use Rattle.sdl_tables.specs.Faults.{BreaksAt, HasUnknownKey, IsMissing, HasWrongType}
+use Rattle.sdl_structure_parts.specs.Structure.{Structure}
+use Rattle.sdl_structure_parts.specs.declared.parts.Scope.TheVariants as scope
+use Rattle.sdl_structure_tables.specs.declared.version.Version.{Version}
+use Rattle.sdl_structure_tables.specs.declared.version.Version.TheVariants.{One, Two}
+use Rattle.sdl_structure_tables.specs.declared.place.Part.{Part}
+use Rattle.sdl_structure_tables.specs.declared.place.Part.TheVariants as part
+use Rattle.sdl_structure_tables.specs.declared.place.Key.{Key}
+use Rattle.sdl_structure_tables.specs.declared.place.Key.TheVariants as key
+use Rattle.sdl_structure_tables.specs.declared.place.Place.{Place}
+use Rattle.sdl_structure_tables.specs.Keys.{key_text, keys_of, kind_of, is_key, is_key_of, is_required, needs_some}
+use Rattle.sdl_structure_tables.specs.Tables.{data_at, tables_at, own_version, is_of_kind, HasKindAt}
+use Rattle.sdl_structure_tables.specs.Blocks.{blocks_of, blocks_from}
+use Rattle.sdl_structure_tables.proofs.ListLemmas.{zip_length}
+use Rattle.sdl_structure_tables.specs.Places.{table_at, IsPlace}
+use Rattle.sdl_structure_tables.specs.Faults.{BreaksAt, HasUnknownKey, IsMissing, HasWrongType}
 use Rattle.sdl_structure.specs.File.{IsFileOf, IsBlockTable}
 use Rattle.sdl_structure.proofs.KeptLemmas.{IsKept, never, BlockKept, kept_at, shape_of}
 

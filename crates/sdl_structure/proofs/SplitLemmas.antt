@@ -6,11 +6,11 @@ use Rattle.std.proofs.lemmas.List.{append_assoc, length-append, length-map, map-
 use Rattle.std.proofs.lemmas.Grind.{flat_map-append}
 use Rattle.std.proofs.Math.Seq.{get_or-append_seam}
 use Rattle.toml.specs.Data.{Members, no_members}
-use Rattle.sdl_tables.specs.declared.place.Key.TheVariants as key
-use Rattle.sdl_parts.specs.declared.parts.Scope.TheVariants as scope
-use Rattle.sdl_tables.specs.Tables.{text_at, tables_at, names_of, agent_names, channel_names, own_version}
-use Rattle.sdl_tables.specs.Blocks.{BlockTable, blocks_of, block_tables, leaving_of, left_before, left_in_all}
-use Rattle.sdl_tables.proofs.SignalLemmas.{some_and}
+use Rattle.sdl_structure_tables.specs.declared.place.Key.TheVariants as key
+use Rattle.sdl_structure_parts.specs.declared.parts.Scope.TheVariants as scope
+use Rattle.sdl_structure_tables.specs.Tables.{text_at, tables_at, names_of, agent_names, channel_names, own_version}
+use Rattle.sdl_structure_tables.specs.Blocks.{BlockTable, blocks_of, block_tables, leaving_of, left_before, left_in_all}
+use Rattle.sdl_structure_tables.proofs.SignalLemmas.{some_and}
 use Rattle.sdl_structure.proofs.GateLemmas.{map_get}
 use Rattle.sdl_structure.proofs.OrderLemmas.{IsLeft, from-length, every_left, first_left, left_is_entered, stands_whole, all_right}
 

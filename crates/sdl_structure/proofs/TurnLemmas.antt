@@ -6,18 +6,18 @@ use Rattle.std.proofs.lemmas.Option.{slice_get_within}
 use Rattle.std.proofs.lemmas.List.{length-map}
 use Rattle.toml.specs.Data.{Members, no_members}
 use Rattle.toml.specs.declared.value.Value.{Value}
-use Rattle.sdl_parts.specs.declared.parts.Channel.{Channel}
-use Rattle.sdl_parts.specs.declared.parts.Scope.{Scope}
-use Rattle.sdl_parts.specs.declared.parts.Scope.TheVariants as scope
-use Rattle.sdl_tables.specs.declared.version.Version.{Version}
-use Rattle.sdl_tables.specs.declared.version.Version.TheVariants.{One, Two}
-use Rattle.sdl_tables.specs.declared.place.Key.TheVariants as key
-use Rattle.sdl_tables.specs.Versions.{most_blocks}
-use Rattle.sdl_tables.specs.Tables.{tables_at, table_in, own_version}
-use Rattle.sdl_tables.specs.Blocks.{BlockTable, blocks_of, block_tables, listed_in, IsBlockAt}
-use Rattle.sdl_tables.specs.declared.walk.Walk.{Walk}
-use Rattle.sdl_tables.specs.Walks.{file_of, own}
-use Rattle.sdl_tables.proofs.ListLemmas.{the_element, take_map_more}
+use Rattle.sdl_structure_parts.specs.declared.parts.Channel.{Channel}
+use Rattle.sdl_structure_parts.specs.declared.parts.Scope.{Scope}
+use Rattle.sdl_structure_parts.specs.declared.parts.Scope.TheVariants as scope
+use Rattle.sdl_structure_tables.specs.declared.version.Version.{Version}
+use Rattle.sdl_structure_tables.specs.declared.version.Version.TheVariants.{One, Two}
+use Rattle.sdl_structure_tables.specs.declared.place.Key.TheVariants as key
+use Rattle.sdl_structure_tables.specs.Versions.{most_blocks}
+use Rattle.sdl_structure_tables.specs.Tables.{tables_at, table_in, own_version}
+use Rattle.sdl_structure_tables.specs.Blocks.{BlockTable, blocks_of, block_tables, listed_in, IsBlockAt}
+use Rattle.sdl_structure_tables.specs.declared.walk.Walk.{Walk}
+use Rattle.sdl_structure_tables.specs.Walks.{file_of, own}
+use Rattle.sdl_structure_tables.proofs.ListLemmas.{the_element, take_map_more}
 use Rattle.sdl_structure.specs.declared.reading.draft.Draft.{Draft}
 use Rattle.sdl_structure.specs.Drafts.{ComesTo, HasRead, levels_from, entering, placed, tables_of}
 use Rattle.sdl_structure.proofs.GateLemmas.{map_get}

@@ -5,22 +5,22 @@ use Rattle.std.proofs.lemmas.List.{append_assoc, length-append, length-map, map-
 use Rattle.std.proofs.lemmas.Slice.Zip.{all_zipped_more}
 use Rattle.std.proofs.Math.Seq.{take-append_seam}
 use Rattle.toml.specs.Data.{Members}
-use Rattle.sdl_parts.specs.declared.parts.SignalDecl.{SignalDecl}
-use Rattle.sdl_parts.specs.declared.parts.Block.{Block}
-use Rattle.sdl_parts.specs.declared.parts.Gate.{Gate}
-use Rattle.sdl_parts.specs.declared.parts.Channel.{Channel}
-use Rattle.sdl_parts.specs.declared.parts.Owner.TheVariants as owner
-use Rattle.sdl_parts.specs.declared.parts.Scope.{Scope}
-use Rattle.sdl_parts.specs.declared.parts.Scope.TheVariants as scope
-use Rattle.sdl_parts.specs.Structure.{IsDepthIn}
-use Rattle.sdl_tables.specs.declared.version.Version.{Version}
-use Rattle.sdl_tables.specs.declared.place.Key.TheVariants as key
-use Rattle.sdl_tables.specs.Tables.{tables_at, channel_names, own_version}
-use Rattle.sdl_tables.specs.Blocks.{BlockTable, blocks_of, block_tables, blocks_from, leaving_of, leaving_from, inner_tables, listed_in}
-use Rattle.sdl_tables.specs.Walks.{name_texts}
-use Rattle.sdl_tables.proofs.ListLemmas.{zip_length}
+use Rattle.sdl_structure_parts.specs.declared.parts.SignalDecl.{SignalDecl}
+use Rattle.sdl_structure_parts.specs.declared.parts.Block.{Block}
+use Rattle.sdl_structure_parts.specs.declared.parts.Gate.{Gate}
+use Rattle.sdl_structure_parts.specs.declared.parts.Channel.{Channel}
+use Rattle.sdl_structure_parts.specs.declared.parts.Owner.TheVariants as owner
+use Rattle.sdl_structure_parts.specs.declared.parts.Scope.{Scope}
+use Rattle.sdl_structure_parts.specs.declared.parts.Scope.TheVariants as scope
+use Rattle.sdl_structure_parts.specs.Structure.{IsDepthIn}
+use Rattle.sdl_structure_tables.specs.declared.version.Version.{Version}
+use Rattle.sdl_structure_tables.specs.declared.place.Key.TheVariants as key
+use Rattle.sdl_structure_tables.specs.Tables.{tables_at, channel_names, own_version}
+use Rattle.sdl_structure_tables.specs.Blocks.{BlockTable, blocks_of, block_tables, blocks_from, leaving_of, leaving_from, inner_tables, listed_in}
+use Rattle.sdl_structure_tables.specs.Walks.{name_texts}
+use Rattle.sdl_structure_tables.proofs.ListLemmas.{zip_length}
 use Rattle.sdl_structure.specs.declared.reading.draft.Draft.{Draft}
-use Rattle.sdl_tables.specs.Names.{HasName}
+use Rattle.sdl_structure_tables.specs.Names.{HasName}
 use Rattle.sdl_structure.specs.File.{IsBlockTable, IsWholeBlock, IsChannelTable, IsGateTable, HasGates, owned, block_channels}
 use Rattle.sdl_structure.specs.Drafts.{HasAgents, HasSets, ComesTo, HasRead, HasBegun, levels_from, entering, leaving, entering_in, leaving_in, placed, tables_of}
 use Rattle.sdl_structure.proofs.BlockLemmas.{nil_after, zip_append, channel_names-append, block_channels-append}

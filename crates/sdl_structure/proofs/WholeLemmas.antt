@@ -7,25 +7,25 @@ use Rattle.std.specs.Prelude.{⊤}
 use Rattle.toml.specs.Data.{Data, Members, as_str}
 use Rattle.sdl_signal.specs.declared.ids.SignalId.{SignalId}
 use Rattle.sdl_signal.specs.declared.ids.BlockId.{BlockId}
-use Rattle.sdl_parts.specs.declared.parts.SignalDecl.{SignalDecl}
-use Rattle.sdl_parts.specs.declared.parts.Block.{Block}
-use Rattle.sdl_parts.specs.declared.parts.Gate.{Gate}
-use Rattle.sdl_parts.specs.declared.parts.End.{End}
-use Rattle.sdl_parts.specs.declared.parts.Owner.{Owner}
-use Rattle.sdl_parts.specs.declared.parts.Owner.TheVariants as owner
-use Rattle.sdl_parts.specs.declared.parts.Scope.{Scope}
-use Rattle.sdl_parts.specs.declared.parts.Scope.TheVariants as scope
-use Rattle.sdl_tables.specs.declared.place.Key.TheVariants as key
-use Rattle.sdl_parts.specs.Structure.{Structure, IsStructure, IsDepthIn, LiesIn, HasFewInstances, OwnerExists, ScopeExists, SignalsExist, AreSystemFirst, IsEnd, JoinsAt}
-use Rattle.sdl_tables.specs.declared.version.Version.{Version}
-use Rattle.sdl_tables.specs.declared.version.Version.TheVariants.{One, Two}
-use Rattle.sdl_tables.specs.Versions.{most_blocks}
-use Rattle.sdl_tables.specs.Tables.{tables_at, total, own_version}
-use Rattle.sdl_tables.specs.Blocks.{BlockTable, blocks_of, block_tables}
-use Rattle.sdl_tables.specs.Names.{NamesSignal, HasOneDot, agent_part, gate_part}
+use Rattle.sdl_structure_parts.specs.declared.parts.SignalDecl.{SignalDecl}
+use Rattle.sdl_structure_parts.specs.declared.parts.Block.{Block}
+use Rattle.sdl_structure_parts.specs.declared.parts.Gate.{Gate}
+use Rattle.sdl_structure_parts.specs.declared.parts.End.{End}
+use Rattle.sdl_structure_parts.specs.declared.parts.Owner.{Owner}
+use Rattle.sdl_structure_parts.specs.declared.parts.Owner.TheVariants as owner
+use Rattle.sdl_structure_parts.specs.declared.parts.Scope.{Scope}
+use Rattle.sdl_structure_parts.specs.declared.parts.Scope.TheVariants as scope
+use Rattle.sdl_structure_tables.specs.declared.place.Key.TheVariants as key
+use Rattle.sdl_structure_parts.specs.Structure.{Structure, IsStructure, IsDepthIn, LiesIn, HasFewInstances, OwnerExists, ScopeExists, SignalsExist, AreSystemFirst, IsEnd, JoinsAt}
+use Rattle.sdl_structure_tables.specs.declared.version.Version.{Version}
+use Rattle.sdl_structure_tables.specs.declared.version.Version.TheVariants.{One, Two}
+use Rattle.sdl_structure_tables.specs.Versions.{most_blocks}
+use Rattle.sdl_structure_tables.specs.Tables.{tables_at, total, own_version}
+use Rattle.sdl_structure_tables.specs.Blocks.{BlockTable, blocks_of, block_tables}
+use Rattle.sdl_structure_tables.specs.Names.{NamesSignal, HasOneDot, agent_part, gate_part}
 use Rattle.sdl_structure.specs.File.{ListsParts, IsWithinLimits, IsBlockTable, IsSetTable, IsGateTable, IsChannelTable, NamesEnd, IsAgent, side_in, sets_of, owned, set_gates, block_gates, gates_of, channels_in, block_channels, channels_of}
-use Rattle.sdl_tables.proofs.SignalLemmas.{some_and}
-use Rattle.sdl_tables.proofs.ListLemmas.{zip_length}
+use Rattle.sdl_structure_tables.proofs.SignalLemmas.{some_and}
+use Rattle.sdl_structure_tables.proofs.ListLemmas.{zip_length}
 use Rattle.sdl_structure.proofs.BlockLemmas.{length-sets_of}
 use Rattle.sdl_structure.proofs.GateLemmas.{zip_found}
 use Rattle.sdl_structure.proofs.OrderLemmas.{IsDepthAmong, LiesAmong, all_lie, stands_whole}

@@ -2,27 +2,27 @@
 use Rattle.std.specs.Prelude.{◌≡◌, ◌≢◌, ℕ, ◌+◌, ◌-◌, ◌*◌, ◌<◌, ◌≤◌, List, [], ◌∷◌, ◌++◌, map, take, length, Some, slice_get, All, AllPairs}
 use Rattle.std.specs.List.{AllZip, AllByRecursion}
 use Rattle.toml.specs.Data.{Members}
-use Rattle.sdl_parts.specs.declared.parts.Gate.{Gate}
-use Rattle.sdl_parts.specs.declared.parts.Set.{Set}
-use Rattle.sdl_parts.specs.declared.parts.Block.{Block}
-use Rattle.sdl_parts.specs.declared.parts.Channel.{Channel}
-use Rattle.sdl_parts.specs.Structure.{IsDepthIn}
-use Rattle.sdl_parts.specs.declared.parts.Owner.TheVariants as owner
-use Rattle.sdl_parts.specs.declared.parts.Scope.{Scope}
-use Rattle.sdl_parts.specs.declared.parts.Scope.TheVariants as scope
-use Rattle.sdl_tables.specs.declared.place.Key.TheVariants as key
-use Rattle.sdl_tables.specs.declared.place.Part.TheVariants as part
-use Rattle.sdl_tables.specs.declared.place.Place.{Place}
+use Rattle.sdl_structure_parts.specs.declared.parts.Gate.{Gate}
+use Rattle.sdl_structure_parts.specs.declared.parts.Set.{Set}
+use Rattle.sdl_structure_parts.specs.declared.parts.Block.{Block}
+use Rattle.sdl_structure_parts.specs.declared.parts.Channel.{Channel}
+use Rattle.sdl_structure_parts.specs.Structure.{IsDepthIn}
+use Rattle.sdl_structure_parts.specs.declared.parts.Owner.TheVariants as owner
+use Rattle.sdl_structure_parts.specs.declared.parts.Scope.{Scope}
+use Rattle.sdl_structure_parts.specs.declared.parts.Scope.TheVariants as scope
+use Rattle.sdl_structure_tables.specs.declared.place.Key.TheVariants as key
+use Rattle.sdl_structure_tables.specs.declared.place.Part.TheVariants as part
+use Rattle.sdl_structure_tables.specs.declared.place.Place.{Place}
 use Rattle.sdl_structure.specs.declared.reading.draft.Draft.{Draft}
-use Rattle.sdl_tables.specs.Tables.{text_at, tables_at, names_of, agent_names, channel_names, own_version, HasKindAt}
-use Rattle.sdl_tables.specs.Names.{IsSignalTable, agent_part, gate_part}
-use Rattle.sdl_tables.specs.declared.version.Version.{Version}
-use Rattle.sdl_tables.specs.declared.version.Version.TheVariants.{One, Two}
-use Rattle.sdl_tables.specs.Blocks.{BlockTable, blocks_of, block_tables, blocks_from, leaving_of, leaving_from, left_before, left_in_all, inner_tables}
+use Rattle.sdl_structure_tables.specs.Tables.{text_at, tables_at, names_of, agent_names, channel_names, own_version, HasKindAt}
+use Rattle.sdl_structure_tables.specs.Names.{IsSignalTable, agent_part, gate_part}
+use Rattle.sdl_structure_tables.specs.declared.version.Version.{Version}
+use Rattle.sdl_structure_tables.specs.declared.version.Version.TheVariants.{One, Two}
+use Rattle.sdl_structure_tables.specs.Blocks.{BlockTable, blocks_of, block_tables, blocks_from, leaving_of, leaving_from, left_before, left_in_all, inner_tables}
 use Rattle.sdl_structure.specs.File.{IsBlockTable, IsWholeBlock, IsSetTable, IsGateTable, IsChannelTable, IsAgent, sets_of, owned, set_gates, gates_of, block_channels}
-use Rattle.sdl_tables.specs.Keys.{keys_of, channel_keys}
-use Rattle.sdl_tables.specs.Faults.{IsGateOf, IsKnownEnd, agents_within}
-use Rattle.sdl_tables.specs.Walks.{name_texts}
+use Rattle.sdl_structure_tables.specs.Keys.{keys_of, channel_keys}
+use Rattle.sdl_structure_tables.specs.Faults.{IsGateOf, IsKnownEnd, agents_within}
+use Rattle.sdl_structure_tables.specs.Walks.{name_texts}
 
 -- the signals of the file are read
 pub record HasSignals (root : Members) (d : Draft) : Type 0 where

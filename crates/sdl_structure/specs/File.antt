@@ -2,29 +2,29 @@
 use Rattle.std.specs.Prelude.{◌≡◌, ◌≢◌, ℕ, ◌+◌, ◌*◌, ◌<◌, ◌≤◌, ◌⊎◌, ◌==◌, if◌then◌else◌, ℤ, pos, false, List, [], ◌∷◌, ◌++◌, map, length, Some, slice_get, codes, IsSomeAnd, AllPairs}
 use Rattle.std.specs.List.{AllZip, AllByRecursion}
 use Rattle.toml.specs.Data.{Data, Members, as_str}
-use Rattle.sdl_parts.specs.declared.parts.SignalDecl.{SignalDecl}
-use Rattle.sdl_parts.specs.declared.parts.Block.{Block}
-use Rattle.sdl_parts.specs.declared.parts.Set.{Set}
-use Rattle.sdl_parts.specs.declared.parts.Gate.{Gate}
-use Rattle.sdl_parts.specs.declared.parts.Channel.{Channel}
-use Rattle.sdl_parts.specs.declared.parts.End.{End}
-use Rattle.sdl_parts.specs.declared.parts.Owner.{Owner}
-use Rattle.sdl_parts.specs.declared.parts.Owner.TheVariants as owner
-use Rattle.sdl_parts.specs.declared.parts.Scope.{Scope}
-use Rattle.sdl_parts.specs.declared.parts.Scope.TheVariants as scope
-use Rattle.sdl_parts.specs.declared.parts.Side.{Side}
-use Rattle.sdl_parts.specs.declared.parts.Side.TheVariants.{Outer, Inner}
-use Rattle.sdl_tables.specs.declared.place.Key.TheVariants as key
-use Rattle.sdl_tables.specs.declared.place.Part.TheVariants as part
+use Rattle.sdl_structure_parts.specs.declared.parts.SignalDecl.{SignalDecl}
+use Rattle.sdl_structure_parts.specs.declared.parts.Block.{Block}
+use Rattle.sdl_structure_parts.specs.declared.parts.Set.{Set}
+use Rattle.sdl_structure_parts.specs.declared.parts.Gate.{Gate}
+use Rattle.sdl_structure_parts.specs.declared.parts.Channel.{Channel}
+use Rattle.sdl_structure_parts.specs.declared.parts.End.{End}
+use Rattle.sdl_structure_parts.specs.declared.parts.Owner.{Owner}
+use Rattle.sdl_structure_parts.specs.declared.parts.Owner.TheVariants as owner
+use Rattle.sdl_structure_parts.specs.declared.parts.Scope.{Scope}
+use Rattle.sdl_structure_parts.specs.declared.parts.Scope.TheVariants as scope
+use Rattle.sdl_structure_parts.specs.declared.parts.Side.{Side}
+use Rattle.sdl_structure_parts.specs.declared.parts.Side.TheVariants.{Outer, Inner}
+use Rattle.sdl_structure_tables.specs.declared.place.Key.TheVariants as key
+use Rattle.sdl_structure_tables.specs.declared.place.Part.TheVariants as part
 use Rattle.sdl_signal.specs.declared.ids.BlockId.{BlockId}
-use Rattle.sdl_parts.specs.Structure.{Structure}
-use Rattle.sdl_tables.specs.declared.version.Version.{Version}
-use Rattle.sdl_tables.specs.declared.version.Version.TheVariants.{One, Two}
-use Rattle.sdl_tables.specs.Versions.{most_blocks}
-use Rattle.sdl_tables.specs.Blocks.{BlockTable, blocks_of, block_tables, inner_tables, left_in_all}
-use Rattle.sdl_tables.specs.Keys.{keys_of, gate_keys, channel_keys, set_keys}
-use Rattle.sdl_tables.specs.Names.{HasName, IsSignalTable, ListsSignals, HasOneDot, agent_part, gate_part}
-use Rattle.sdl_tables.specs.Tables.{integer_at, integer_or, flag_or, elements_at, tables_at, names_of, agent_names, channel_names, own_version, HasShape}
+use Rattle.sdl_structure_parts.specs.Structure.{Structure}
+use Rattle.sdl_structure_tables.specs.declared.version.Version.{Version}
+use Rattle.sdl_structure_tables.specs.declared.version.Version.TheVariants.{One, Two}
+use Rattle.sdl_structure_tables.specs.Versions.{most_blocks}
+use Rattle.sdl_structure_tables.specs.Blocks.{BlockTable, blocks_of, block_tables, inner_tables, left_in_all}
+use Rattle.sdl_structure_tables.specs.Keys.{keys_of, gate_keys, channel_keys, set_keys}
+use Rattle.sdl_structure_tables.specs.Names.{HasName, IsSignalTable, ListsSignals, HasOneDot, agent_part, gate_part}
+use Rattle.sdl_structure_tables.specs.Tables.{integer_at, integer_or, flag_or, elements_at, tables_at, names_of, agent_names, channel_names, own_version, HasShape}
 
 -- the table is that of a gate of this owner, and says this
 pub record IsGateTable (signals : List SignalDecl) (x : Owner × Members) (g : Gate) : Type 0 where

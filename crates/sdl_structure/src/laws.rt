@@ -1,11 +1,11 @@
 //! What holds of every file. These functions do nothing: they carry the proofs.
 ghost use Rattle.std.specs.Prelude.{◌≢◌};
 ghost use Rattle.toml.specs.Data.{Members};
-ghost use Rattle.sdl_parts.specs.Structure.{Structure};
-ghost use Rattle.sdl_tables.specs.Faults.{IsBroken};
+ghost use Rattle.sdl_structure_parts.specs.Structure.{Structure};
+ghost use Rattle.sdl_structure_tables.specs.Faults.{IsBroken};
 ghost use Rattle.sdl_structure.specs.File.{IsFileOf};
 
-use sdl_tables::{FileFault, Place};
+use sdl_structure_tables::{FileFault, Place};
 
 /// In a file that names a structure, each table has the keys that it must have, and no other key. What they hold is of
 /// their types.

@@ -5,7 +5,7 @@ pub mod laws;
 pub mod reading;
 
 pub use reading::{FileFault, Key, Part, Place, read_structure};
-pub use sdl_parts::{
+pub use sdl_structure_parts::{
     Block, Channel, CheckFault, Checked, Direction, End, Gate, Owner, Scope, Set, Side, SignalDecl,
     Structure, check,
 };

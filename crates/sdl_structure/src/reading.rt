@@ -2,7 +2,7 @@
 ghost use Rattle.std.specs.Prelude.{◌≡◌, ◌≢◌, ◌⊎◌, IfOk, IfErr, Err, None, IsSomeAnd};
 ghost use Rattle.toml.specs.Parse.{parse_document};
 ghost use Rattle.sdl_structure.specs.File.{IsFileOf};
-ghost use Rattle.sdl_tables.specs.Faults.{IsBroken};
+ghost use Rattle.sdl_structure_tables.specs.Faults.{IsBroken};
 
 mod blocks;
 mod channels;
@@ -10,8 +10,8 @@ mod draft;
 mod file;
 mod gates;
 
-use sdl_parts::Structure;
-pub use sdl_tables::{FileFault, Key, Part, Place};
+use sdl_structure_parts::Structure;
+pub use sdl_structure_tables::{FileFault, Key, Part, Place};
 use std::alloc::Global;
 
 /// Reads the text of a structure file. Memory is answered only where a growth was refused. Each table of the text, also one that a

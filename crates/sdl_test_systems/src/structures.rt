@@ -6,9 +6,9 @@ ghost use Rattle.sdl_transition.specs.Bound.{IsBound};
 ghost use Rattle.sdl_transition.specs.Transitions.{IsAllowedBehaviour};
 
 use crate::stop::Stop;
-use sdl_parts::{Checked, check};
 use sdl_routes::Routes;
 use sdl_structure::read_structure;
+use sdl_structure_parts::{Checked, check};
 use sdl_transition::{Agents, Behaviour, Bound, bind};
 use std::alloc::Global;
 

@@ -5,26 +5,26 @@ use Rattle.sdl_signal.specs.declared.ids.SignalId.{SignalId}
 use Rattle.sdl_signal.specs.declared.values.Value.{Value}
 use Rattle.sdl_signal.specs.declared.values.Value.TheVariants as value
 use Rattle.sdl_signal.specs.declared.values.Pid.TheVariants.{Null}
-use Rattle.sdl_parts.specs.declared.parts.Owner.TheVariants as owner
-use Rattle.sdl_parts.specs.declared.parts.Gate.{Gate}
-use Rattle.sdl_parts.specs.declared.parts.Set.{Set}
-use Rattle.sdl_parts.specs.declared.parts.Channel.{Channel}
-use Rattle.sdl_parts.specs.declared.parts.SignalDecl.{SignalDecl}
-use Rattle.sdl_parts.specs.Structure.{Structure, set_at, gate_at}
+use Rattle.sdl_structure_parts.specs.declared.parts.Owner.TheVariants as owner
+use Rattle.sdl_structure_parts.specs.declared.parts.Gate.{Gate}
+use Rattle.sdl_structure_parts.specs.declared.parts.Set.{Set}
+use Rattle.sdl_structure_parts.specs.declared.parts.Channel.{Channel}
+use Rattle.sdl_structure_parts.specs.declared.parts.SignalDecl.{SignalDecl}
+use Rattle.sdl_structure_parts.specs.Structure.{Structure, set_at, gate_at}
 use Rattle.sdl_routes.specs.declared.route.Via.{Via}
 use Rattle.sdl_routes.specs.declared.route.Via.TheVariants as via
-use Rattle.sdl_parts.specs.Order.{IsBefore}
-use Rattle.sdl_behaviour.specs.declared.behaviour.Kind.{Kind}
-use Rattle.sdl_behaviour.specs.declared.behaviour.Kind.TheVariants as kind
-use Rattle.sdl_behaviour.specs.declared.behaviour.Named.{Named}
-use Rattle.sdl_saves.specs.declared.save.Save.{Save}
+use Rattle.sdl_structure_parts.specs.Order.{IsBefore}
+use Rattle.sdl_transition_behaviour.specs.declared.behaviour.Kind.{Kind}
+use Rattle.sdl_transition_behaviour.specs.declared.behaviour.Kind.TheVariants as kind
+use Rattle.sdl_transition_behaviour.specs.declared.behaviour.Named.{Named}
+use Rattle.sdl_transition_saves.specs.declared.save.Save.{Save}
 use Rattle.sdl_transition.specs.declared.faults.BindFault.{BindFault}
 use Rattle.sdl_transition.specs.declared.faults.BindFault.TheVariants.{NoBehaviour, TwoBehaviours, WrongName, UndeclaredOutput, UndeclaredGate, UnknownState, WrongSorts, CreateElsewhere, TwoRows, Memory}
-use Rattle.sdl_behaviour.specs.declared.offer.Offer.{Offer}
-use Rattle.sdl_behaviour.specs.declared.offer.OfferedOutput.{OfferedOutput}
-use Rattle.sdl_behaviour.specs.declared.offer.SignalSorts.{SignalSorts}
+use Rattle.sdl_transition_behaviour.specs.declared.offer.Offer.{Offer}
+use Rattle.sdl_transition_behaviour.specs.declared.offer.OfferedOutput.{OfferedOutput}
+use Rattle.sdl_transition_behaviour.specs.declared.offer.SignalSorts.{SignalSorts}
 use Rattle.sdl_signal.specs.Sorts.{AreOfSorts}
-use Rattle.sdl_behaviour.specs.Declarations.{DeclaredBehaviour, DeclaredRow, SomeOffer, HasOne, HasTwo}
+use Rattle.sdl_transition_behaviour.specs.Declarations.{DeclaredBehaviour, DeclaredRow, SomeOffer, HasOne, HasTwo}
 
 -- B1 and B2: the behaviours of a set
 abbrev pub HasBehaviour : List DeclaredBehaviour → SetId → Type 0

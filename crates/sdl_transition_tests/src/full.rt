@@ -1,6 +1,6 @@
 //! Behaviours with as many uses, rows and saves as there may be.
 ghost use Rattle.std.specs.Prelude.{◌<◌, vec_len};
-ghost use Rattle.sdl_behaviour.specs.Transitions.{IsAllowed, IsAllowedBehaviour};
+ghost use Rattle.sdl_transition_behaviour.specs.Transitions.{IsAllowed, IsAllowedBehaviour};
 
 use super::anything::Anything;
 use super::drafts::named;

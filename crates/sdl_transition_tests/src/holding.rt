@@ -1,7 +1,7 @@
 //! Hold with a save more, which mostly does not fit.
 ghost use Rattle.std.specs.Prelude.{IfSome};
 ghost use Rattle.std.specs.List.{AllByRecursion};
-ghost use Rattle.sdl_behaviour.specs.Transitions.{IsAllowedBehaviour};
+ghost use Rattle.sdl_transition_behaviour.specs.Transitions.{IsAllowedBehaviour};
 
 use sdl_agents::{Runner, hold};
 use sdl_examples::HOLD;

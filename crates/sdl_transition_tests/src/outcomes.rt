@@ -4,9 +4,9 @@ ghost use Rattle.sdl_transition.specs.Bound.{IsBound};
 ghost use Rattle.sdl_transition.specs.Index.{IsIndexed};
 
 use super::anything::Anything;
-use sdl_parts::Checked;
 use sdl_routes::Routes;
 use sdl_signal::{SignalId, StateId};
+use sdl_structure_parts::Checked;
 use sdl_transition::{Behaviour, BindFault, BlockParts, Bound, Transition, Unbound, bind};
 use std::alloc::Global;
 

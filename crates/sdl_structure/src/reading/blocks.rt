@@ -1,21 +1,21 @@
 //! Reading the blocks and their sets.
 ghost use Rattle.std.specs.Prelude.{◌≡◌, ◌+◌, ◌<◌, ◌≤◌, ◌↔◌, [], ◌∷◌, length, map, take, slice_get, All, IfOk, IfErr, OnOk, IsSomeAnd, IsTrue, true};
 ghost use Rattle.toml.specs.View.{view};
-ghost use Rattle.sdl_tables.specs.Keys.{is_key};
-ghost use Rattle.sdl_tables.specs.Tables.{tables_at, table_in, is_table, HasKindAt};
-ghost use Rattle.sdl_tables.specs.Versions.{most_blocks};
-ghost use Rattle.sdl_tables.specs.Blocks.{blocks_of, block_tables, listed_in, inner_tables};
-ghost use Rattle.sdl_tables.specs.Places.{names_before, block_place};
-ghost use Rattle.sdl_tables.specs.Faults.{IsBroken, so_far};
-ghost use Rattle.sdl_tables.specs.Walks.{file_of, own, IsHere, name_texts};
+ghost use Rattle.sdl_structure_tables.specs.Keys.{is_key};
+ghost use Rattle.sdl_structure_tables.specs.Tables.{tables_at, table_in, is_table, HasKindAt};
+ghost use Rattle.sdl_structure_tables.specs.Versions.{most_blocks};
+ghost use Rattle.sdl_structure_tables.specs.Blocks.{blocks_of, block_tables, listed_in, inner_tables};
+ghost use Rattle.sdl_structure_tables.specs.Places.{names_before, block_place};
+ghost use Rattle.sdl_structure_tables.specs.Faults.{IsBroken, so_far};
+ghost use Rattle.sdl_structure_tables.specs.Walks.{file_of, own, IsHere, name_texts};
 ghost use Rattle.sdl_structure.specs.Drafts.{HasSignals, HasSets, IsSetRead, ComesTo, HasRead, HasBegun, HasInside, HasKindsWithin, Grows, entering, entering_in, tables_of};
 
 use super::draft::Draft;
 use super::gates::read_gates;
-use sdl_parts::limits::{MOST_DEPTH, MOST_INSTANCES, MOST_SETS};
-use sdl_parts::{Block, Channel, Owner, Scope, Set};
 use sdl_signal::{BlockId, SetId};
-use sdl_tables::{FileFault, Key, Part, Version, Walk};
+use sdl_structure_parts::limits::{MOST_DEPTH, MOST_INSTANCES, MOST_SETS};
+use sdl_structure_parts::{Block, Channel, Owner, Scope, Set};
+use sdl_structure_tables::{FileFault, Key, Part, Version, Walk};
 use std::alloc::Global;
 use toml::Value;
 

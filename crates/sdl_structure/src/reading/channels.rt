@@ -3,21 +3,21 @@ ghost use Rattle.std.specs.Prelude.{◌≡◌, ◌≢◌, ◌+◌, ◌<◌, ◌�
 ghost use Rattle.std.specs.List.{AllZip, HoldsAt};
 ghost use Rattle.toml.specs.Data.{as_str};
 ghost use Rattle.toml.specs.View.{view};
-ghost use Rattle.sdl_tables.specs.Keys.{is_key, keys_of, channel_keys};
-ghost use Rattle.sdl_tables.specs.Tables.{elements_at, tables_at, names_of, channel_names, is_text, HasKindAt};
-ghost use Rattle.sdl_tables.specs.Places.{names_before};
-ghost use Rattle.sdl_tables.specs.Names.{HasOneDot, is_dot, agent_part, gate_part};
+ghost use Rattle.sdl_structure_tables.specs.Keys.{is_key, keys_of, channel_keys};
+ghost use Rattle.sdl_structure_tables.specs.Tables.{elements_at, tables_at, names_of, channel_names, is_text, HasKindAt};
+ghost use Rattle.sdl_structure_tables.specs.Places.{names_before};
+ghost use Rattle.sdl_structure_tables.specs.Names.{HasOneDot, is_dot, agent_part, gate_part};
 ghost use Rattle.sdl_structure.specs.File.{IsChannelTable, IsAgent, IsBlockIn, NamesEnd, channels_in};
 ghost use Rattle.sdl_structure.specs.File as file;
-ghost use Rattle.sdl_tables.specs.Faults.{IsBroken, IsOfFile, so_far};
-ghost use Rattle.sdl_tables.specs.Walks.{file_of, own, IsHere, name_texts};
+ghost use Rattle.sdl_structure_tables.specs.Faults.{IsBroken, IsOfFile, so_far};
+ghost use Rattle.sdl_structure_tables.specs.Walks.{file_of, own, IsHere, name_texts};
 ghost use Rattle.sdl_structure.specs.Drafts.{ServesChannels, IsScope, IsChannelScope, blocks_before, HasGateOf};
 
 use super::draft::Draft;
-use sdl_parts::limits::MOST_CHANNELS;
-use sdl_parts::{Block, Channel, End, Gate, Owner, Scope, Set, Side};
 use sdl_signal::GateId;
-use sdl_tables::{FileFault, Key, Walk, count_dots, read_signal_list, text_of};
+use sdl_structure_parts::limits::MOST_CHANNELS;
+use sdl_structure_parts::{Block, Channel, End, Gate, Owner, Scope, Set, Side};
+use sdl_structure_tables::{FileFault, Key, Walk, count_dots, read_signal_list, text_of};
 use std::alloc::Global;
 use toml::Value;
 

@@ -1,8 +1,8 @@
 //! What is read of a file so far.
 ghost use Rattle.std.specs.Prelude.{◌≡◌, []};
 
-use sdl_parts::{Block, Gate, Set, SignalDecl};
 use sdl_signal::Name;
+use sdl_structure_parts::{Block, Gate, Set, SignalDecl};
 use std::alloc::Global;
 
 /// The parts that are read, by number, and the names that are taken.

@@ -1,18 +1,18 @@
 //! The walk over a whole file.
 ghost use Rattle.std.specs.Prelude.{◌≡◌, ◌≤◌, pos, Some, IfOk, IfErr, OnOk};
-ghost use Rattle.sdl_tables.specs.Tables.{integer_at, integer_or, HasKindAt};
+ghost use Rattle.sdl_structure_tables.specs.Tables.{integer_at, integer_or, HasKindAt};
 ghost use Rattle.toml.specs.View.{table_view};
 ghost use Rattle.sdl_structure.specs.File.{IsFileOf, version_number};
-ghost use Rattle.sdl_tables.specs.Faults.{IsBroken, IsOfFile};
-ghost use Rattle.sdl_tables.specs.Walks.{file_of, own, IsHere};
-ghost use Rattle.sdl_parts.specs.Lists.{structure_of};
+ghost use Rattle.sdl_structure_tables.specs.Faults.{IsBroken, IsOfFile};
+ghost use Rattle.sdl_structure_tables.specs.Walks.{file_of, own, IsHere};
+ghost use Rattle.sdl_structure_parts.specs.Lists.{structure_of};
 
 use super::draft::Draft;
 use super::gates::read_gates;
-use sdl_parts::limits::DEFAULT_BUDGET;
-use sdl_parts::{Lists, Owner, Scope, Structure};
 use sdl_signal::Name;
-use sdl_tables::{FileFault, Key, Part, Walk, read_signals};
+use sdl_structure_parts::limits::DEFAULT_BUDGET;
+use sdl_structure_parts::{Lists, Owner, Scope, Structure};
+use sdl_structure_tables::{FileFault, Key, Part, Walk, read_signals};
 use std::alloc::Global;
 use toml::Table;
 

@@ -1,17 +1,17 @@
 //! Reading the gates of an agent.
 ghost use Rattle.std.specs.Prelude.{◌≡◌, ◌≢◌, ◌≤◌, ◌++◌, [], ◌∷◌, length, All, IfOk, IfErr, true};
 ghost use Rattle.std.specs.List.{AllZip};
-ghost use Rattle.sdl_tables.specs.Keys.{is_key, keys_of, gate_keys};
-ghost use Rattle.sdl_tables.specs.Tables.{tables_at, HasKindAt};
-ghost use Rattle.sdl_tables.specs.Places.{names_before};
-ghost use Rattle.sdl_tables.specs.Names.{IsSignalTable};
+ghost use Rattle.sdl_structure_tables.specs.Keys.{is_key, keys_of, gate_keys};
+ghost use Rattle.sdl_structure_tables.specs.Tables.{tables_at, HasKindAt};
+ghost use Rattle.sdl_structure_tables.specs.Places.{names_before};
+ghost use Rattle.sdl_structure_tables.specs.Names.{IsSignalTable};
 ghost use Rattle.sdl_structure.specs.File.{IsGateTable, HasGates, owned};
-ghost use Rattle.sdl_tables.specs.Faults.{IsBroken};
-ghost use Rattle.sdl_tables.specs.Walks.{file_of, own, IsHere, name_texts};
+ghost use Rattle.sdl_structure_tables.specs.Faults.{IsBroken};
+ghost use Rattle.sdl_structure_tables.specs.Walks.{file_of, own, IsHere, name_texts};
 
-use sdl_parts::{Gate, Owner, SignalDecl};
 use sdl_signal::Name;
-use sdl_tables::{FileFault, Key, Walk, read_signal_list};
+use sdl_structure_parts::{Gate, Owner, SignalDecl};
+use sdl_structure_tables::{FileFault, Key, Walk, read_signal_list};
 use std::alloc::Global;
 
 /// The gates of the agent whose table it is.

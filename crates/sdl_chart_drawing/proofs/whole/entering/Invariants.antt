@@ -1,5 +1,5 @@
 use Rattle.std.proofs.Common.{◌≡◌, take, filter}
-use Rattle.sdl_page.specs.Pages.{spot_at}
+use Rattle.sdl_chart_page.specs.Pages.{spot_at}
 use Rattle.sdl_chart_drawing.specs.Charts.{comes_in}
 use Rattle.sdl_chart_drawing.proofs.whole.entering.Given as goal
 

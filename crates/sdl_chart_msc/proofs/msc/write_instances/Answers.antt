@@ -10,7 +10,7 @@ use Rattle.sdl_chart_msc.proofs.msc.write_instances.Goals as goal
 
 pub loop-index-preserved : goal.loop-index-preserved
 loop-index-preserved g c =
-    let line : Option Place → Place → List ℕ = place_text (script_of c.args.scene.now) (map g.K.Keeps.events c.args.logs.now) c.args.scene.now.page.now.rows in
+    let line : Option Place → Place → List ℕ = place_text (script_of c.args.scene.now) (map g.K.LogStore.events c.args.logs.now) c.args.scene.now.page.now.rows in
     record {
       written = lines_step line c.loop-index.index c.args.places.now _ _ _ _ _ c.loop-index-test.true c.loop-index.invariant.last c.loop-index.invariant.written c.in_ok-write_place.ensures;
       last = sym (last_more None c.loop-index.index c.args.places.now _ c.loop-index-test.true);
@@ -18,7 +18,7 @@ loop-index-preserved g c =
 
 pub returns : goal.returns
 returns g c =
-    let line : Option Place → Place → List ℕ = place_text (script_of c.args.scene.now) (map g.K.Keeps.events c.args.logs.now) c.args.scene.now.page.now.rows in
+    let line : Option Place → Place → List ℕ = place_text (script_of c.args.scene.now) (map g.K.LogStore.events c.args.logs.now) c.args.scene.now.page.now.rows in
     let ps = c.args.places.now in
     let all : take c.loop-index.index ps ≡ ps = take_all c.loop-index.index ps (omega (arith, c.loop-index-test.false)) in
     on_ok c.write_foot.result _ _

@@ -1,5 +1,5 @@
 use Rattle.std.proofs.Common.{[], ◌++◌, Option, option_map, unwrap_or, ap, sym, ◌∙◌, append-nil}
-use Rattle.sdl_log.specs.declared.event.Event.{Event}
+use Rattle.sdl_instances_log.specs.declared.event.Event.{Event}
 use Rattle.sdl_chart_msc.specs.Places.{places_of_event}
 use Rattle.sdl_chart_msc.proofs.Written.{on_ok}
 use Rattle.sdl_chart_msc.proofs.places.add_row.Goals as goal

@@ -9,7 +9,7 @@ use Rattle.sdl_chart_runs.proofs.drawn.write_as.Goals as goal
 pub returns-in-Svg-clause-text : goal.returns-in-Svg-clause-text
 returns-in-Svg-clause-text g c =
     subst (λ (form : ChartForm). IfOk c.write_drawing.result (λ (end : OutputEnd). end ≡ output.Whole → (text : List ℕ)
-    × IsTextOf g.K.Keeps.events (Some form) c.args.charting.now c.args.chart.now c.args.first c.args.past text × Appends (g.W.Write.contents c.args.output.now) (g.W.Write.contents c.write_drawing.new.output) text))
+    × IsTextOf g.K.LogStore.events (Some form) c.args.charting.now c.args.chart.now c.args.first c.args.past text × Appends (g.W.Write.contents c.args.output.now) (g.W.Write.contents c.write_drawing.new.output) text))
     (sym c.in-Svg.is) c.write_drawing.ensures.text
 
 pub returns-in-Svg-clause-why : goal.returns-in-Svg-clause-why
@@ -18,7 +18,7 @@ returns-in-Svg-clause-why g c = subst (λ (form : ChartForm). IfErr c.write_draw
 pub returns-in-Msc-clause-text : goal.returns-in-Msc-clause-text
 returns-in-Msc-clause-text g c =
     subst (λ (form : ChartForm). IfOk c.write_z120.result (λ (end : OutputEnd). end ≡ output.Whole → (text : List ℕ)
-    × IsTextOf g.K.Keeps.events (Some form) c.args.charting.now c.args.chart.now c.args.first c.args.past text × Appends (g.W.Write.contents c.args.output.now) (g.W.Write.contents c.write_z120.new.output) text))
+    × IsTextOf g.K.LogStore.events (Some form) c.args.charting.now c.args.chart.now c.args.first c.args.past text × Appends (g.W.Write.contents c.args.output.now) (g.W.Write.contents c.write_z120.new.output) text))
     (sym c.in-Msc.is) (c.write_z120.ensures.text c.args.charting.now c.args.first c.args.past)
 
 pub returns-in-Msc-clause-why : goal.returns-in-Msc-clause-why
@@ -27,5 +27,5 @@ returns-in-Msc-clause-why g c = subst (λ (form : ChartForm). IfErr c.write_z120
 pub returns-in-Text-clause-text : goal.returns-in-Text-clause-text
 returns-in-Text-clause-text g c = λ whole.
     subst (λ (form : ChartForm). (text : List ℕ)
-    × IsTextOf g.K.Keeps.events (Some form) c.args.charting.now c.args.chart.now c.args.first c.args.past text × Appends (g.W.Write.contents c.args.output.now) (g.W.Write.contents c.write_lines.new.output) text)
+    × IsTextOf g.K.LogStore.events (Some form) c.args.charting.now c.args.chart.now c.args.first c.args.past text × Appends (g.W.Write.contents c.args.output.now) (g.W.Write.contents c.write_lines.new.output) text)
     (sym c.in-Text.is) (c.write_lines.ensures.text c.args.charting.now whole)

@@ -9,6 +9,6 @@ returns-in-Ok-clause-text g c = λ whole.
     let v = c.args.chart.now in
     let lists = v.lists.now in
     let made = c.write_drawn.ensures whole in
-    let drawn : IsChartOf (part_with (map g.K.Keeps.events lists.logs.now) lists.received.now lists.put.now (drawn_of v c.args.first c.args.past) c.args.charting.now.only.items) c.in-Ok.drawing =
-    subst (λ (only : List SetId). IsChartOf (part_with (map g.K.Keeps.events lists.logs.now) lists.received.now lists.put.now (drawn_of v c.args.first c.args.past) only) c.in-Ok.drawing) c.as_slice.ensures.value c.in-Ok.ensures.whole in
+    let drawn : IsChartOf (part_with (map g.K.LogStore.events lists.logs.now) lists.received.now lists.put.now (drawn_of v c.args.first c.args.past) c.args.charting.now.only.items) c.in-Ok.drawing =
+    subst (λ (only : List SetId). IsChartOf (part_with (map g.K.LogStore.events lists.logs.now) lists.received.now lists.put.now (drawn_of v c.args.first c.args.past) only) c.in-Ok.drawing) c.as_slice.ensures.value c.in-Ok.ensures.whole in
     (_, (made.0, c.in-Ok.drawing, made.1, drawn, refl), made.2)

@@ -1,5 +1,5 @@
 use Rattle.std.proofs.Common.{List, length, refl, ap}
-use Rattle.sdl_page.specs.declared.page.Row.{Row}
+use Rattle.sdl_chart_page.specs.declared.page.Row.{Row}
 use Rattle.sdl_chart_runs.proofs.Written.{on_whole}
 use Rattle.sdl_chart_runs.proofs.drawn.write_drawn.Goals as goal
 

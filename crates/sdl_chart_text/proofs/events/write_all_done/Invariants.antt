@@ -5,4 +5,4 @@ use Rattle.sdl_chart_text.specs.Rows.{done_text}
 use Rattle.sdl_chart_text.proofs.events.write_all_done.Given as goal
 
 abbrev pub invariant-loop-done : goal.invariant-loop-done
-invariant-loop-done g l = Appends (g.W.Write.contents l.fn.output) (g.W.Write.contents l.output) (flat_map (done_text (legend_of g.K.Keeps.events l.chart)) (take l.done-index l.all))
+invariant-loop-done g l = Appends (g.W.Write.contents l.fn.output) (g.W.Write.contents l.output) (flat_map (done_text (legend_of g.K.LogStore.events l.chart)) (take l.done-index l.all))

@@ -7,4 +7,4 @@ use Rattle.sdl_chart_text.proofs.rows.write_lines.Given as goal
 abbrev pub invariant-loop-index : goal.invariant-loop-index
 invariant-loop-index g l =
     Appends (g.W.Write.contents l.fn.output) (g.W.Write.contents l.output)
-    (gathered_from (line_text (legend_of g.K.Keeps.events l.chart) (map g.K.Keeps.events l.chart.lists.now.logs.now) l.chart.lists.now.received.now l.chart.lists.now.put.now) l.first (take l.index l.rows))
+    (gathered_from (line_text (legend_of g.K.LogStore.events l.chart) (map g.K.LogStore.events l.chart.lists.now.logs.now) l.chart.lists.now.received.now l.chart.lists.now.put.now) l.first (take l.index l.rows))

@@ -1,6 +1,6 @@
 use Rattle.std.proofs.Common.{◌+◌, List, [], ◌∷◌, ◌++◌, take, sym, ap, ◌∙◌, subst}
 use Rattle.std.proofs.lemmas.List.{take_more, take_all}
-use Rattle.sdl_parts.specs.declared.parts.Channel.{Channel}
+use Rattle.sdl_structure_parts.specs.declared.parts.Channel.{Channel}
 use Rattle.sdl_drawing_text.specs.Written.{Adds}
 use Rattle.sdl_drawing_text.specs.Dot.{AreEdges}
 use Rattle.sdl_drawing_text.proofs.EdgeLemmas.{edges_none, edges_next}

@@ -1,9 +1,9 @@
 use Rattle.std.proofs.Common.{rules, map}
 use Rattle.sdl_transition.specs.Rules.{block_rules}
 use Rattle.sdl_transition.specs.Bound.{structure_of, routes_of, blocks_of}
-use Rattle.sdl_driver.specs.Closings.{outcome_in}
-use Rattle.sdl_file_runs.proofs.Told.{was_run, not_refused}
-use Rattle.sdl_audit.proofs.Callers.{complete_again, routes_again}
+use Rattle.sdl_run_driver.specs.Closings.{outcome_in}
+use Rattle.sdl_app_file_runs.proofs.Told.{was_run, not_refused}
+use Rattle.sdl_run_audit.proofs.Callers.{complete_again, routes_again}
 use Rattle.sdl_graph_program.proofs.Ended.{not_one}
 use Rattle.sdl_graph_program.proofs.audited.try_run_with.Goals as goal
 
@@ -12,7 +12,7 @@ report_audited-requires-clause-routes g c = routes_again c.args.bound c.in-Ok.cl
 
 pub report_audited-requires-clause-complete : goal.report_audited-requires-clause-complete
 report_audited-requires-clause-complete g c =
-    complete_again c.args.bound c.in-Ok.closing.bound c.budget-budget.result (outcome_in g.K.Keeps.events c.in-Ok.closing) c.in-Ok.ensures.bound c.in-Ok.ensures.ended.complete
+    complete_again c.args.bound c.in-Ok.closing.bound c.budget-budget.result (outcome_in g.K.LogStore.events c.in-Ok.closing) c.in-Ok.ensures.bound c.in-Ok.ensures.ended.complete
 
 pub returns-in-Ok-clause-made : goal.returns-in-Ok-clause-made
 returns-in-Ok-clause-made g c =
@@ -23,7 +23,7 @@ returns-in-Ok-clause-made g c =
       (
         _,
         was_run g.S.Agents.may (structure_of c.args.bound) (routes_of c.args.bound) rules_of c.budget-budget.result _ _ _ _
-            (outcome_in g.K.Keeps.events c.in-Ok.closing) c.in-Ok.closing.end c.in-Ok.closing.ledger c.in-Ok.closing.input c.in-Ok.closing.output t.0
+            (outcome_in g.K.LogStore.events c.in-Ok.closing) c.in-Ok.closing.end c.in-Ok.closing.ledger c.in-Ok.closing.input c.in-Ok.closing.output t.0
             (search rules) c.in-Ok.ensures.ended c.in-Ok.ensures.reading c.in-Ok.ensures.writing c.in-Ok.ensures.stopped t.2,
         t.3,
       ),

@@ -1,6 +1,6 @@
 use Rattle.std.proofs.Common.{◌≡◌, ◌⊎◌, Option, option_map, inl, inr, sym, subst}
 use Rattle.sdl_transition.specs.Bound.{structure_of}
-use Rattle.sdl_driver.specs.Closings.{plan_of_bound}
+use Rattle.sdl_run_driver.specs.Closings.{plan_of_bound}
 use Rattle.sdl_chart_runs.specs.declared.drawn.ToChart.{ToChart}
 use Rattle.sdl_graph_program.specs.Outcomes.{HasMadeAsked}
 use Rattle.sdl_graph_program.proofs.runs.run_as_told.Goals as goal

@@ -1,7 +1,7 @@
 use Rattle.std.proofs.Common.{sym, subst, List, Option}
-use Rattle.sdl_parts.specs.Structure.{Structure}
+use Rattle.sdl_structure_parts.specs.Structure.{Structure}
 use Rattle.sdl_routes.specs.declared.route.TableRow.{TableRow}
-use Rattle.sdl_file_commands.specs.Running.{CanRun, HasBudget}
+use Rattle.sdl_app_file_commands.specs.Running.{CanRun, HasBudget}
 use Rattle.sdl_graph_program.specs.Outcomes.{HasRunGraphOrNot}
 use Rattle.sdl_chart_words.specs.declared.sets.Charting.{Charting}
 use Rattle.sdl_graph_program.proofs.Moved.{moved}

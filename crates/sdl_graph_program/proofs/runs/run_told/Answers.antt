@@ -1,6 +1,6 @@
 use Rattle.std.proofs.Common.{◌≡◌, ◌⊎◌, Bool, inl, inr, refl, sym, subst}
 use Rattle.sdl_transition.specs.Bound.{structure_of}
-use Rattle.sdl_driver.specs.Closings.{plan_of_bound}
+use Rattle.sdl_run_driver.specs.Closings.{plan_of_bound}
 use Rattle.sdl_graph_program.specs.Outcomes.{HasMadeAudited}
 use Rattle.sdl_graph_program.proofs.runs.run_told.Goals as goal
 

@@ -1,5 +1,5 @@
 use Rattle.std.proofs.Common.{map, codes, Bor, ℕ, List, sym, ap, ◌∙◌}
-use Rattle.sdl_command.specs.Arguments.{has}
+use Rattle.sdl_app_command.specs.Arguments.{has}
 use Rattle.sdl_graph_program.proofs.Behind.{before, both_added}
 use Rattle.sdl_graph_program.proofs.words.add_behind.Goals as goal
 

@@ -1,10 +1,10 @@
 use Rattle.std.proofs.Common.{◌≡◌, ◌⊎◌, inl, inr, map, sym, subst, List, Option}
-use Rattle.sdl_parts.specs.Structure.{Structure}
+use Rattle.sdl_structure_parts.specs.Structure.{Structure}
 use Rattle.sdl_routes.specs.declared.route.TableRow.{TableRow}
 use Rattle.sdl_transition.specs.Bound.{blocks_of}
 use Rattle.sdl_transition.specs.Rules.{block_rules}
-use Rattle.sdl_file_commands.specs.Running.{CanRun, HasBudget}
-use Rattle.sdl_file_runs.specs.Outcomes.{plan_with}
+use Rattle.sdl_app_file_commands.specs.Running.{CanRun, HasBudget}
+use Rattle.sdl_app_file_runs.specs.Outcomes.{plan_with}
 use Rattle.sdl_graph_program.specs.Outcomes.{HasMadeAsked}
 use Rattle.sdl_chart_words.specs.declared.sets.Charting.{Charting}
 use Rattle.sdl_listing_runs.specs.Rules.{FollowListing}

@@ -1,8 +1,8 @@
 use Rattle.std.proofs.Common.{◌≡◌, ◌∙◌, ℕ, ◌+◌, [], ◌∷◌, ◌++◌, length, map, IfSome, ap, sym, subst, append_assoc, arith}
 use Rattle.std.specs.List.{AllByRecursion}
 use Rattle.std.proofs.lemmas.List.{nil_from_length, length-append}
-use Rattle.sdl_body.specs.Sound.{IsSound}
-use Rattle.sdl_file_agents.specs.Parts.{transition_parts, listed_transitions, head_parts, count_of}
+use Rattle.sdl_listing_body.specs.Sound.{IsSound}
+use Rattle.sdl_listing_binding.specs.Parts.{transition_parts, listed_transitions, head_parts, count_of}
 use Rattle.sdl_listing_runs.proofs.Longer.{one_longer}
 use Rattle.sdl_listing_runs.proofs.Stored.{stored_on, stored_all}
 use Rattle.sdl_listing_runs.proofs.runs.run_rows.Goals as goal

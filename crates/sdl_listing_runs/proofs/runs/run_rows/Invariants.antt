@@ -1,9 +1,9 @@
 use Rattle.std.proofs.Common.{◌≡◌, ◌++◌, length, map}
 use Rattle.std.specs.List.{AllByRecursion}
-use Rattle.sdl_behaviour.specs.Transitions.{IsAllowed}
-use Rattle.sdl_body.specs.Sound.{IsSound}
-use Rattle.sdl_file_agents.specs.Answers.{IsAnswerIn}
-use Rattle.sdl_file_agents.specs.Parts.{transition_parts, listed_transitions}
+use Rattle.sdl_transition_behaviour.specs.Transitions.{IsAllowed}
+use Rattle.sdl_listing_body.specs.Sound.{IsSound}
+use Rattle.sdl_listing_binding.specs.Answers.{IsAnswerIn}
+use Rattle.sdl_listing_binding.specs.Parts.{transition_parts, listed_transitions}
 use Rattle.sdl_listing_runs.proofs.runs.run_rows.Given as goal
 
 abbrev pub invariant-loop-row : goal.invariant-loop-row

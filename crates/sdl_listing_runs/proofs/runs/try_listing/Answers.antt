@@ -1,6 +1,6 @@
 use Rattle.std.proofs.Common.{List, IfOk, subst}
-use Rattle.sdl_body.specs.declared.syntax.Row.{Row}
-use Rattle.sdl_file_agents.specs.Answers.{IsAnswerIn}
+use Rattle.sdl_listing_body.specs.declared.syntax.Row.{Row}
+use Rattle.sdl_listing_binding.specs.Answers.{IsAnswerIn}
 use Rattle.sdl_listing_runs.specs.Outcomes.{HasRunMarked}
 use Rattle.sdl_listing_runs.proofs.runs.try_listing.Goals as goal
 

@@ -1,7 +1,7 @@
 use Rattle.std.proofs.Common.{◌≡◌, ℕ, [], None, length, vec_len, refl, ap, sym, ◌∙◌, subst, arith}
-use Rattle.sdl_environment.specs.EnvApart.{IsEnvPuttingOut}
-use Rattle.sdl_settling.specs.Coming.{ends_back, blocks_back, forwarders_back, NamesFirst}
-use Rattle.sdl_settling.proofs.Rooms.{room_of}
+use Rattle.sdl_run_environment.specs.EnvApart.{IsEnvPuttingOut}
+use Rattle.sdl_run_settling.specs.Coming.{ends_back, blocks_back, forwarders_back, NamesFirst}
+use Rattle.sdl_run_settling.proofs.Rooms.{room_of}
 use Rattle.sdl_run.proofs.Together.{read_on, written_on, named_next, some_none, environment_as, blocks_known, ends_enough, few_workers, workers_keep, environment_keeps, workers_number, done_number, blocks_number, lines_number, used_now, none, behaviours_same, workers_are, parked}
 use Rattle.sdl_run.proofs.Marks.{marks_once}
 use Rattle.sdl_run.proofs.joining.run_apart.Goals as goal

@@ -1,5 +1,5 @@
 use Rattle.std.proofs.Common.{arith, length}
-use Rattle.sdl_driver.proofs.Rooms.{room_as}
+use Rattle.sdl_run_driver.proofs.Rooms.{room_as}
 use Rattle.sdl_run.proofs.room.make_thread_room.Goals as goal
 
 pub returns : goal.returns

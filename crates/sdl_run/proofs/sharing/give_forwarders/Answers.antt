@@ -1,6 +1,6 @@
 use Rattle.std.proofs.Common.{◌+◌, length, ap, arith}
-use Rattle.sdl_driver.proofs.Rooms.{fewer_by_one}
-use Rattle.sdl_serial_run.proofs.Begins.{room_for}
+use Rattle.sdl_run_driver.proofs.Rooms.{fewer_by_one}
+use Rattle.sdl_run_serial.proofs.Begins.{room_for}
 use Rattle.sdl_run.proofs.Pairs.{gives_none, gives_one, gives_all}
 use Rattle.sdl_run.proofs.sharing.give_forwarders.Goals as goal
 

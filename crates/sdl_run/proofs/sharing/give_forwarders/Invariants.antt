@@ -1,5 +1,5 @@
 use Rattle.std.proofs.Common.{◌+◌, ◌≤◌, length, vec_len, vec_capacity}
-use Rattle.sdl_threads.specs.declared.kinds.Kind.TheVariants.{Forwarder}
+use Rattle.sdl_run_threads.specs.declared.kinds.Kind.TheVariants.{Forwarder}
 use Rattle.sdl_run.specs.Sharing.{forwarder_thread}
 use Rattle.sdl_run.proofs.Pairs.{GivesSoFar}
 use Rattle.sdl_run.proofs.sharing.give_forwarders.Given as goal

@@ -1,9 +1,9 @@
 use Rattle.std.proofs.Common.{length, sym, subst, arith}
-use Rattle.sdl_outcome.specs.Plan.{Plan}
-use Rattle.sdl_driver.specs.Closings.{HasReadIn, HasWrittenIn, outcome_in}
-use Rattle.sdl_driver.specs.Ended.{HasEnded}
-use Rattle.sdl_serial_run.proofs.Fresh.{empty_as, start_plan, start_count, start_bound, system_same, room_same, ended_same, bound_same}
-use Rattle.sdl_serial_run.proofs.Begins.{room_for}
+use Rattle.sdl_run_outcome.specs.Plan.{Plan}
+use Rattle.sdl_run_driver.specs.Closings.{HasReadIn, HasWrittenIn, outcome_in}
+use Rattle.sdl_run_driver.specs.Ended.{HasEnded}
+use Rattle.sdl_run_serial.proofs.Fresh.{empty_as, start_plan, start_count, start_bound, system_same, room_same, ended_same, bound_same}
+use Rattle.sdl_run_serial.proofs.Begins.{room_for}
 use Rattle.sdl_run.proofs.Whole.{opened_at, room_started, hops_opened, reading_parked, writing_parked}
 use Rattle.sdl_run.proofs.Stops.{as_they_came}
 use Rattle.sdl_run.proofs.threads.run_in.Goals as goal
@@ -42,8 +42,8 @@ settle-requires-clause-empty g c = empty_as c.in-Ok.room c.args.thread_room.room
 pub returns-in-Ok-clause-ended : goal.returns-in-Ok-clause-ended
 returns-in-Ok-clause-ended g c =
     let x = c.settle.result in
-    subst (λ (p : Plan). HasEnded g.S.Agents.may p (outcome_in g.K.Keeps.events x) x.end x.ledger) (start_plan c.args.system c.in-Ok.system c.in-Ok.ensures.same)
-    (ended_same g.S.Agents.may c.in-Ok.system c.run_apart-stopped.result.parked.system c.run_apart-stopped.ensures.same (outcome_in g.K.Keeps.events x) x.end x.ledger c.settle.ensures.ended)
+    subst (λ (p : Plan). HasEnded g.S.Agents.may p (outcome_in g.K.LogStore.events x) x.end x.ledger) (start_plan c.args.system c.in-Ok.system c.in-Ok.ensures.same)
+    (ended_same g.S.Agents.may c.in-Ok.system c.run_apart-stopped.result.parked.system c.run_apart-stopped.ensures.same (outcome_in g.K.LogStore.events x) x.end x.ledger c.settle.ensures.ended)
 
 pub returns-in-Ok-clause-reading : goal.returns-in-Ok-clause-reading
 returns-in-Ok-clause-reading g c =
@@ -57,7 +57,7 @@ returns-in-Ok-clause-writing g c =
 
 pub returns-in-Ok-clause-named : goal.returns-in-Ok-clause-named
 returns-in-Ok-clause-named g c =
-    as_they_came g.K.Keeps.events c.settle.result c.of-came.result.value c.run_apart-stopped.result c.of-came.ensures (length c.args.system.blocks.items) (length c.in-Ok.system.blocks.items) (sym (start_count c.args.system c.in-Ok.system c.in-Ok.ensures.same))
+    as_they_came g.K.LogStore.events c.settle.result c.of-came.result.value c.run_apart-stopped.result c.of-came.ensures (length c.args.system.blocks.items) (length c.in-Ok.system.blocks.items) (sym (start_count c.args.system c.in-Ok.system c.in-Ok.ensures.same))
     c.run_apart-stopped.ensures.named c.settle.ensures.refusal c.settle.ensures.left
 
 pub returns-in-Ok-clause-bound : goal.returns-in-Ok-clause-bound

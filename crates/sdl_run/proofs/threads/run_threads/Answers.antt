@@ -1,5 +1,5 @@
-use Rattle.sdl_driver.specs.Closings.{plan_of_bound}
-use Rattle.sdl_serial_run.proofs.Listed.{writing_listed}
+use Rattle.sdl_run_driver.specs.Closings.{plan_of_bound}
+use Rattle.sdl_run_serial.proofs.Listed.{writing_listed}
 use Rattle.sdl_run.proofs.threads.run_threads.Goals as goal
 
 pub returns-in-Ok-run_threads_keeping-clause-writing : goal.returns-in-Ok-run_threads_keeping-clause-writing

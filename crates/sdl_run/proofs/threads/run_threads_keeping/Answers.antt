@@ -1,10 +1,10 @@
 use Rattle.std.proofs.Common.{subst, arith}
-use Rattle.sdl_outcome.specs.Plan.{Plan}
-use Rattle.sdl_driver.specs.Closings.{outcome_in}
-use Rattle.sdl_driver.specs.Ended.{HasEnded}
-use Rattle.sdl_driver.proofs.Systems.{bound_plan}
-use Rattle.sdl_serial_run.proofs.Fresh.{same_bound}
-use Rattle.sdl_serial_run.proofs.OfBound.{reading_bound, writing_bound}
+use Rattle.sdl_run_outcome.specs.Plan.{Plan}
+use Rattle.sdl_run_driver.specs.Closings.{outcome_in}
+use Rattle.sdl_run_driver.specs.Ended.{HasEnded}
+use Rattle.sdl_run_driver.proofs.Systems.{bound_plan}
+use Rattle.sdl_run_serial.proofs.Fresh.{same_bound}
+use Rattle.sdl_run_serial.proofs.OfBound.{reading_bound, writing_bound}
 use Rattle.sdl_run.proofs.threads.run_threads_keeping.Goals as goal
 
 pub make_thread_room-requires-clause-routes : goal.make_thread_room-requires-clause-routes
@@ -24,7 +24,7 @@ pub returns-in-Ok-run_in-clause-ended : goal.returns-in-Ok-run_in-clause-ended
 returns-in-Ok-run_in-clause-ended g c =
     let x = c.in-Ok-run_in.closing in
     let same = c.with_budget-system.ensures in
-    subst (λ (p : Plan). HasEnded g.S.Agents.may p (outcome_in g.K.Keeps.events x) x.end x.ledger) (bound_plan c.with_budget-system.result c.args.bound c.args.budget same.same same.budget) c.in-Ok-run_in.ensures.ended
+    subst (λ (p : Plan). HasEnded g.S.Agents.may p (outcome_in g.K.LogStore.events x) x.end x.ledger) (bound_plan c.with_budget-system.result c.args.bound c.args.budget same.same same.budget) c.in-Ok-run_in.ensures.ended
 
 pub returns-in-Ok-run_in-clause-reading : goal.returns-in-Ok-run_in-clause-reading
 returns-in-Ok-run_in-clause-reading g c =

@@ -1,11 +1,11 @@
 use Rattle.std.specs.Prelude.{Result, Ok, Err, IfOk}
 use Rattle.sdl_routes.specs.Routes.{AreRoutesOf}
 use Rattle.sdl_transition.specs.Bound.{structure_of, routes_of}
-use Rattle.sdl_outcome.specs.Lists.{items_in}
-use Rattle.sdl_outcome.specs.Outcome.{IsComplete}
-use Rattle.sdl_driver.specs.Closings.{outcome_in, plan_of_bound, IsSameBound}
-use Rattle.sdl_driver.specs.Ended.{HasEnded}
-use Rattle.sdl_audit.proofs.Callers.{complete_again, routes_again}
+use Rattle.sdl_run_outcome.specs.Lists.{items_in}
+use Rattle.sdl_run_outcome.specs.Outcome.{IsComplete}
+use Rattle.sdl_run_driver.specs.Closings.{outcome_in, plan_of_bound, IsSameBound}
+use Rattle.sdl_run_driver.specs.Ended.{HasEnded}
+use Rattle.sdl_run_audit.proofs.Callers.{complete_again, routes_again}
 use Rattle.sdl_run_tests.proofs.streams.run_form.Goals as goal
 
 -- two facts of a value, if there is one, give a third

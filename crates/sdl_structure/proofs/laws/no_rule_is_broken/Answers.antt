@@ -1,9 +1,9 @@
 use Rattle.std.proofs.Common.{◌≢◌, refl}
 use Rattle.toml.specs.Data.{Members}
-use Rattle.sdl_parts.specs.Structure.{Structure}
-use Rattle.sdl_tables.specs.declared.fault.FileFault.{FileFault}
-use Rattle.sdl_tables.specs.declared.fault.FileFault.TheVariants as faults
-use Rattle.sdl_tables.specs.Faults.{IsBroken}
+use Rattle.sdl_structure_parts.specs.Structure.{Structure}
+use Rattle.sdl_structure_tables.specs.declared.fault.FileFault.{FileFault}
+use Rattle.sdl_structure_tables.specs.declared.fault.FileFault.TheVariants as faults
+use Rattle.sdl_structure_tables.specs.Faults.{IsBroken}
 use Rattle.sdl_structure.specs.File.{IsFileOf}
 use Rattle.sdl_structure.proofs.RuleLemmas.{none_missing, none_of_wrong_type, none_unknown}
 use Rattle.sdl_structure.proofs.NameRules.{none_of_bad_name}

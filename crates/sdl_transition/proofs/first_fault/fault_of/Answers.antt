@@ -1,5 +1,5 @@
 use Rattle.std.proofs.Common.{refl}
-use Rattle.sdl_behaviour.specs.Declarations.{declared_behaviour}
+use Rattle.sdl_transition_behaviour.specs.Declarations.{declared_behaviour}
 use Rattle.sdl_transition.proofs.Either.{fails}
 use Rattle.sdl_transition.proofs.Firsts.{NoneBelow, none_below_3, none_below_4, none_below_5, none_below_6, none_below_7, none_below_8, none_below_9, none_below_10, faultless}
 use Rattle.sdl_transition.proofs.first_fault.fault_of.Goals as goal

@@ -1,9 +1,9 @@
 use Rattle.std.proofs.Common.{refl, subst, arith, ◌≡◌}
-use Rattle.sdl_log.specs.declared.event.Turn.{Turn}
+use Rattle.sdl_instances_log.specs.declared.event.Turn.{Turn}
 use Rattle.sdl_instances.specs.Calls.{TurnAnswers, turned_of, IsTurnOf}
 use Rattle.sdl_instances.specs.Run.{turn_in}
-use Rattle.sdl_log.specs.declared.event.Event.{Event}
-use Rattle.sdl_log.specs.declared.event.Event.TheVariants as event
+use Rattle.sdl_instances_log.specs.declared.event.Event.{Event}
+use Rattle.sdl_instances_log.specs.declared.event.Event.TheVariants as event
 use Rattle.sdl_signal.specs.declared.values.Pid.{Pid}
 use Rattle.sdl_instances.specs.CoreOf.{core_of, system_in}
 use Rattle.sdl_block.proofs.worker.BlockWorker.make_turn.Goals as goal

@@ -1,9 +1,9 @@
 use Rattle.std.proofs.Common.{ap, refl, subst, sym}
 use Rattle.sdl_transition.specs.Rules.{block_rules}
 use Rattle.sdl_forward.specs.ByEnds.{by_ends}
-use Rattle.sdl_hand.specs.declared.hand.Stepped.{Stepped}
-use Rattle.sdl_hand.specs.Apart.{StepsApart}
-use Rattle.sdl_hand.specs.Puts.{answer_of}
+use Rattle.sdl_block_hand.specs.declared.hand.Stepped.{Stepped}
+use Rattle.sdl_block_hand.specs.Apart.{StepsApart}
+use Rattle.sdl_block_hand.specs.Puts.{answer_of}
 use Rattle.sdl_block.specs.Around.{around}
 use Rattle.sdl_block.specs.Phases.{IsEmptyAfter}
 use Rattle.sdl_block.specs.PhasesApart.{IsOneRoundApart}

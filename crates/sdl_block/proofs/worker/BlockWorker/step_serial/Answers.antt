@@ -1,10 +1,10 @@
 use Rattle.std.proofs.Common.{ap, refl, subst, sym}
 use Rattle.sdl_transition.specs.Rules.{block_rules}
 use Rattle.sdl_forward.specs.OnBoard.{on_board}
-use Rattle.sdl_hand.specs.declared.hand.Stepped.{Stepped}
-use Rattle.sdl_hand.specs.Work.{StepsAs}
-use Rattle.sdl_hand.specs.Puts.{answer_of}
-use Rattle.sdl_hand.proofs.Sides.{board_ways}
+use Rattle.sdl_block_hand.specs.declared.hand.Stepped.{Stepped}
+use Rattle.sdl_block_hand.specs.Work.{StepsAs}
+use Rattle.sdl_block_hand.specs.Puts.{answer_of}
+use Rattle.sdl_block_hand.proofs.Sides.{board_ways}
 use Rattle.sdl_block.specs.Around.{around}
 use Rattle.sdl_block.specs.Phases.{IsEmptyAfter}
 use Rattle.sdl_block.specs.Rounds.{IsOneRound}

@@ -7,7 +7,7 @@ use Rattle.sdl_forward.specs.Boards.{stations_of, waiting, lists_of, AreAllStati
 use Rattle.sdl_forward.specs.Serials.{AreSerial}
 use Rattle.sdl_forward.proofs.Entries.{stations-lists}
 use Rattle.sdl_forward.proofs.Fresh.{empty_queue, stations_fresh, serial_fresh, waiting_fresh}
-use Rattle.sdl_opening.proofs.Opened.{order_once}
+use Rattle.sdl_forward_opening.proofs.Opened.{order_once}
 use Rattle.sdl_forward.proofs.board.Board.new.Goals as goal
 
 pub of-requires-clause-once : goal.of-requires-clause-once

@@ -1,6 +1,6 @@
 use Rattle.std.proofs.Common.{◌≡◌, ◌<◌, Some, take, ap, sym, subst, ◌∙◌, arith}
-use Rattle.sdl_lines.specs.Bytes.{HasNoNewline}
-use Rattle.sdl_lines.specs.Source.{Source, HandsOut, to_come}
+use Rattle.sdl_signal_lines.specs.Bytes.{HasNoNewline}
+use Rattle.sdl_signal_lines.specs.Source.{Source, HandsOut, to_come}
 use Rattle.sdl_signal.specs.Reading.{IsFirstFault}
 use Rattle.sdl_signal.specs.Environment.{Reading, HasCarried, most_lines}
 use Rattle.sdl_signal.proofs.Carried.{carried_more, read_whole, read_fault, read_over, too_much_over, read_bad, too_much_line}

@@ -1,7 +1,7 @@
 use Rattle.std.proofs.Common.{arith, ◌≡◌, length}
 use Rattle.std.specs.List.{position_or_len}
 use Rattle.std.proofs.lemmas.Str.Pattern.{split_once_first}
-use Rattle.sdl_tables.specs.Names.{is_dot}
+use Rattle.sdl_structure_tables.specs.Names.{is_dot}
 use Rattle.sdl_structure.proofs.ChannelLemmas.{no_dot}
 use Rattle.sdl_structure.proofs.reading.channels.split_end.Goals as goal
 

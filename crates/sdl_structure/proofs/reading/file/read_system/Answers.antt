@@ -1,5 +1,5 @@
-use Rattle.sdl_tables.specs.Walks.{file_of}
-use Rattle.sdl_parts.specs.Lists.{structure_of}
+use Rattle.sdl_structure_tables.specs.Walks.{file_of}
+use Rattle.sdl_structure_parts.specs.Lists.{structure_of}
 use Rattle.sdl_structure.proofs.WholeLemmas.{is_structure}
 use Rattle.sdl_structure.proofs.FileLemmas.{legal_names}
 use Rattle.sdl_structure.proofs.reading.file.read_system.Goals as goal

@@ -1,20 +1,20 @@
 use Rattle.std.proofs.Common.{◌≡◌, ◌≢◌, ◌++◌, ◌<◌, ◌≤◌, pos, length, true, Some, AllPairs, refl, ap, sym, subst, ◌∙◌}
 use Rattle.std.specs.List.{AllZip}
-use Rattle.sdl_parts.specs.declared.parts.Owner.TheVariants as owner
-use Rattle.sdl_parts.specs.declared.parts.Scope.TheVariants as scope
-use Rattle.sdl_tables.specs.declared.place.Key.TheVariants as key
-use Rattle.sdl_tables.specs.declared.place.Part.TheVariants as part
+use Rattle.sdl_structure_parts.specs.declared.parts.Owner.TheVariants as owner
+use Rattle.sdl_structure_parts.specs.declared.parts.Scope.TheVariants as scope
+use Rattle.sdl_structure_tables.specs.declared.place.Key.TheVariants as key
+use Rattle.sdl_structure_tables.specs.declared.place.Part.TheVariants as part
 use Rattle.sdl_structure.specs.declared.reading.draft.Draft.{Draft}
-use Rattle.sdl_parts.specs.Structure.{Structure}
-use Rattle.sdl_tables.specs.Versions.{most_blocks}
-use Rattle.sdl_tables.specs.Keys.{keys_of}
-use Rattle.sdl_tables.specs.Tables.{integer_at, integer_or, tables_at, has_only, channel_names, names_of, own_version, HasShape}
-use Rattle.sdl_tables.specs.Blocks.{left_in_all}
-use Rattle.sdl_tables.specs.Names.{IsSignalTable, HasName}
+use Rattle.sdl_structure_parts.specs.Structure.{Structure}
+use Rattle.sdl_structure_tables.specs.Versions.{most_blocks}
+use Rattle.sdl_structure_tables.specs.Keys.{keys_of}
+use Rattle.sdl_structure_tables.specs.Tables.{integer_at, integer_or, tables_at, has_only, channel_names, names_of, own_version, HasShape}
+use Rattle.sdl_structure_tables.specs.Blocks.{left_in_all}
+use Rattle.sdl_structure_tables.specs.Names.{IsSignalTable, HasName}
 use Rattle.sdl_structure.specs.File.{IsGateTable, IsChannelTable, HasGates, version_number, owned, channels_in}
-use Rattle.sdl_tables.specs.Walks.{file_of, own, name_texts}
+use Rattle.sdl_structure_tables.specs.Walks.{file_of, own, name_texts}
 use Rattle.sdl_structure.specs.Drafts.{HasSignals}
-use Rattle.sdl_tables.proofs.PlaceLemmas.{top_is}
+use Rattle.sdl_structure_tables.proofs.PlaceLemmas.{top_is}
 use Rattle.sdl_structure.proofs.FileLemmas.{draft_starts, all_agents, all_whole, all_channels, all_names, top_serves, top_counted, lists_parts, distinct_names, few_channels, within_limits}
 use Rattle.sdl_structure.proofs.reading.file.read_top.Goals as goal
 

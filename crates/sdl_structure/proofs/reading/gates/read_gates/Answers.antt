@@ -1,12 +1,12 @@
 use Rattle.std.proofs.Common.{arith, ◌≡◌, ◌<◌, [], length, map, sym, ap, refl, ◌∙◌, subst}
 use Rattle.std.proofs.lemmas.Bool.Decides.{nat_tests}
 use Rattle.std.proofs.lemmas.List.{length-map}
-use Rattle.sdl_tables.specs.declared.place.Key.TheVariants as key
-use Rattle.sdl_tables.specs.Tables.{table_in, tables_at}
+use Rattle.sdl_structure_tables.specs.declared.place.Key.TheVariants as key
+use Rattle.sdl_structure_tables.specs.Tables.{table_in, tables_at}
 use Rattle.sdl_structure.specs.File.{IsGateTable}
-use Rattle.sdl_tables.specs.Walks.{own}
-use Rattle.sdl_tables.proofs.ListLemmas.{read_more, element, all_read, names_apart, zip_map}
-use Rattle.sdl_tables.proofs.PlaceLemmas.{before_gate, gate_keys_inside}
+use Rattle.sdl_structure_tables.specs.Walks.{own}
+use Rattle.sdl_structure_tables.proofs.ListLemmas.{read_more, element, all_read, names_apart, zip_map}
+use Rattle.sdl_structure_tables.proofs.PlaceLemmas.{before_gate, gate_keys_inside}
 use Rattle.sdl_structure.proofs.reading.gates.read_gates.Goals as goal
 
 pub inner-requires : goal.inner-requires

@@ -3,21 +3,21 @@ use Rattle.std.specs.Prelude.{IfOk}
 use Rattle.std.specs.List.{AllZip}
 use Rattle.std.proofs.lemmas.Bool.Decides.{nat_tests}
 use Rattle.std.proofs.lemmas.List.{length-map}
-use Rattle.sdl_parts.specs.declared.parts.Block.{Block}
-use Rattle.sdl_parts.specs.declared.parts.Scope.TheVariants as scope
-use Rattle.sdl_tables.specs.declared.version.Version.TheVariants.{One, Two}
-use Rattle.sdl_tables.specs.declared.place.Key.TheVariants as key
-use Rattle.sdl_tables.specs.declared.place.Part.TheVariants as part
+use Rattle.sdl_structure_parts.specs.declared.parts.Block.{Block}
+use Rattle.sdl_structure_parts.specs.declared.parts.Scope.TheVariants as scope
+use Rattle.sdl_structure_tables.specs.declared.version.Version.TheVariants.{One, Two}
+use Rattle.sdl_structure_tables.specs.declared.place.Key.TheVariants as key
+use Rattle.sdl_structure_tables.specs.declared.place.Part.TheVariants as part
 use Rattle.sdl_structure.specs.declared.reading.draft.Draft.{Draft}
-use Rattle.sdl_tables.specs.Versions.{most_blocks}
-use Rattle.sdl_tables.specs.declared.place.Place.{Place}
-use Rattle.sdl_tables.specs.Keys.{keys_of}
-use Rattle.sdl_tables.specs.Tables.{tables_at, table_in, names_of, agent_names, channel_names, total, has_only, own_version, HasKindAt}
-use Rattle.sdl_tables.specs.Blocks.{block_tables, inner_tables, listed_in, left_before, IsBlockAt}
-use Rattle.sdl_tables.specs.Places.{table_of, table_at, block_place}
-use Rattle.sdl_tables.specs.Faults.{so_far}
-use Rattle.sdl_tables.specs.Walks.{file_of, own, name_texts}
-use Rattle.sdl_tables.proofs.PlaceLemmas.{before_block}
+use Rattle.sdl_structure_tables.specs.Versions.{most_blocks}
+use Rattle.sdl_structure_tables.specs.declared.place.Place.{Place}
+use Rattle.sdl_structure_tables.specs.Keys.{keys_of}
+use Rattle.sdl_structure_tables.specs.Tables.{tables_at, table_in, names_of, agent_names, channel_names, total, has_only, own_version, HasKindAt}
+use Rattle.sdl_structure_tables.specs.Blocks.{block_tables, inner_tables, listed_in, left_before, IsBlockAt}
+use Rattle.sdl_structure_tables.specs.Places.{table_of, table_at, block_place}
+use Rattle.sdl_structure_tables.specs.Faults.{so_far}
+use Rattle.sdl_structure_tables.specs.Walks.{file_of, own, name_texts}
+use Rattle.sdl_structure_tables.proofs.PlaceLemmas.{before_block}
 use Rattle.sdl_structure.specs.File.{IsWholeBlock, IsChannelTable, channels_in}
 use Rattle.sdl_structure.specs.Drafts.{ComesTo, HasRead, HasBegun, HasInside, HasKindsWithin, ServesChannels, entering, entering_in, placed, tables_of}
 use Rattle.sdl_structure.proofs.ChannelLemmas.{refuted}

@@ -1,8 +1,8 @@
 use Rattle.std.proofs.Common.{◌≡◌, ◌+◌, ◌*◌, ◌-◌, ◌≤◌, length, take, map}
-use Rattle.sdl_tables.specs.Tables.{table_in}
-use Rattle.sdl_tables.specs.Versions.{most_blocks}
-use Rattle.sdl_tables.specs.Blocks.{listed_in}
-use Rattle.sdl_tables.specs.Walks.{file_of}
+use Rattle.sdl_structure_tables.specs.Tables.{table_in}
+use Rattle.sdl_structure_tables.specs.Versions.{most_blocks}
+use Rattle.sdl_structure_tables.specs.Blocks.{listed_in}
+use Rattle.sdl_structure_tables.specs.Walks.{file_of}
 use Rattle.sdl_structure.specs.Drafts.{HasRead, entering, tables_of}
 use Rattle.sdl_structure.proofs.reading.draft.Draft.+blocks.Given as goal
 

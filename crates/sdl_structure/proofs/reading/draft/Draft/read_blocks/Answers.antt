@@ -1,16 +1,16 @@
 use Rattle.std.proofs.Common.{◌≡◌, ◌+◌, ◌<◌, ◌≤◌, length, map, take, ap, sym, subst, ◌∙◌, arith}
 use Rattle.std.specs.Prelude.{IfOk}
 use Rattle.std.proofs.lemmas.List.{length-map}
-use Rattle.sdl_parts.specs.declared.parts.Scope.TheVariants as scope
-use Rattle.sdl_tables.specs.declared.place.Key.TheVariants as key
-use Rattle.sdl_tables.specs.Keys.{is_key}
-use Rattle.sdl_tables.specs.Versions.{most_blocks}
-use Rattle.sdl_tables.specs.Tables.{tables_at, table_in}
-use Rattle.sdl_tables.specs.Blocks.{block_tables, listed_in}
-use Rattle.sdl_tables.specs.Faults.{so_far}
-use Rattle.sdl_tables.specs.Walks.{file_of}
+use Rattle.sdl_structure_parts.specs.declared.parts.Scope.TheVariants as scope
+use Rattle.sdl_structure_tables.specs.declared.place.Key.TheVariants as key
+use Rattle.sdl_structure_tables.specs.Keys.{is_key}
+use Rattle.sdl_structure_tables.specs.Versions.{most_blocks}
+use Rattle.sdl_structure_tables.specs.Tables.{tables_at, table_in}
+use Rattle.sdl_structure_tables.specs.Blocks.{block_tables, listed_in}
+use Rattle.sdl_structure_tables.specs.Faults.{so_far}
+use Rattle.sdl_structure_tables.specs.Walks.{file_of}
 use Rattle.sdl_structure.specs.Drafts.{ComesTo, HasRead, entering, tables_of}
-use Rattle.sdl_tables.proofs.PlaceLemmas.{top_is}
+use Rattle.sdl_structure_tables.proofs.PlaceLemmas.{top_is}
 use Rattle.sdl_structure.proofs.FileLemmas.{some_blocks}
 use Rattle.sdl_structure.proofs.TurnLemmas.{on_both}
 use Rattle.sdl_structure.proofs.reading.draft.Draft.read_blocks.Goals as goal

@@ -1,7 +1,7 @@
 use Rattle.std.proofs.Common.{◌≡◌, true, subst, refl}
-use Rattle.sdl_tables.specs.declared.place.Key.TheVariants as key
-use Rattle.sdl_tables.specs.Tables.{has_only}
-use Rattle.sdl_tables.specs.Walks.{own}
+use Rattle.sdl_structure_tables.specs.declared.place.Key.TheVariants as key
+use Rattle.sdl_structure_tables.specs.Tables.{has_only}
+use Rattle.sdl_structure_tables.specs.Walks.{own}
 use Rattle.sdl_structure.proofs.ChannelLemmas.{other_names, own_keys, listed_in}
 use Rattle.sdl_structure.proofs.reading.draft.Draft.read_channel.Goals as goal
 

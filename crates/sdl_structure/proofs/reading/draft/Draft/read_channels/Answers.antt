@@ -1,12 +1,12 @@
 use Rattle.std.proofs.Common.{arith, ap, map, refl, ◌∙◌}
 use Rattle.std.proofs.lemmas.Bool.Decides.{nat_tests}
-use Rattle.sdl_tables.specs.declared.place.Key.TheVariants as key
+use Rattle.sdl_structure_tables.specs.declared.place.Key.TheVariants as key
 use Rattle.sdl_structure.specs.declared.reading.draft.Draft.{Draft}
-use Rattle.sdl_tables.specs.Tables.{table_in, tables_at, channel_names}
+use Rattle.sdl_structure_tables.specs.Tables.{table_in, tables_at, channel_names}
 use Rattle.sdl_structure.specs.File.{IsChannelTable}
-use Rattle.sdl_tables.specs.Walks.{file_of, own}
+use Rattle.sdl_structure_tables.specs.Walks.{file_of, own}
 use Rattle.sdl_structure.specs.Drafts.{blocks_before}
-use Rattle.sdl_tables.proofs.ListLemmas.{element, read_more, all_read, zip_map}
+use Rattle.sdl_structure_tables.proofs.ListLemmas.{element, read_more, all_read, zip_map}
 use Rattle.sdl_structure.proofs.ChannelLemmas.{serves_in, scope_lists, names_before_channel, other_names, channel_joins, few_names}
 use Rattle.sdl_structure.proofs.reading.draft.Draft.read_channels.Goals as goal
 

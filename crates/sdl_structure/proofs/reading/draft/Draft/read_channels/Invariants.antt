@@ -1,9 +1,9 @@
 use Rattle.std.proofs.Common.{◌≡◌, take, map}
-use Rattle.sdl_tables.specs.Tables.{table_in, channel_names}
+use Rattle.sdl_structure_tables.specs.Tables.{table_in, channel_names}
 use Rattle.sdl_structure.specs.File.{IsChannelTable}
-use Rattle.sdl_tables.specs.Walks.{file_of}
+use Rattle.sdl_structure_tables.specs.Walks.{file_of}
 use Rattle.sdl_structure.specs.Drafts.{blocks_before}
-use Rattle.sdl_tables.proofs.ListLemmas.{AreRead}
+use Rattle.sdl_structure_tables.proofs.ListLemmas.{AreRead}
 use Rattle.sdl_structure.proofs.reading.draft.Draft.read_channels.Given as goal
 
 abbrev pub invariant-loop-index : goal.invariant-loop-index

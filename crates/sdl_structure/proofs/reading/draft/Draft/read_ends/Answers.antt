@@ -1,7 +1,7 @@
 use Rattle.std.proofs.Common.{rules, arith, ◌≡◌, ◌<◌, length, false, true, subst, sym, refl}
 use Rattle.toml.specs.View.{view}
-use Rattle.sdl_tables.specs.declared.place.Key.TheVariants as key
-use Rattle.sdl_tables.specs.Tables.{is_text}
+use Rattle.sdl_structure_tables.specs.declared.place.Key.TheVariants as key
+use Rattle.sdl_structure_tables.specs.Tables.{is_text}
 use Rattle.sdl_structure.specs.File.{NamesEnd}
 use Rattle.sdl_structure.proofs.ChannelLemmas.{own_keys, listed_in, two_ends, bad_end, unknown_end, refuted}
 use Rattle.sdl_structure.proofs.reading.draft.Draft.read_ends.Goals as goal

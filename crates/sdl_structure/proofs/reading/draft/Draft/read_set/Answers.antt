@@ -1,7 +1,7 @@
 use Rattle.std.proofs.Common.{pos, ◌≤ℤ◌, ap, refl, arith}
 use Rattle.std.proofs.lemmas.Int.{ints}
-use Rattle.sdl_tables.specs.declared.place.Key.TheVariants as key
-use Rattle.sdl_tables.specs.Keys.{is_key, least_of, greatest_of}
+use Rattle.sdl_structure_tables.specs.declared.place.Key.TheVariants as key
+use Rattle.sdl_structure_tables.specs.Keys.{is_key, least_of, greatest_of}
 use Rattle.sdl_structure.proofs.reading.draft.Draft.read_set.Goals as goal
 
 -- the numbers that stand for absent keys are in their ranges

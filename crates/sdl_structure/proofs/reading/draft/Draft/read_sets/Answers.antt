@@ -1,13 +1,13 @@
 use Rattle.std.proofs.Common.{arith, ◌≡◌, length, take, map, ap, sym, subst, refl, ◌∙◌}
 use Rattle.std.proofs.lemmas.List.{length-map}
 use Rattle.std.proofs.lemmas.Bool.Decides.{nat_tests}
-use Rattle.sdl_tables.specs.declared.place.Key.TheVariants as key
+use Rattle.sdl_structure_tables.specs.declared.place.Key.TheVariants as key
 use Rattle.sdl_structure.specs.declared.reading.draft.Draft.{Draft}
-use Rattle.sdl_tables.specs.Tables.{table_in, tables_at}
-use Rattle.sdl_tables.specs.Blocks.{block_tables}
-use Rattle.sdl_tables.specs.Walks.{file_of, own}
+use Rattle.sdl_structure_tables.specs.Tables.{table_in, tables_at}
+use Rattle.sdl_structure_tables.specs.Blocks.{block_tables}
+use Rattle.sdl_structure_tables.specs.Walks.{file_of, own}
 use Rattle.sdl_structure.specs.Drafts.{HasSignals, HasSets, IsSetRead}
-use Rattle.sdl_tables.proofs.ListLemmas.{element, take_map_more, take_map_all}
+use Rattle.sdl_structure_tables.proofs.ListLemmas.{element, take_map_more, take_map_all}
 use Rattle.sdl_structure.proofs.DraftLemmas.{too_many_sets, signals_kept, set_joins, grows_none, grows_more, length_before, one_set_more, block_part, block_lists_sets, set_part, set_before}
 use Rattle.sdl_structure.proofs.reading.draft.Draft.read_sets.Goals as goal
 

@@ -1,7 +1,7 @@
 use Rattle.std.proofs.Common.{◌≡◌, ◌+◌, take, map, length}
-use Rattle.sdl_tables.specs.Tables.{table_in}
-use Rattle.sdl_tables.specs.Blocks.{block_tables}
-use Rattle.sdl_tables.specs.Walks.{file_of, own}
+use Rattle.sdl_structure_tables.specs.Tables.{table_in}
+use Rattle.sdl_structure_tables.specs.Blocks.{block_tables}
+use Rattle.sdl_structure_tables.specs.Walks.{file_of, own}
 use Rattle.sdl_structure.specs.Drafts.{HasSets, Grows}
 use Rattle.sdl_structure.proofs.reading.draft.Draft.read_sets.Given as goal
 

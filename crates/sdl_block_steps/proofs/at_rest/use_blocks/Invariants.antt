@@ -1,7 +1,0 @@
-use Rattle.std.specs.List.{All}
-use Rattle.sdl_forward.specs.Boards.{IsBoardOf}
-use Rattle.sdl_block_steps.specs.Stored.{IsStored}
-use Rattle.sdl_block_steps.proofs.at_rest.use_blocks.Given as goal
-
-abbrev pub invariant-calls : goal.invariant-calls
-invariant-calls g l = IsBoardOf l.site.place.routes.now l.desk.board × All (IsStored g.S.Agents.may l.site.checked.now) l.blocks.items

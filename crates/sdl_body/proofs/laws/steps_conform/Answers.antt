@@ -1,5 +1,0 @@
-use Rattle.sdl_body.proofs.Conforming.{conforming}
-use Rattle.sdl_body.proofs.laws.steps_conform.Goals as goal
-
-pub returns : goal.returns
-returns c = conforming

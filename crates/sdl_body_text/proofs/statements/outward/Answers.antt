@@ -1,6 +1,0 @@
-use Rattle.std.proofs.Common.{sym, rules}
-use Rattle.sdl_body_text.proofs.Reading.{reads_name_that}
-use Rattle.sdl_body_text.proofs.statements.outward.Goals as goal
-
-pub returns-clause-spelled : goal.returns-clause-spelled
-returns-clause-spelled c = reads_name_that _ _ (sym c.in-Some.ensures, search rules) c.in_ok-text.ensures.read

@@ -1,9 +1,0 @@
-use Rattle.std.proofs.Common.{subst}
-use Rattle.sdl_tokens.specs.declared.words.Reserved.{Reserved}
-use Rattle.sdl_tokens.specs.declared.tokens.Kind.TheVariants as kind
-use Rattle.sdl_expression_text.specs.Spelling.{IsOne, Reads}
-use Rattle.sdl_body_text.proofs.statements.own_goal.Goals as goal
-
-pub returns-clause-spelled : goal.returns-clause-spelled
-returns-clause-spelled c =
-    subst (λ (w : Reserved). Reads (IsOne (kind.Word w)) c.args.at.tokens.now c.in_ok-rest.rest.tokens.now) c.own_word.ensures c.in_ok-rest.ensures.read

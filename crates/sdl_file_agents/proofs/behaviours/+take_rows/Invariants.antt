@@ -1,4 +1,0 @@
-use Rattle.sdl_file_agents.proofs.behaviours.+take_rows.Given as goal
-
-abbrev pub decreases-take_rows : goal.decreases-take_rows
-decreases-take_rows g l = l.count

@@ -1,5 +1,0 @@
-use Rattle.std.proofs.Common.{length}
-use Rattle.sdl_file_agents.proofs.soundness.+are_sound.Given as goal
-
-abbrev pub decreases-are_sound : goal.decreases-are_sound
-decreases-are_sound l = length l.sets.now

@@ -1,5 +1,0 @@
-use Rattle.sdl_join.proofs.Unused.{used_each}
-use Rattle.sdl_join.proofs.laws.own_ends_are_used.Goals as goal
-
-pub returns : goal.returns
-returns c = used_each

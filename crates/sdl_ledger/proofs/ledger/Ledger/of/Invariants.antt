@@ -1,6 +1,0 @@
-use Rattle.std.proofs.Common.{take}
-use Rattle.sdl_ledger.specs.Counts.{Adds, summed, of_event}
-use Rattle.sdl_ledger.proofs.ledger.Ledger.of.Given as goal
-
-abbrev pub invariant-loop-number : goal.invariant-loop-number
-invariant-loop-number g l = Adds l.initial.ledger (summed (λ v. summed of_event (g.K.Keeps.events v)) (take l.number l.logs)) l.ledger

@@ -1,6 +1,0 @@
-use Rattle.std.proofs.Common.{◌≡◌}
-use Rattle.sdl_opening.specs.Hands.{all_empty}
-use Rattle.sdl_opening.proofs.shares.no_shares.Given as goal
-
-abbrev pub invariant-loop : goal.invariant-loop
-invariant-loop l = l.shares.items ≡ all_empty l.counter

@@ -1,2 +1,0 @@
--- The stations of a table of routes.
-pub use Rattle.sdl_ends.specs.Stations.{IsStationOf, IsStationBefore, AreStationsInOrder, AreAllStations}

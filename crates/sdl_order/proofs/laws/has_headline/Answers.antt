@@ -1,5 +1,0 @@
-use Rattle.sdl_order.proofs.Whole.{headline}
-use Rattle.sdl_order.proofs.laws.has_headline.Goals as goal
-
-pub returns : goal.returns
-returns g c = headline g.S.Agents.may

@@ -1,5 +1,0 @@
-use Rattle.sdl_order.proofs.Keeps.{steps_keep}
-use Rattle.sdl_order.proofs.laws.outlasts_steps.Goals as goal
-
-pub returns : goal.returns
-returns c = steps_keep

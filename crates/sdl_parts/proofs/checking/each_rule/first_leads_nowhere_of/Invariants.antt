@@ -1,7 +1,0 @@
-use Rattle.std.proofs.Common.{[], ◌∷◌}
-use Rattle.sdl_parts.specs.Rules.{direction_rank}
-use Rattle.sdl_parts.specs.EachRule.{IsKeptBefore}
-use Rattle.sdl_parts.proofs.checking.each_rule.first_leads_nowhere_of.Given as goal
-
-abbrev pub invariant-loop-signal : goal.invariant-loop-signal
-invariant-loop-signal l = IsKeptBefore l.structure 5 (l.number ∷ direction_rank l.direction ∷ l.signal-index ∷ [])

@@ -1,5 +1,0 @@
-use Rattle.std.proofs.Common.{vec_len}
-use Rattle.sdl_threads.proofs.scope.+run_rest.Given as goal
-
-abbrev pub decreases-run_rest : goal.decreases-run_rest
-decreases-run_rest g l = vec_len l.workers.now
