@@ -16,9 +16,10 @@ pub fn workers_of(alloc: Global, structure: &Structure) -> Result<Vec<Worker>, A
     ensures few { IfOk result (λ workers. length workers.items ≤ 193) }
 {
     structure.parts_agree();
+    let paths = paths_of(alloc, structure.channels())?;
     let mut workers = blocks_of(alloc, structure.blocks().len())?;
     workers.push(Worker::Environment)?;
-    add_forwarders(&mut workers, structure.channels())?;
+    add_forwarders(&mut workers, paths.as_slice())?;
     Ok(workers)
 }
 
@@ -34,35 +35,45 @@ fn blocks_of(alloc: Global, count: usize) -> Result<Vec<Worker>, AllocError>
     Ok(workers)
 }
 
-/// Adds the forwarder of a path, where the path carries a signal. What a refusal leaves is not said.
-fn add_path(
-    workers: &mut Vec<Worker>,
-    channel: u32,
-    back: bool,
-    signals: &[SignalId],
-) -> Result<(), AllocError>
-    ensures { OnOk result (workers.new.items ≡ workers.old.items ++ map Forwarder (delaying_path channel back signals.now)) }
+/// Adds a forwarder for each of the paths. What a refusal leaves is not said.
+fn add_forwarders(workers: &mut Vec<Worker>, paths: &[Hop]) -> Result<(), AllocError>
+    ensures { OnOk result (workers.new.items ≡ workers.old.items ++ map Forwarder paths.now) }
 {
-    if !signals.is_empty() {
-        let hop = Hop {
-            channel: ChannelId(channel),
-            back,
-        };
-        workers.push(Worker::Forwarder(hop))?;
+    for path in paths {
+        workers.push(Worker::Forwarder(*path))?;
     }
     Ok(())
 }
 
-/// Adds a forwarder for each delaying path that carries a signal. What a refusal leaves is not said.
-fn add_forwarders(workers: &mut Vec<Worker>, channels: &[Channel]) -> Result<(), AllocError>
-    requires { length channels.now ≤ 64 }
-    ensures { OnOk result (workers.new.items ≡ workers.old.items ++ map Forwarder (delaying_from 0 channels.now)) }
+/// Adds a path, where it carries a signal. What a refusal leaves is not said.
+fn add_path(
+    paths: &mut Vec<Hop>,
+    channel: u32,
+    back: bool,
+    signals: &[SignalId],
+) -> Result<(), AllocError>
+    ensures { OnOk result (paths.new.items ≡ paths.old.items ++ delaying_path channel back signals.now) }
 {
-    for (number, channel) in channels.iter().enumerate() {
-        if !channel.nodelay {
-            add_path(workers, number as u32, false, channel.forth.as_slice())?;
-            add_path(workers, number as u32, true, channel.back.as_slice())?;
-        }
+    if !signals.is_empty() {
+        paths.push(Hop {
+            channel: ChannelId(channel),
+            back,
+        })?;
     }
     Ok(())
+}
+
+/// The delaying paths that carry a signal, at most 128: by channel, forth before back (this project's own).
+pub fn paths_of(alloc: Global, channels: &[Channel]) -> Result<Vec<Hop>, AllocError>
+    requires { length channels.now ≤ 64 }
+    ensures { IfOk result (λ paths. paths.items ≡ delaying_from 0 channels.now) }
+{
+    let mut paths = Vec::new(alloc);
+    for (number, channel) in channels.iter().enumerate() {
+        if !channel.nodelay {
+            add_path(&mut paths, number as u32, false, channel.forth.as_slice())?;
+            add_path(&mut paths, number as u32, true, channel.back.as_slice())?;
+        }
+    }
+    Ok(paths)
 }

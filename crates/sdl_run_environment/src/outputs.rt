@@ -5,6 +5,7 @@ ghost use Rattle.sdl_run_environment.specs.EnvPicks.{IsRoutedAt};
 
 use sdl_block_hand::Hand;
 use sdl_instances::copies::copied_item;
+use sdl_instances::goal_at;
 use sdl_routes::{Goal, Routes, Source, Via, Wish};
 use sdl_run_outcome::EnvOut;
 use sdl_signal::{EnvLine, Item, Origin, Pid};
@@ -27,9 +28,7 @@ fn goal_to(to: Option<Pid>) -> Goal
 {
     match to {
         None => Goal::Anywhere,
-        Some(Pid::Null) => Goal::Null,
-        Some(Pid::Env) => Goal::Environment,
-        Some(Pid::Inst(set, _)) => Goal::Set(set),
+        Some(pid) => goal_at(pid),
     }
 }
 

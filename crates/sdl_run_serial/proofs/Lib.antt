@@ -1,4 +1,3 @@
-pub mod Beginning
 pub mod Begins
 pub mod Fresh
 pub mod Listed

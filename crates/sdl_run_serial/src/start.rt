@@ -1,17 +1,17 @@
 //! What stands at the start of a run, beside its blocks.
-ghost use Rattle.std.specs.Prelude.{◌≡◌, ◌++◌, ◌≤◌, [], map, length, OnOk, IfOk};
+ghost use Rattle.std.specs.Prelude.{◌≡◌, ◌≤◌, [], map, length, IfOk};
 ghost use Rattle.sdl_run_driver.specs.Closings.{HasRoom};
-ghost use Rattle.sdl_run_outcome.specs.Plan.{delaying_path, delaying_from};
+ghost use Rattle.sdl_run_outcome.specs.Plan.{delaying_from};
 ghost use Rattle.sdl_run_serial.specs.Serial.{IsStartRoom};
 ghost use Rattle.sdl_run_serial.specs.Starting.{idle_at};
 
 use sdl_block::BlockWorker;
 use sdl_forward::{Board, Forwarder};
+use sdl_forward_opening::order::paths_of;
 use sdl_instances_log::{Event, LogStore};
 use sdl_routes::{Hop, Routes};
 use sdl_run_driver::closing::Room;
 use sdl_run_environment::EnvWorker;
-use sdl_signal::{ChannelId, SignalId};
 use sdl_structure_parts::{Channel, Checked};
 use sdl_transition::Agents;
 use std::alloc::{AllocError, Global};
@@ -72,23 +72,15 @@ pub(crate) fn make_start_room<S: Agents, K: LogStore>(
     })
 }
 
-/// Adds the forwarder of a path, where the path carries a signal. What a refusal leaves is not said.
-fn add_path(
-    forwarders: &mut Vec<Forwarder>,
-    channel: u32,
-    back: bool,
-    signals: &[SignalId],
-) -> Result<(), AllocError>
-    ensures { OnOk result (forwarders.new.items ≡ forwarders.old.items ++ map idle_at (delaying_path channel back signals.now)) }
+/// A forwarder at each of the paths, in order.
+fn forwarders_at(alloc: Global, paths: &[Hop]) -> Result<Vec<Forwarder>, AllocError>
+    ensures { IfOk result (λ forwarders. forwarders.items ≡ map idle_at paths.now) }
 {
-    if !signals.is_empty() {
-        let hop = Hop {
-            channel: ChannelId(channel),
-            back,
-        };
-        forwarders.push(Forwarder::new(hop))?;
+    let mut forwarders = Vec::with_capacity(alloc, paths.len())?;
+    for path in paths {
+        forwarders.push(Forwarder::new(*path))?;
     }
-    Ok(())
+    Ok(forwarders)
 }
 
 /// A forwarder for each delaying path that carries a signal: by channel, forth before back.
@@ -96,22 +88,6 @@ pub fn forwarders_of(alloc: Global, channels: &[Channel]) -> Result<Vec<Forwarde
     requires { length channels.now ≤ 64 }
     ensures { IfOk result (λ forwarders. forwarders.items ≡ map idle_at (delaying_from 0 channels.now)) }
 {
-    let mut forwarders = Vec::new(alloc);
-    for (number, channel) in channels.iter().enumerate() {
-        if !channel.nodelay {
-            add_path(
-                &mut forwarders,
-                number as u32,
-                false,
-                channel.forth.as_slice(),
-            )?;
-            add_path(
-                &mut forwarders,
-                number as u32,
-                true,
-                channel.back.as_slice(),
-            )?;
-        }
-    }
-    Ok(forwarders)
+    let paths = paths_of(alloc, channels)?;
+    forwarders_at(alloc, paths.as_slice())
 }
