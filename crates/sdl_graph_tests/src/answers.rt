@@ -1,30 +1,30 @@
 //! What marked answers are, and what is marked.
 use super::breaking::{CONFORMING, NUMBERS, breach, breaking_frame, offer, step};
 use sdl_graph::{StepBuilder, no_step};
-use sdl_graph_binding::{Broken, Marks, keep_to_offer};
+use sdl_graph_binding::{Breaches, Broken, keep_to_offer};
 use sdl_signal::{SetId, SignalId, StateId, Value};
 use sdl_transition_behaviour::{Next, Step};
 use sdl_transition_conformance::{Breach, first_broken};
 use std::test::Fail;
 
 /// The answer of this number, kept to its offer.
-fn kept_answer(number: u32, marks: &Marks) -> Step {
+fn kept_answer(number: u32, breaches: &Breaches) -> Step {
     let frame = breaking_frame();
     let mut answer = step(number, &frame);
-    keep_to_offer(number, &offer(), &frame, &mut answer, marks);
+    keep_to_offer(number, &offer(), &frame, &mut answer, breaches);
     answer
 }
 
 #[test]
 fn a_conforming_answer_stands_unmarked(rt: HostRuntime) -> Result<(), Fail> {
-    let marks = Marks::new(rt.alloc())?;
-    let answer = kept_answer(CONFORMING, &marks);
+    let breaches = Breaches::new(rt.alloc())?;
+    let answer = kept_answer(CONFORMING, &breaches);
     let own = step(CONFORMING, &breaking_frame());
     assert!(rt; answer.actions.as_slice() == own.actions.as_slice());
     assert!(rt; answer.actions.len() == 2);
     assert!(rt; answer.vars.as_slice() == own.vars.as_slice());
     assert!(rt; answer.next == Next::State(StateId(1)));
-    assert!(rt; marks.broken() == None);
+    assert!(rt; breaches.broken() == None);
     Ok(())
 }
 
@@ -33,8 +33,8 @@ fn a_conforming_answer_stands_unmarked(rt: HostRuntime) -> Result<(), Fail> {
 fn a_broken_answer_does_nothing(rt: HostRuntime) -> Result<(), Fail> {
     let frame = breaking_frame();
     for number in 1..NUMBERS {
-        let marks = Marks::new(rt.alloc())?;
-        let answer = kept_answer(number, &marks);
+        let breaches = Breaches::new(rt.alloc())?;
+        let answer = kept_answer(number, &breaches);
         assert_eq!(rt; answer.actions.len(), 0, "transition {number}");
         assert!(rt; answer.vars.as_slice() == frame.vars.as_slice());
         assert!(rt; answer.next == Next::State(StateId(0)));
@@ -43,7 +43,7 @@ fn a_broken_answer_does_nothing(rt: HostRuntime) -> Result<(), Fail> {
             breach: breach(number),
             count: 1,
         });
-        assert_eq!(rt; marks.broken(), wanted, "transition {number}");
+        assert_eq!(rt; breaches.broken(), wanted, "transition {number}");
     }
     Ok(())
 }
@@ -51,10 +51,10 @@ fn a_broken_answer_does_nothing(rt: HostRuntime) -> Result<(), Fail> {
 /// Whichever share the answers have, the first is named, and all are counted.
 #[test]
 fn the_first_is_named_and_all_are_counted(rt: HostRuntime) -> Result<(), Fail> {
-    let marks = Marks::new(rt.alloc())?;
-    let share = marks.share()?;
+    let breaches = Breaches::new(rt.alloc())?;
+    let share = breaches.share()?;
     for number in [CONFORMING, 9, 3, CONFORMING, 9, 1] {
-        let own = if number == 3 { &share } else { &marks };
+        let own = if number == 3 { &share } else { &breaches };
         let _step = kept_answer(number, own);
     }
     let wanted = Some(Broken {
@@ -62,7 +62,7 @@ fn the_first_is_named_and_all_are_counted(rt: HostRuntime) -> Result<(), Fail> {
         breach: breach(9),
         count: 4,
     });
-    assert!(rt; marks.broken() == wanted);
+    assert!(rt; breaches.broken() == wanted);
     assert!(rt; share.broken() == wanted);
     Ok(())
 }
@@ -70,14 +70,14 @@ fn the_first_is_named_and_all_are_counted(rt: HostRuntime) -> Result<(), Fail> {
 #[test]
 fn the_least_and_the_greatest_number_are_named(rt: HostRuntime) -> Result<(), Fail> {
     for number in [0, u32::MAX] {
-        let marks = Marks::new(rt.alloc())?;
-        marks.note(number, Breach::Stop);
+        let breaches = Breaches::new(rt.alloc())?;
+        breaches.note(number, Breach::Stop);
         let wanted = Some(Broken {
             first: number,
             breach: Breach::Stop,
             count: 1,
         });
-        assert!(rt; marks.broken() == wanted);
+        assert!(rt; breaches.broken() == wanted);
     }
     Ok(())
 }

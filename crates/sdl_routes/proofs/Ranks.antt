@@ -17,7 +17,7 @@ use Rattle.sdl_structure_parts.specs.declared.parts.Side.TheVariants.{Outer, Inn
 use Rattle.sdl_structure_parts.specs.declared.parts.Direction.{Direction}
 use Rattle.sdl_structure_parts.specs.declared.parts.Direction.TheVariants.{Forth, Back}
 use Rattle.sdl_structure_parts.specs.Structure.{Structure, IsStructure, Path, path_of, block_at, set_at, gate_at, channel_at, other_side, JoinsAt, IsEnd, IsDepthIn, LiesIn, ScopeExists, SignalsExist}
-use Rattle.sdl_structure_parts.specs.Rules.{IsWellFormed, IsBlockGate, HasEndsApart}
+use Rattle.sdl_structure_parts.specs.Rules.{IsWellFormed, IsBlockGate, HasDistinctEnds}
 use Rattle.sdl_routes.specs.declared.route.Hop.{Hop}
 use Rattle.sdl_routes.specs.declared.route.EndPoint.{EndPoint}
 use Rattle.sdl_routes.specs.declared.route.EndPoint.TheVariants as ends
@@ -130,7 +130,7 @@ gate_rises s is (Some g) at beyond start finish last block here there before apa
 pub record IsSound (s : Structure) (c : Channel) : Type 0 where
   pub first : IsEnd s c.scope c.first
   pub second : IsEnd s c.scope c.second
-  pub apart : HasEndsApart c
+  pub apart : HasDistinctEnds c
 
 pub record IsSoundPath (s : Structure) (at : Scope) (p : Path) : Type 0 where
   pub start : IsEnd s at p.start
@@ -167,9 +167,9 @@ both P Q R (Some x) f p q = f x p q
 pub sound_at : (s : Structure) → IsStructure s → IsWellFormed s → (h : Hop) → IfSome (channel_at s h.channel) (IsSound s)
 sound_at s is wf h =
     let P : Channel → Type 0 = λ c. ScopeExists s c.scope × IsEnd s c.scope c.first × IsEnd s c.scope c.second × SignalsExist s c.forth.items × SignalsExist s c.back.items in
-    both P HasEndsApart (IsSound s) (channel_at s h.channel)
+    both P HasDistinctEnds (IsSound s) (channel_at s h.channel)
     (λ c p q. record { first = p.1; second = p.2; apart = q })
-    (all_at P s.channels h.channel.0 is.channels) (wf.ends_apart h.channel)
+    (all_at P s.channels h.channel.0 is.channels) (wf.distinct_ends h.channel)
 
 pub rank_rises : (s : Structure) → IsStructure s → IsWellFormed s → (h k : Hop) → Joins s h k → rank s h < rank s k
 rank_rises s is wf h k joins =

@@ -6,15 +6,15 @@ use Rattle.sdl_run_settling.proofs.back.part.Goals as goal
 
 pub place-requires-clause-blocks : goal.place-requires-clause-blocks
 place-requires-clause-blocks g c =
-    let w = c.put_apart-worker.result.0 in
-    let cut = block_cut c.loop-rest.rest.items c.take_front-returned.new.list.items c.take_front-returned.result w c.take_front-returned.ensures c.put_apart-worker.ensures.worker in
+    let w = c.split_returned-worker.result.0 in
+    let cut = block_cut c.loop-rest.rest.items c.take_front-returned.new.list.items c.take_front-returned.result w c.take_front-returned.ensures c.split_returned-worker.ensures.worker in
     let count = count_over (block_if w []) (blocks_back c.loop-rest.rest.items) (blocks_back c.take_front-returned.new.list.items) cut in
     room_for c.loop-rest.blocks (length (block_if w [])) (length (blocks_back c.loop-rest.rest.items)) (omega (arith, count)) c.loop-rest.invariant.block_room
 
 pub place-requires-clause-forwarders : goal.place-requires-clause-forwarders
 place-requires-clause-forwarders g c =
-    let w = c.put_apart-worker.result.0 in
-    let cut = forwarder_cut c.loop-rest.rest.items c.take_front-returned.new.list.items c.take_front-returned.result w c.take_front-returned.ensures c.put_apart-worker.ensures.worker in
+    let w = c.split_returned-worker.result.0 in
+    let cut = forwarder_cut c.loop-rest.rest.items c.take_front-returned.new.list.items c.take_front-returned.result w c.take_front-returned.ensures c.split_returned-worker.ensures.worker in
     let count = count_over (forwarder_if w []) (forwarders_back c.loop-rest.rest.items) (forwarders_back c.take_front-returned.new.list.items) cut in
     room_for c.loop-rest.forwarders (length (forwarder_if w [])) (length (forwarders_back c.loop-rest.rest.items)) (omega (arith, count)) c.loop-rest.invariant.forwarder_room
 
@@ -23,9 +23,9 @@ loop-rest-preserved g c =
     let inv = c.loop-rest.invariant in
     let rest = c.loop-rest.rest.items in
     let fewer = c.take_front-returned.new.list.items in
-    let w = c.put_apart-worker.result.0 in
-    let blocks = block_cut rest fewer c.take_front-returned.result w c.take_front-returned.ensures c.put_apart-worker.ensures.worker in
-    let lines = forwarder_cut rest fewer c.take_front-returned.result w c.take_front-returned.ensures c.put_apart-worker.ensures.worker in
+    let w = c.split_returned-worker.result.0 in
+    let blocks = block_cut rest fewer c.take_front-returned.result w c.take_front-returned.ensures c.split_returned-worker.ensures.worker in
+    let lines = forwarder_cut rest fewer c.take_front-returned.result w c.take_front-returned.ensures c.split_returned-worker.ensures.worker in
     let block_count = count_over (block_if w []) (blocks_back rest) (blocks_back fewer) blocks in
     let line_count = count_over (forwarder_if w []) (forwarders_back rest) (forwarders_back fewer) lines in
     record {

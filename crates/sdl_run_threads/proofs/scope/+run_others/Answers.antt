@@ -17,8 +17,8 @@ returns-then-is_empty-clause-workers g t c =
     let nil : workers.items ≡ [] = nil_from_length workers.items (omega (arith, none, o)) in
     subst (λ ws. HaveCome comes ws c.args.done.now.items c.args.done.now.items) (sym nil) (none_came comes c.args.done.now.items)
 
-pub run_rest-refused-requires-clause-sound : goal.run_rest-refused-requires-clause-sound
-run_rest-refused-requires-clause-sound g t c κs within =
+pub run_others-refused-requires-clause-sound : goal.run_others-refused-requires-clause-sound
+run_others-refused-requires-clause-sound g t c κs within =
     let starts = c.start_last-thread.ensures.starts in
     let s = c.args.structure.now in
     let rows = c.args.routes.now in
@@ -27,7 +27,7 @@ run_rest-refused-requires-clause-sound g t c κs within =
 pub come_last-requires-clause-room : goal.come_last-requires-clause-room
 come_last-requires-clause-room g t c =
     let started = c.start_last-thread in
-    let come = c.run_rest-refused in
+    let come = c.run_others-refused in
     let workers = c.args.workers.now in
     let done = c.args.done.now in
     let back = come.new.done in
@@ -50,7 +50,7 @@ returns-clause-workers g t c =
     let empty = KeepsOneOf g.B.Work.empty_handed g.F.Work.empty_handed in
     let comes = ComesBackFrom (KeepsOneOf (g.B.Work.keeps s rows) (g.F.Work.keeps s rows)) same empty in
     let started = c.start_last-thread in
-    let come = c.run_rest-refused in
+    let come = c.run_others-refused in
     let done = c.args.done.now in
     let p = done.ok.0 in
     let count : c.len-place.result ≡ vec_len done = c.len-place.ensures in

@@ -1,5 +1,5 @@
 use Rattle.std.proofs.Common.{vec_len}
 use Rattle.sdl_run_threads.proofs.scope.+run_others.Given as goal
 
-abbrev pub decreases-run_rest : goal.decreases-run_rest
-decreases-run_rest g l = vec_len l.workers.now
+abbrev pub decreases-run_others : goal.decreases-run_others
+decreases-run_others g l = vec_len l.workers.now
