@@ -1,5 +1,5 @@
 -- What the chart of a part of a run shows. (This project's own.)
-use Rattle.std.specs.Prelude.{◌≡◌, ◌≢◌, ℕ, ◌-◌, ◌<◌, ◌≤◌, ◌⊎◌, nat_lt, Bool, true, false, IsTrue, List, [], ◌∷◌, length, map, filter, All, Any, Option, None, Some, if◌then◌else◌, IsSomeAnd, slice_get, slice_range}
+use Rattle.std.specs.Prelude.{◌≡◌, ◌≢◌, ℕ, ◌-◌, ◌<◌, ◌≤◌, nat_lt, Bool, true, false, List, [], ◌∷◌, length, map, filter, All, Any, Option, None, Some, if◌then◌else◌, IsSomeAnd, slice_get, slice_range}
 use Rattle.std.specs.List.{range_with_len, AllZip}
 use Rattle.sdl_signal.specs.declared.values.Origin.{Origin}
 use Rattle.sdl_chart_page.specs.declared.page.Row.{Row}
