@@ -46,11 +46,11 @@ impl<'a> Display for Defect<'a> {
     }
 }
 
-/// Finds where a structure has a fault in the marks of its file.
+/// Finds where a structure has a fault in the writings of its file.
 #[derive(Clone, Copy)]
 pub(crate) struct Checker<'a> {
     pub file: &'a [u8],
-    pub marks: &'a [WrittenAt<'a>],
+    pub writings: &'a [WrittenAt<'a>],
     pub structure: &'a Structure,
 }
 
@@ -89,11 +89,11 @@ impl<'a> Checker<'a> {
     /// The place of the name of a channel, which no other has.
     fn channel_place(self, channel: ChannelId) -> Option<Place> {
         let name = channel_name(self.structure, channel);
-        for mark in self.marks {
-            let place = mark.place();
+        for writing in self.writings {
+            let place = writing.place();
             if place.key == Key::Name
                 && matches!(place.part, Part::Channel | Part::BlockChannel)
-                && mark.value() == Some(name)
+                && writing.value() == Some(name)
             {
                 return Some(place);
             }
@@ -104,9 +104,9 @@ impl<'a> Checker<'a> {
     /// The place of the name of a set, which no other has.
     fn set_place(self, set: SetId) -> Option<Place> {
         let name = set_name(self.structure, set);
-        for mark in self.marks {
-            let place = mark.place();
-            if place.key == Key::Name && place.part == Part::Set && mark.value() == Some(name) {
+        for writing in self.writings {
+            let place = writing.place();
+            if place.key == Key::Name && place.part == Part::Set && writing.value() == Some(name) {
                 return Some(place);
             }
         }
@@ -116,9 +116,9 @@ impl<'a> Checker<'a> {
     /// Where a key of a table stands.
     fn key_at(self, table: Place, key: Key) -> Option<usize> {
         let place = Place { key, ..table };
-        for mark in self.marks {
-            if mark.place() == place && mark.key().is_some() {
-                return Some(mark.at);
+        for writing in self.writings {
+            if writing.place() == place && writing.key().is_some() {
+                return Some(writing.at);
             }
         }
         None
@@ -140,9 +140,9 @@ impl<'a> Checker<'a> {
             ..self.channel_place(channel)?
         };
         let name = signal_name(self.structure, signal);
-        for mark in self.marks {
-            if mark.place() == place && mark.value() == Some(name) {
-                return Some(mark.at);
+        for writing in self.writings {
+            if writing.place() == place && writing.value() == Some(name) {
+                return Some(writing.at);
             }
         }
         None
@@ -158,12 +158,12 @@ impl<'a> Checker<'a> {
     fn gate_at(self, gate: GateId) -> Option<usize> {
         let owner = self.structure.gates().get(gate.0 as usize)?.owner;
         let name = gate_name(self.structure, gate);
-        for mark in self.marks {
-            if mark.place().key == Key::Name
-                && mark.value() == Some(name)
-                && self.is_of(mark.place(), owner)
+        for writing in self.writings {
+            if writing.place().key == Key::Name
+                && writing.value() == Some(name)
+                && self.is_of(writing.place(), owner)
             {
-                return Some(mark.at);
+                return Some(writing.at);
             }
         }
         None

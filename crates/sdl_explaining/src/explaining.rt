@@ -2,7 +2,7 @@
 //! the writer does not take is dropped.
 use crate::checks::{Checker, Defect};
 use crate::files::{Finder, Finding, right_names};
-use crate::spots::{heads_of, line_at, marks_of, spots_of};
+use crate::spots::{heads_of, line_at, spots_of, writings_of};
 use crate::texts::Site;
 use sdl_app_command::errors::write_error;
 use sdl_app_command::stack::takes_stack;
@@ -67,13 +67,13 @@ fn explain_file<E: Write>(
     };
     let spots = spots_of(alloc, &layout)?;
     let heads = heads_of(alloc, &layout, spots.as_slice())?;
-    let marks = marks_of(alloc, &layout, spots.as_slice())?;
-    let right = right_names(alloc, marks.as_slice(), fault)?;
+    let writings = writings_of(alloc, &layout, spots.as_slice())?;
+    let right = right_names(alloc, writings.as_slice(), fault)?;
     let finder = Finder {
         alloc,
         file,
         heads: heads.as_slice(),
-        marks: marks.as_slice(),
+        writings: writings.as_slice(),
         right: right.as_slice(),
     };
     if let Some(finding) = finder.find(fault) {
@@ -116,10 +116,10 @@ fn explain_structure<E: Write>(
         return Ok(());
     };
     let spots = spots_of(alloc, &layout)?;
-    let marks = marks_of(alloc, &layout, spots.as_slice())?;
+    let writings = writings_of(alloc, &layout, spots.as_slice())?;
     let checker = Checker {
         file,
-        marks: marks.as_slice(),
+        writings: writings.as_slice(),
         structure,
     };
     if let Some((at, defect)) = checker.find(fault) {

@@ -27,23 +27,23 @@ pub(crate) struct Finder<'a> {
     pub alloc: Global,
     pub file: &'a [u8],
     pub heads: &'a [Head],
-    pub marks: &'a [WrittenAt<'a>],
+    pub writings: &'a [WrittenAt<'a>],
     pub right: &'a [String],
 }
 
 /// The names that are right at the place of a fault; where a key is missing, the keys that its table has and may not have.
 pub(crate) fn right_names(
     alloc: Global,
-    marks: &[WrittenAt],
+    writings: &[WrittenAt],
     fault: FileFault,
 ) -> Result<Vec<String>, AllocError> {
     match fault {
-        FileFault::MissingKey(place) => wrong_keys(alloc, marks, place),
-        FileFault::UnknownKey(place) => key_texts(alloc, keys_of(place.part, nests(marks))),
+        FileFault::MissingKey(place) => wrong_keys(alloc, writings, place),
+        FileFault::UnknownKey(place) => key_texts(alloc, keys_of(place.part, nests(writings))),
         FileFault::UnknownName(place) => match place.key {
             Key::Sorts => sort_texts(alloc),
-            Key::Ends => ends_of(alloc, marks, place),
-            _ => signal_names(alloc, marks),
+            Key::Ends => ends_of(alloc, writings, place),
+            _ => signal_names(alloc, writings),
         },
         _ => Ok(Vec::new(alloc)),
     }
@@ -59,12 +59,12 @@ fn are_together(one: Place, other: Place) -> bool {
 }
 
 /// Whether blocks may have blocks in them.
-fn nests(marks: &[WrittenAt]) -> bool {
-    for mark in marks {
-        let place = mark.place();
+fn nests(writings: &[WrittenAt]) -> bool {
+    for writing in writings {
+        let place = writing.place();
         if place.part == Part::System
             && place.key == Key::Version
-            && let Said::Number(number) = mark.said
+            && let Said::Number(number) = writing.said
         {
             return *number == 2;
         }
@@ -73,13 +73,17 @@ fn nests(marks: &[WrittenAt]) -> bool {
 }
 
 /// The keys of the table at a place that it may not have.
-fn wrong_keys(alloc: Global, marks: &[WrittenAt], place: Place) -> Result<Vec<String>, AllocError> {
-    let may = keys_of(place.part, nests(marks));
+fn wrong_keys(
+    alloc: Global,
+    writings: &[WrittenAt],
+    place: Place,
+) -> Result<Vec<String>, AllocError> {
+    let may = keys_of(place.part, nests(writings));
     let mut texts = Vec::new(alloc);
-    for mark in marks {
+    for writing in writings {
         if texts.len() < MOST_COMPARED
-            && are_together(mark.place(), place)
-            && let Some(text) = mark.key()
+            && are_together(writing.place(), place)
+            && let Some(text) = writing.key()
             && !may.contains(&key_named(text))
         {
             texts.push(String::from_str(alloc, text)?)?;
@@ -154,9 +158,9 @@ impl<'a> Finder<'a> {
 
     /// Where a key of a table stands, and else the table.
     fn key_site(self, place: Place) -> Option<Site> {
-        for mark in self.marks {
-            if mark.place() == place && mark.key().is_some() {
-                return Some(Site::At(mark.at));
+        for writing in self.writings {
+            if writing.place() == place && writing.key().is_some() {
+                return Some(Site::At(writing.at));
             }
         }
         self.table_site(place)
@@ -172,9 +176,9 @@ impl<'a> Finder<'a> {
     /// The first value of another kind, and else the key, where a value stands alone that belongs in a list.
     fn wrong_type(self, place: Place) -> Option<Finding<'a>> {
         let why = Why::Takes(place.key);
-        for mark in self.marks {
-            if mark.place() == place && is_of_another_kind(mark.said, Takes::of(place.key)) {
-                let site = Site::At(mark.at);
+        for writing in self.writings {
+            if writing.place() == place && is_of_another_kind(writing.said, Takes::of(place.key)) {
+                let site = Site::At(writing.at);
                 return Some(Finding { site, why });
             }
         }
@@ -183,14 +187,14 @@ impl<'a> Finder<'a> {
     }
 
     fn unknown_key(self, place: Place) -> Option<Finding<'a>> {
-        let may = keys_of(place.part, nests(self.marks));
-        for mark in self.marks {
-            if are_together(mark.place(), place)
-                && let Some(text) = mark.key()
+        let may = keys_of(place.part, nests(self.writings));
+        for writing in self.writings {
+            if are_together(writing.place(), place)
+                && let Some(text) = writing.key()
                 && !may.contains(&key_named(text))
             {
                 let near = nearest_of(self.alloc, text, self.right);
-                let (site, why) = (Site::At(mark.at), Why::NoKey(text, near));
+                let (site, why) = (Site::At(writing.at), Why::NoKey(text, near));
                 return Some(Finding { site, why });
             }
         }
@@ -199,11 +203,11 @@ impl<'a> Finder<'a> {
 
     /// The name that is none, or the first end without exactly one dot.
     fn bad_name(self, place: Place) -> Option<Finding<'a>> {
-        for mark in self.marks {
-            if mark.place() == place
-                && let Some(text) = mark.value()
+        for writing in self.writings {
+            if writing.place() == place
+                && let Some(text) = writing.value()
             {
-                let site = Site::At(mark.at);
+                let site = Site::At(writing.at);
                 if place.key != Key::Ends {
                     let why = Why::NoName(text);
                     return Some(Finding { site, why });
@@ -219,20 +223,20 @@ impl<'a> Finder<'a> {
 
     /// The name that is taken, or the signal that stands twice in a list.
     fn duplicate(self, place: Place) -> Option<Finding<'a>> {
-        for (index, mark) in self.marks.iter().enumerate() {
-            if mark.place() == place
-                && let Some(text) = mark.value()
+        for (index, writing) in self.writings.iter().enumerate() {
+            if writing.place() == place
+                && let Some(text) = writing.value()
                 && let Some(other) = self.same(index, place, text)
             {
                 let why = Why::There(text, line_at(self.file, other));
-                let site = Site::At(mark.at);
+                let site = Site::At(writing.at);
                 return Some(Finding { site, why });
             }
         }
         None
     }
 
-    /// Where the text of the mark of this number stands too.
+    /// Where the text of the writing of this number stands too.
     fn same(self, index: usize, place: Place, text: &str) -> Option<usize> {
         match place.key {
             Key::Name => self.same_name(place, text),
@@ -242,24 +246,24 @@ impl<'a> Finder<'a> {
 
     /// Where another table has the name that may not have it too.
     fn same_name(self, place: Place, text: &str) -> Option<usize> {
-        for mark in self.marks {
-            let other = mark.place();
+        for writing in self.writings {
+            let other = writing.place();
             if other.key == Key::Name
                 && other != place
                 && share_names(place, other)
-                && mark.value() == Some(text)
+                && writing.value() == Some(text)
             {
-                return Some(mark.at);
+                return Some(writing.at);
             }
         }
         None
     }
 
-    /// Where the text stands at the place, among the first so many marks.
+    /// Where the text stands at the place, among the first so many writings.
     fn same_before(self, before: usize, place: Place, text: &str) -> Option<usize> {
-        for (index, mark) in self.marks.iter().enumerate() {
-            if index < before && mark.place() == place && mark.value() == Some(text) {
-                return Some(mark.at);
+        for (index, writing) in self.writings.iter().enumerate() {
+            if index < before && writing.place() == place && writing.value() == Some(text) {
+                return Some(writing.at);
             }
         }
         None
@@ -267,14 +271,14 @@ impl<'a> Finder<'a> {
 
     /// The first text at the place that is none of the right names.
     fn unknown_name(self, place: Place) -> Option<Finding<'a>> {
-        for mark in self.marks {
-            if mark.place() == place
-                && let Some(text) = mark.value()
+        for writing in self.writings {
+            if writing.place() == place
+                && let Some(text) = writing.value()
                 && !self.is_right(text)
             {
                 let near = nearest_of(self.alloc, text, self.right);
                 let why = Why::Unknown(place.key, text, near);
-                let site = Site::At(mark.at);
+                let site = Site::At(writing.at);
                 return Some(Finding { site, why });
             }
         }
@@ -300,7 +304,7 @@ impl<'a> Finder<'a> {
 
     /// There are too many blocks in all, unless a block that lies as deep as one may has some.
     fn too_many_blocks(self, place: Place) -> Why<'a> {
-        if !nests(self.marks) {
+        if !nests(self.writings) {
             return Why::AtMostInAll(MOST_BLOCKS_OF_VERSION_1);
         }
         match self.head(place) {
@@ -311,11 +315,11 @@ impl<'a> Finder<'a> {
 
     /// The number that is out of its range, the list that needs an element, or ends that are not two.
     fn out_of_range(self, place: Place) -> Option<Finding<'a>> {
-        for mark in self.marks {
-            if mark.place() == place
-                && let Said::Number(number) = mark.said
+        for writing in self.writings {
+            if writing.place() == place
+                && let Said::Number(number) = writing.said
             {
-                let (site, why) = (Site::At(mark.at), out_of(place.key, *number));
+                let (site, why) = (Site::At(writing.at), out_of(place.key, *number));
                 return Some(Finding { site, why });
             }
         }

@@ -4,13 +4,16 @@ use sdl_structure::{Key, Part, Place};
 use std::alloc::{AllocError, Global};
 
 /// The names of all signals.
-pub(crate) fn signal_names(alloc: Global, marks: &[WrittenAt]) -> Result<Vec<String>, AllocError> {
+pub(crate) fn signal_names(
+    alloc: Global,
+    writings: &[WrittenAt],
+) -> Result<Vec<String>, AllocError> {
     let mut names = Vec::new(alloc);
-    for mark in marks {
-        let place = mark.place();
+    for writing in writings {
+        let place = writing.place();
         if place.part == Part::Signal
             && place.key == Key::Name
-            && let Some(name) = mark.value()
+            && let Some(name) = writing.value()
         {
             names.push(String::from_str(alloc, name)?)?;
         }
@@ -18,13 +21,13 @@ pub(crate) fn signal_names(alloc: Global, marks: &[WrittenAt]) -> Result<Vec<Str
     Ok(names)
 }
 
-/// Whether an agent whose name stands at the mark may be named by a channel there: a set of the block in which the channel lies, or
+/// Whether an agent whose name stands at the writing may be named by a channel there: a set of the block in which the channel lies, or
 /// a block directly in it.
-fn is_named_in(channel: Place, mark: &WrittenAt) -> bool {
-    let place = mark.place();
+fn is_named_in(channel: Place, writing: &WrittenAt) -> bool {
+    let place = writing.place();
     match (channel.part, place.part) {
-        (Part::Channel, Part::Block) => mark.spot.around.is_none(),
-        (Part::BlockChannel, Part::Block) => mark.spot.around == Some(channel.block),
+        (Part::Channel, Part::Block) => writing.spot.around.is_none(),
+        (Part::BlockChannel, Part::Block) => writing.spot.around == Some(channel.block),
         (Part::BlockChannel, Part::Set) => place.block == channel.block,
         _ => false,
     }
@@ -51,21 +54,21 @@ fn is_gate_of_env(channel: Place, gate: Place) -> bool {
 /// The ends that a channel at this place may have, as the file writes them.
 pub(crate) fn ends_of(
     alloc: Global,
-    marks: &[WrittenAt],
+    writings: &[WrittenAt],
     channel: Place,
 ) -> Result<Vec<String>, AllocError> {
     let mut ends = Vec::new(alloc);
-    for gate in marks {
+    for gate in writings {
         if gate.place().key == Key::Name && is_gate_of_env(channel, gate.place()) {
             add_end(alloc, &mut ends, "env", gate)?;
         }
     }
-    for agent in marks {
+    for agent in writings {
         if agent.place().key == Key::Name
             && is_named_in(channel, agent)
             && let Some(name) = agent.value()
         {
-            add_ends(alloc, &mut ends, marks, name, agent.place())?;
+            add_ends(alloc, &mut ends, writings, name, agent.place())?;
         }
     }
     Ok(ends)
@@ -75,11 +78,11 @@ pub(crate) fn ends_of(
 fn add_ends(
     alloc: Global,
     ends: &mut Vec<String>,
-    marks: &[WrittenAt],
+    writings: &[WrittenAt],
     name: &str,
     agent: Place,
 ) -> Result<(), AllocError> {
-    for gate in marks {
+    for gate in writings {
         if gate.place().key == Key::Name && is_gate_of(agent, gate.place()) {
             add_end(alloc, ends, name, gate)?;
         }

@@ -182,20 +182,20 @@ pub(crate) fn heads_of(
 }
 
 /// What is written in them, in the order of the file.
-pub(crate) fn marks_of<'a>(
+pub(crate) fn writings_of<'a>(
     alloc: Global,
     layout: &'a Layout,
     spots: &[Option<Spot>],
 ) -> Result<Vec<WrittenAt<'a>>, AllocError> {
-    let mut marks = Vec::new(alloc);
-    for mark in layout.marks.as_slice() {
-        if let Some(table) = spot_at(spots, mark.table) {
-            let spot = table.at(key_named(layout.key_text(mark.key)));
-            let (said, at) = (&mark.said, mark.at);
-            marks.push(WrittenAt { spot, said, at })?;
+    let mut writings = Vec::new(alloc);
+    for writing in layout.writings.as_slice() {
+        if let Some(table) = spot_at(spots, writing.table) {
+            let spot = table.at(key_named(layout.key_text(writing.key)));
+            let (said, at) = (&writing.said, writing.at);
+            writings.push(WrittenAt { spot, said, at })?;
         }
     }
-    Ok(marks)
+    Ok(writings)
 }
 
 /// The line behind so many bytes of the file.

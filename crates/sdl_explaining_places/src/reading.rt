@@ -1,4 +1,4 @@
-//! Reading a TOML text for the places of what stands in it. Of a text that is not TOML the marks end somewhere.
+//! Reading a TOML text for the places of what stands in it. Of a text that is not TOML the writings end somewhere.
 use crate::written::{Layout, Said, Table, Written, key_text};
 use std::alloc::Global;
 use toml_parser::text::{byte_at, first, skip, skip_blank, skip_ws};
@@ -7,23 +7,23 @@ use toml_parser::{
     starts_string, unquoted,
 };
 
-/// How many marks are kept. Of a text with more of them the rest is not read.
+/// How many writings are kept. Of a text with more of them the rest is not read.
 const MOST_MARKS: usize = 200_000;
 
 /// How many tables are kept. Of a text with more of them the rest is not read.
 const MOST_TABLES: usize = 4_096;
 
-/// How many elements of a list are marked.
+/// How many elements of a list are noted.
 const MOST_ELEMENTS: usize = 128;
 
 /// Where a value stands.
 #[derive(Clone, Copy)]
 enum Site {
-    /// At a key: the number of its table, and of its mark.
+    /// At a key: the number of its table, and of its writing.
     Value(usize, usize),
     /// In the list there.
     Element(usize, usize),
-    /// Where nothing is marked.
+    /// Where nothing is noted.
     Elsewhere,
 }
 
@@ -34,7 +34,7 @@ pub fn layout_of(alloc: Global, text: &str) -> Option<Layout> {
         size: text.len(),
         open: Some(0),
         tables: Vec::new(alloc),
-        marks: Vec::new(alloc),
+        writings: Vec::new(alloc),
     };
     match reader.read(text) {
         Err(ParseError::OutOfMemory) => None,
@@ -50,14 +50,14 @@ struct Reader {
     /// The table of the last head, where that lies in a list of tables.
     open: Option<usize>,
     tables: Vec<Table>,
-    marks: Vec<Written>,
+    writings: Vec<Written>,
 }
 
 impl Reader {
     fn into_layout(self) -> Layout {
         Layout {
             tables: self.tables,
-            marks: self.marks,
+            writings: self.writings,
         }
     }
 
@@ -87,13 +87,19 @@ impl Reader {
         self.size.saturating_sub(rest.len())
     }
 
-    /// Marks what is written here, in front of the rest of the text.
-    fn mark(&mut self, table: usize, key: usize, said: Said, rest: &str) -> Result<(), ParseError> {
-        if self.marks.len() >= MOST_MARKS {
+    /// Notes what is written here, in front of the rest of the text.
+    fn writing(
+        &mut self,
+        table: usize,
+        key: usize,
+        said: Said,
+        rest: &str,
+    ) -> Result<(), ParseError> {
+        if self.writings.len() >= MOST_MARKS {
             return Err(ParseError::at(ErrorKind::Overflow, rest));
         }
         let at = self.bytes_before(rest);
-        self.marks.push(Written {
+        self.writings.push(Written {
             table,
             key,
             said,
@@ -102,18 +108,18 @@ impl Reader {
         Ok(())
     }
 
-    /// Marks a key of a table, and answers the number of its mark.
-    fn mark_key(&mut self, table: usize, key: String, rest: &str) -> Result<usize, ParseError> {
-        let number = self.marks.len();
-        self.mark(table, number, Said::Key(key), rest)?;
+    /// Notes a key of a table, and answers the number of its writing.
+    fn note_key(&mut self, table: usize, key: String, rest: &str) -> Result<usize, ParseError> {
+        let number = self.writings.len();
+        self.writing(table, number, Said::Key(key), rest)?;
         Ok(number)
     }
 
-    /// Marks a value.
-    fn mark_value(&mut self, site: Site, said: Said, rest: &str) -> Result<(), ParseError> {
+    /// Notes a value.
+    fn note_value(&mut self, site: Site, said: Said, rest: &str) -> Result<(), ParseError> {
         match site {
             Site::Value(table, key) | Site::Element(table, key) => {
-                self.mark(table, key, said, rest)
+                self.writing(table, key, said, rest)
             }
             Site::Elsewhere => Ok(()),
         }
@@ -147,9 +153,9 @@ impl Reader {
             return Ok(Site::Elsewhere);
         };
         let (name, dotted) = first_part(key);
-        let key = self.mark_key(table, name, rest)?;
+        let key = self.note_key(table, name, rest)?;
         if dotted {
-            self.mark(table, key, Said::Else, rest)?;
+            self.writing(table, key, Said::Else, rest)?;
             return Ok(Site::Elsewhere);
         }
         Ok(Site::Value(table, key))
@@ -173,7 +179,7 @@ impl Reader {
         if !double {
             return self.lies_in_no_list(table, last, rest);
         }
-        let key = self.mark_key(table, last, rest)?;
+        let key = self.note_key(table, last, rest)?;
         let inner = self.begin(table, key, rest)?;
         Ok(Some(inner))
     }
@@ -185,8 +191,8 @@ impl Reader {
         name: String,
         rest: &str,
     ) -> Result<Option<usize>, ParseError> {
-        let key = self.mark_key(table, name, rest)?;
-        self.mark(table, key, Said::Else, rest)?;
+        let key = self.note_key(table, name, rest)?;
+        self.writing(table, key, Said::Else, rest)?;
         Ok(None)
     }
 
@@ -196,7 +202,7 @@ impl Reader {
         if number >= MOST_TABLES {
             return Err(ParseError::at(ErrorKind::Overflow, rest));
         }
-        self.mark(around, key, Said::Table, rest)?;
+        self.writing(around, key, Said::Table, rest)?;
         let at = self.bytes_before(rest);
         let index = self.count_tables(around, key);
         self.tables.push(Table {
@@ -210,7 +216,7 @@ impl Reader {
 
     /// Whether the table lies in the list at a key of another.
     fn lies_in(&self, table: &Table, around: usize, key: &str) -> bool {
-        table.around == Some(around) && key_text(self.marks.as_slice(), table.key) == key
+        table.around == Some(around) && key_text(self.writings.as_slice(), table.key) == key
     }
 
     /// The number of the last table in the list at a key.
@@ -224,9 +230,9 @@ impl Reader {
         last
     }
 
-    /// How many tables lie in the list at the key of this mark.
+    /// How many tables lie in the list at the key of this writing.
     fn count_tables(&self, around: usize, key: usize) -> u32 {
-        let text = key_text(self.marks.as_slice(), key);
+        let text = key_text(self.writings.as_slice(), key);
         let mut count: u32 = 0;
         for table in self.tables.as_slice() {
             if self.lies_in(table, around, text) {
@@ -236,7 +242,7 @@ impl Reader {
         count
     }
 
-    /// Marks a value with what is in it, and answers what follows. In it there are lists and tables at most `depth` deep.
+    /// Notes a value with what is in it, and answers what follows. In it there are lists and tables at most `depth` deep.
     #[cycle(value)]
     fn value<'a>(&mut self, site: Site, s: &'a str, depth: usize) -> Result<&'a str, ParseError> {
         let byte = first(s);
@@ -258,7 +264,7 @@ impl Reader {
     fn atom<'a>(&mut self, site: Site, s: &'a str) -> Result<&'a str, ParseError> {
         if starts_string(s) {
             let (text, rest) = quoted(self.alloc, s)?;
-            self.mark_value(site, Said::Text(text), s)?;
+            self.note_value(site, Said::Text(text), s)?;
             return Ok(rest);
         }
         let (scalar, rest) = unquoted(self.alloc, s)?;
@@ -267,7 +273,7 @@ impl Reader {
             Scalar::Integer(number) => Said::Number(number),
             _ => Said::Else,
         };
-        self.mark_value(site, said, s)?;
+        self.note_value(site, said, s)?;
         Ok(rest)
     }
 
@@ -275,11 +281,11 @@ impl Reader {
     fn begin_list(&mut self, site: Site, s: &str) -> Result<Site, ParseError> {
         match site {
             Site::Value(table, key) => {
-                self.mark(table, key, Said::List, s)?;
+                self.writing(table, key, Said::List, s)?;
                 Ok(Site::Element(table, key))
             }
             Site::Element(table, key) => {
-                self.mark(table, key, Said::Else, s)?;
+                self.writing(table, key, Said::Else, s)?;
                 Ok(Site::Elsewhere)
             }
             Site::Elsewhere => Ok(Site::Elsewhere),
@@ -290,7 +296,7 @@ impl Reader {
     fn begin_table(&mut self, site: Site, s: &str) -> Result<Option<usize>, ParseError> {
         match site {
             Site::Value(table, key) => {
-                self.mark(table, key, Said::Else, s)?;
+                self.writing(table, key, Said::Else, s)?;
                 Ok(None)
             }
             Site::Element(table, key) => {

@@ -5,7 +5,7 @@
 pub struct Table {
     /// The number of the table that has the list. The top table, which has number 0, lies in none.
     pub around: Option<usize>,
-    /// The number of the mark of the list's key.
+    /// The number of the writing of the list's key.
     pub key: usize,
     /// The position in the list.
     pub index: u32,
@@ -35,7 +35,7 @@ pub enum Said {
 pub struct Written {
     /// The number of the table.
     pub table: usize,
-    /// The number of the mark of the key.
+    /// The number of the writing of the key.
     pub key: usize,
     pub said: Said,
     /// How many bytes of the text stand before it.
@@ -46,20 +46,20 @@ pub struct Written {
 #[derive(Drop)]
 pub struct Layout {
     pub tables: Vec<Table>,
-    pub marks: Vec<Written>,
+    pub writings: Vec<Written>,
 }
 
 impl Layout {
-    /// The key whose mark has the number.
+    /// The key whose writing has the number.
     pub fn key_text(&self, number: usize) -> &str {
-        key_text(self.marks.as_slice(), number)
+        key_text(self.writings.as_slice(), number)
     }
 }
 
-/// The key whose mark has the number.
-pub(crate) fn key_text(marks: &[Written], number: usize) -> &str {
-    match marks.get(number) {
-        Some(mark) => match &mark.said {
+/// The key whose writing has the number.
+pub(crate) fn key_text(writings: &[Written], number: usize) -> &str {
+    match writings.get(number) {
+        Some(writing) => match &writing.said {
             Said::Key(text) => text.as_str(),
             _ => "",
         },

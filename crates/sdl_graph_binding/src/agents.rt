@@ -29,11 +29,17 @@ impl<G: Graph> Agents for GraphAgents<G> {
 
 /// Leaves a step that conforms to the offer as it is. Another is replaced by the one that does nothing, and its number is
 /// marked, with what of it the offer does not allow.
-pub fn keep_to_offer(number: u32, offer: &Offer, frame: &Frame, step: &mut Step, marks: &Breaches)
+pub fn keep_to_offer(
+    number: u32,
+    offer: &Offer,
+    frame: &Frame,
+    step: &mut Step,
+    breaches: &Breaches,
+)
     ensures kept { IsKept offer.now frame.now step.old step.new }
     ensures conforms { IsFrameOf offer.now frame.now → CanEnd offer.now → Conforms offer.now step.new }
 {
     if let Some(breach) = judge(offer, frame, step) {
-        marks.note(number, breach);
+        breaches.note(number, breach);
     }
 }

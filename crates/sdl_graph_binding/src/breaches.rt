@@ -4,7 +4,7 @@ use std::alloc::{AllocError, Global};
 use std::sync::atomic::{AtomicU64, Ordering};
 use std::sync::{Arc, OnceLock};
 
-/// What is behind all shares of the marks.
+/// What is behind all shares of the breaches.
 #[derive(Drop)]
 struct Counts {
     /// The number of the first transition that broke its offer, and what of its step the offer does not allow.
@@ -31,7 +31,7 @@ pub struct Broken {
 }
 
 impl Breaches {
-    /// Breaches without a broken answer.
+    /// None, before any answer broke its offer.
     pub fn new(alloc: Global) -> Result<Breaches, AllocError> {
         let counts = Counts {
             first: OnceLock::new(),
@@ -42,21 +42,21 @@ impl Breaches {
         })
     }
 
-    /// Another share of the same marks.
+    /// Another share of the same breaches.
     pub fn share(&self) -> Result<Breaches, AllocError> {
         Ok(Breaches {
             counts: Arc::try_clone(&self.counts)?,
         })
     }
 
-    /// Breaches an answer of the transition of this number, which breaks its offer so. No memory is taken.
+    /// Notes an answer of the transition of this number, which breaks its offer so. No memory is taken.
     pub fn note(&self, number: u32, breach: Breach) {
         // one that is not the first is only counted
         let _ = self.counts.first.try_set((number, breach));
         self.counts.broken.fetch_add(1, Ordering::SeqCst);
     }
 
-    /// What was marked so far, and None where nothing was.
+    /// What was noted so far, and None where nothing was.
     pub fn broken(&self) -> Option<Broken> {
         let count = self.counts.broken.load(Ordering::SeqCst);
         let (first, breach) = *self.counts.first.get()?;

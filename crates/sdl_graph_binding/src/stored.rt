@@ -15,23 +15,23 @@ use sdl_transition_conformance::{can_end, copied_offer};
 use std::alloc::Global;
 use std::marker::PhantomData;
 
-/// The transitions of a graph so far, by number, with the marks that they share; or the first fault that was met. After a
+/// The transitions of a graph so far, by number, with the breaches that they share; or the first fault that was met. After a
 /// fault no transition is begun any more, `keep` stores on, and the fault is all that is given back.
 #[derive(Drop)]
 pub struct Stored<G> {
     transitions: Vec<Transition<GraphAgents<G>>>,
-    /// The marks, or the first fault.
-    marks: Result<Breaches, GraphFault>,
+    /// The breaches, or the first fault.
+    breaches: Result<Breaches, GraphFault>,
     /// A transition was begun and is not kept yet.
     begun: bool,
 }
 
-/// What answers the frames of one transition of a graph: its number, its offer, which can end, and its share of the marks.
+/// What answers the frames of one transition of a graph: its number, its offer, which can end, and its share of the breaches.
 #[derive(Drop)]
 pub struct Answering<G> {
     number: u32,
     offer: Offer,
-    marks: Breaches,
+    breaches: Breaches,
     graph: PhantomData<G>,
 }
 
@@ -73,7 +73,7 @@ impl<G: Graph> Answering<G> {
         ensures conforms { IsFrameOf self.now.offer frame.now → CanEnd self.now.offer → Conforms self.now.offer result }
     {
         let mut step = G::step(self.number, frame);
-        keep_to_offer(self.number, &self.offer, frame, &mut step, &self.marks);
+        keep_to_offer(self.number, &self.offer, frame, &mut step, &self.breaches);
         step
     }
 }
@@ -84,10 +84,10 @@ impl<G: Graph> Stored<G> {
     /// closure found no memory.
     pub fn answering(&mut self, number: u32) -> Option<Answering<G>>
         ensures offered { IfSome result (λ own. (own.number ≡ number) × CanEnd own.offer) }
-        ensures begun { MatchOption result (IsErr self.new.marks) (λ _. IsOk self.new.marks × (self.new.begun ≡ true)) }
-        ensures fault { IfErr self.new.marks (λ fault. MatchResult self.old.marks (λ _. (fault ≡ Memory) ⊎ IsOfferFault number fault) (λ first. fault ≡ first)) }
-        ensures unkept { self.old.begun ≡ true → IsErr self.new.marks }
-        ensures memory { self.old.begun ≡ true → IfErr self.new.marks (λ fault. MatchResult self.old.marks (λ _. fault ≡ Memory) (λ first. fault ≡ first)) }
+        ensures begun { MatchOption result (IsErr self.new.breaches) (λ _. IsOk self.new.breaches × (self.new.begun ≡ true)) }
+        ensures fault { IfErr self.new.breaches (λ fault. MatchResult self.old.breaches (λ _. (fault ≡ Memory) ⊎ IsOfferFault number fault) (λ first. fault ≡ first)) }
+        ensures unkept { self.old.begun ≡ true → IsErr self.new.breaches }
+        ensures memory { self.old.begun ≡ true → IfErr self.new.breaches (λ fault. MatchResult self.old.breaches (λ _. fault ≡ Memory) (λ first. fault ≡ first)) }
         ensures same { self.new.transitions ≡ self.old.transitions }
     {
         match self.begin(number) {
@@ -96,7 +96,7 @@ impl<G: Graph> Stored<G> {
                 Some(own)
             }
             Err(fault) => {
-                self.marks = Err(fault);
+                self.breaches = Err(fault);
                 None
             }
         }
@@ -104,12 +104,12 @@ impl<G: Graph> Stored<G> {
 
     /// What answers the frames of the transition of this number, or the first fault.
     fn begin(&self, number: u32) -> Result<Answering<G>, GraphFault>
-        ensures offered { IfOk result (λ own. (own.number ≡ number) × CanEnd own.offer × IsOk self.now.marks) }
+        ensures offered { IfOk result (λ own. (own.number ≡ number) × CanEnd own.offer × IsOk self.now.breaches) }
         ensures kept { IfOk result (λ _. self.now.begun ≡ false) }
-        ensures memory { self.now.begun ≡ true → IfErr result (λ fault. MatchResult self.now.marks (λ _. fault ≡ Memory) (λ first. fault ≡ first)) }
-        ensures fault { IfErr result (λ fault. MatchResult self.now.marks (λ _. (fault ≡ Memory) ⊎ IsOfferFault number fault) (λ first. fault ≡ first)) }
+        ensures memory { self.now.begun ≡ true → IfErr result (λ fault. MatchResult self.now.breaches (λ _. fault ≡ Memory) (λ first. fault ≡ first)) }
+        ensures fault { IfErr result (λ fault. MatchResult self.now.breaches (λ _. (fault ≡ Memory) ⊎ IsOfferFault number fault) (λ first. fault ≡ first)) }
     {
-        let shared = match &self.marks {
+        let shared = match &self.breaches {
             Ok(shared) => shared,
             Err(fault) => return Err(*fault),
         };
@@ -120,7 +120,7 @@ impl<G: Graph> Stored<G> {
         Ok(Answering {
             number,
             offer,
-            marks: shared.share()?,
+            breaches: shared.share()?,
             graph: PhantomData,
         })
     }
@@ -131,53 +131,53 @@ impl<G: Graph> Stored<G> {
     pub fn new(alloc: Global) -> Stored<G>
         ensures none { result.transitions.items ≡ [] }
         ensures begun { result.begun ≡ false }
-        ensures fault { IfErr result.marks (λ fault. fault ≡ Memory) }
+        ensures fault { IfErr result.breaches (λ fault. fault ≡ Memory) }
     {
-        let marks = match Breaches::new(alloc) {
-            Ok(marks) => Ok(marks),
+        let breaches = match Breaches::new(alloc) {
+            Ok(breaches) => Ok(breaches),
             Err(_) => Err(GraphFault::Memory),
         };
         Stored {
             transitions: Vec::new(alloc),
-            marks,
+            breaches,
             begun: false,
         }
     }
 
-    /// LogStore what the transition of the number does, with its offer. Where memory is refused, that is the fault, unless there is
+    /// Keeps what the transition of the number does, with its offer. Where memory is refused, that is the fault, unless there is
     /// one.
     pub fn keep(&mut self, number: u32, offer: Offer, run: Run)
         requires callable { (f : _) → IsFrameOf offer f.now → Run.pre run f }
         requires conforms { (f : _) (step : _) → IsFrameOf offer f.now → Run.post run f step → Conforms offer step }
-        ensures kept { IfOk self.new.marks (λ _. map (λ t. t.number) self.new.transitions.items ≡ map (λ t. t.number) self.old.transitions.items ++ number ∷ []) }
-        ensures last { IfOk self.new.marks (λ _. IsOneMore self.old.transitions.items number offer self.new.transitions.items) }
-        ensures fault { IfErr self.new.marks (λ fault. MatchResult self.old.marks (λ _. fault ≡ Memory) (λ first. fault ≡ first)) }
-        ensures before { IfErr self.old.marks (λ _. IsErr self.new.marks) }
+        ensures kept { IfOk self.new.breaches (λ _. map (λ t. t.number) self.new.transitions.items ≡ map (λ t. t.number) self.old.transitions.items ++ number ∷ []) }
+        ensures last { IfOk self.new.breaches (λ _. IsOneMore self.old.transitions.items number offer self.new.transitions.items) }
+        ensures fault { IfErr self.new.breaches (λ fault. MatchResult self.old.breaches (λ _. fault ≡ Memory) (λ first. fault ≡ first)) }
+        ensures before { IfErr self.old.breaches (λ _. IsErr self.new.breaches) }
         ensures begun { self.new.begun ≡ false }
     {
         self.begun = false;
         let stored = Transition::store_for_agents(number, offer, run);
         let pushed = self.transitions.push(stored);
-        if pushed.is_err() && self.marks.is_ok() {
-            self.marks = Err(GraphFault::Memory);
+        if pushed.is_err() && self.breaches.is_ok() {
+            self.breaches = Err(GraphFault::Memory);
         }
     }
 
-    /// The transitions, and the marks; or the first fault, which is that memory was refused where the transition that was begun
+    /// The transitions, and the breaches; or the first fault, which is that memory was refused where the transition that was begun
     /// last was not kept.
     pub fn into_parts(self) -> Result<(Vec<Transition<GraphAgents<G>>>, Breaches), GraphFault>
-        ensures transitions { IfOk result (λ parts. (parts.0 ≡ self.transitions) × IsOk self.marks × (self.begun ≡ false)) }
-        ensures fault { IfErr result (λ fault. MatchResult self.marks (λ _. (fault ≡ Memory) × (self.begun ≡ true)) (λ first. fault ≡ first)) }
+        ensures transitions { IfOk result (λ parts. (parts.0 ≡ self.transitions) × IsOk self.breaches × (self.begun ≡ false)) }
+        ensures fault { IfErr result (λ fault. MatchResult self.breaches (λ _. (fault ≡ Memory) × (self.begun ≡ true)) (λ first. fault ≡ first)) }
     {
         let Stored {
             transitions,
-            marks,
+            breaches,
             begun,
         } = self;
-        let marks = marks?;
+        let breaches = breaches?;
         if begun {
             return Err(GraphFault::Memory);
         }
-        Ok((transitions, marks))
+        Ok((transitions, breaches))
     }
 }

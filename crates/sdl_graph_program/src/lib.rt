@@ -10,10 +10,12 @@ mod faults;
 mod misfitting;
 mod naming;
 pub mod numbering;
+pub mod running;
 pub mod runs;
 mod words;
 
 pub use commands::{Prepared, prepare, prepare_file};
+pub use running::{GraphClosing, run_graph};
 pub use runs::{BROKEN, refused, run_prepared};
 pub use sdl_app_command::status::REFUSED;
 pub use sdl_app_file_commands::streams::{Input, Output, shared_buffer};

@@ -76,7 +76,7 @@ pub fn run_prepared<G: Graph + Send, T: Threads + Wait + Sync, R: Read, W: Write
         options,
         schedule: &[],
     };
-    let (transitions, marks) = match stored.into_parts() {
+    let (transitions, breaches) = match stored.into_parts() {
         Ok(parts) => parts,
         Err(fault) => return refused(errors, design, fault),
     };
@@ -87,7 +87,7 @@ pub fn run_prepared<G: Graph + Send, T: Threads + Wait + Sync, R: Read, W: Write
     let telling = Telling { audit, to_chart };
     match bind_graph(alloc, checked, routes, design, transitions) {
         Ok(bound) => run_marked(
-            rt, settings, &telling, bound, design, &marks, input, output, errors,
+            rt, settings, &telling, bound, design, &breaches, input, output, errors,
         ),
         Err(fault) => refused(errors, design, fault),
     }
@@ -100,7 +100,7 @@ fn run_marked<G: Graph + Send, T: Threads + Wait + Sync, R: Read, W: Write, E: W
     telling: &Telling,
     bound: Bound<GraphAgents<G>>,
     design: &Design,
-    marks: &Breaches,
+    breaches: &Breaches,
     input: &mut R,
     output: &mut W,
     errors: &mut E,
@@ -116,7 +116,7 @@ fn run_marked<G: Graph + Send, T: Threads + Wait + Sync, R: Read, W: Write, E: W
     if status == REFUSED {
         return REFUSED;
     }
-    report_broken::<G, E>(status, design, marks.broken(), errors)
+    report_broken::<G, E>(status, design, breaches.broken(), errors)
 }
 
 /// Runs a system that is bound, and writes its chart where one is asked for.

@@ -4,7 +4,7 @@ ghost use Rattle.sdl_transition.specs.Bound.{IsBound};
 use super::wheel::{BREACH, BROKEN, DESIGN, FAULTY, SOUND, TRANSITIONS, WHEEL};
 use super::wheels::Wheels;
 use sdl_graph_binding::{Breaches, Broken, GraphAgents, GraphFault, Stored, bind_graph};
-use sdl_graph_run::run_graph;
+use sdl_graph_program::run_graph;
 use sdl_instances_log::{Event, LogStore, Unstored};
 use sdl_run::{RunEnd, StartFault};
 use sdl_test_systems::routes_of;
@@ -30,7 +30,7 @@ struct Ran {
 fn run_bound<K: LogStore>(
     alloc: Global,
     bound: Bound<GraphAgents<Wheels>>,
-    marks: &Breaches,
+    breaches: &Breaches,
     lines: &[u8],
 ) -> Result<Ran, GraphFault>
     requires { IsBound (λ _ _ _. Unit {0}) bound }
@@ -40,7 +40,7 @@ fn run_bound<K: LogStore>(
     match run_graph::<Wheels, K, &[u8], Vec<u8>>(
         alloc,
         bound,
-        marks,
+        breaches,
         1000,
         &[],
         &mut input,
@@ -83,9 +83,9 @@ fn run_wheel<K: LogStore>(alloc: Global, start: u32, lines: &[u8]) -> Result<Ran
         };
         stored.keep(number, offer, run);
     }
-    let (transitions, marks) = stored.into_parts()?;
+    let (transitions, breaches) = stored.into_parts()?;
     let bound = bind_graph(alloc, checked, routes, &DESIGN, transitions)?;
-    run_bound::<K>(alloc, bound, &marks, lines)
+    run_bound::<K>(alloc, bound, &breaches, lines)
 }
 
 /// Once round, one position on, two back, and then a halt that is no row there.

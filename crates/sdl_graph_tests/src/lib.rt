@@ -1,4 +1,4 @@
-//! Tests of offers, steps and frames as a designer writes them. Tests of graphs: binding by names, and the marks of broken answers.
+//! Tests of offers, steps and frames as a designer writes them. Tests of graphs: binding by names, and the breaches of broken answers.
 #![tactic(auto)]
 
 #[cfg(test)]

@@ -30,34 +30,42 @@ pub struct Actor<'a, S> {
     pub place: usize,
 }
 
-/// Carries out an action of the actor, adds what it did, and answers with the mark of the next output.
+/// Carries out an action of the actor, adds what it did, and answers with the stamp of the next output.
 #[inline(always)]
 fn act<S: Agents>(
     living: &mut Living,
     sets: &[ProcessSet],
     actor: &Actor<S>,
     action: &Action,
-    mark: OutputStamp,
+    output_stamp: OutputStamp,
     done: &mut ArrayVec<Done, 8>,
 ) -> OutputStamp
     requires indexed { IsIndexed actor.now.parts.now }
     requires ready { CanCarryOut sets.now actor.now.place 1 (creatable_of living.old) (state_of living.old) }
     requires creatable { CanAct sets.now (block_rules actor.now.parts.now) action.now }
     requires room { length done.old.items + 1 ≤ 8 }
-    requires numbers { mark.origin.number + 1 < 2 ^ 64 }
-    ensures does { (d : Done) × (done.new.items ≡ done.old.items ++ d ∷ []) × (result ≡ output_stamp_after mark d) × CarriesOut S.may sets.now actor.now.routes.now (block_rules actor.now.parts.now) actor.now.place mark (action.now ∷ []) done.old.items (done.old.items ++ d ∷ []) (state_of living.old) (state_of living.new) }
+    requires numbers { output_stamp.origin.number + 1 < 2 ^ 64 }
+    ensures does { (d : Done) × (done.new.items ≡ done.old.items ++ d ∷ []) × (result ≡ output_stamp_after output_stamp d) × CarriesOut S.may sets.now actor.now.routes.now (block_rules actor.now.parts.now) actor.now.place output_stamp (action.now ∷ []) done.old.items (done.old.items ++ d ∷ []) (state_of living.old) (state_of living.new) }
     ensures ready { (n : ℕ) → CanCarryOut sets.now actor.now.place (n + 1) (creatable_of living.old) (state_of living.old) → CanCarryOut sets.now actor.now.place n (creatable_of living.new) (state_of living.new) }
 {
     match action {
         Action::Output { signal, dest, via } => {
-            living.output(actor.routes, actor.place, signal, *dest, *via, mark, done);
-            mark.next()
+            living.output(
+                actor.routes,
+                actor.place,
+                signal,
+                *dest,
+                *via,
+                output_stamp,
+                done,
+            );
+            output_stamp.next()
         }
         Action::Create(set) => {
             let vars = actor.parts.variables(*set);
             let saves = actor.parts.saves(*set);
             done.push(Done::Made(living.create(sets, actor.place, *set, vars, saves)));
-            mark
+            output_stamp
         }
     }
 }
@@ -69,18 +77,18 @@ pub fn act_all<S: Agents>(
     sets: &[ProcessSet],
     actor: &Actor<S>,
     actions: &[Action],
-    mark: OutputStamp,
+    output_stamp: OutputStamp,
     done: &mut ArrayVec<Done, 8>,
 )
     requires indexed { IsIndexed actor.now.parts.now }
     requires ready { CanCarryOut sets.now actor.now.place (length actions.now) (creatable_of living.old) (state_of living.old) }
     requires creatable { AllByRecursion (CanAct sets.now (block_rules actor.now.parts.now)) actions.now }
     requires room { length done.old.items + length actions.now ≤ 8 }
-    requires numbers { mark.origin.number + length actions.now < 2 ^ 64 }
-    ensures { CarriesOut S.may sets.now actor.now.routes.now (block_rules actor.now.parts.now) actor.now.place mark actions.now done.old.items done.new.items (state_of living.old) (state_of living.new) }
+    requires numbers { output_stamp.origin.number + length actions.now < 2 ^ 64 }
+    ensures { CarriesOut S.may sets.now actor.now.routes.now (block_rules actor.now.parts.now) actor.now.place output_stamp actions.now done.old.items done.new.items (state_of living.old) (state_of living.new) }
 {
     if let Some((action, rest)) = actions.split_first() {
-        let next = act(living, sets, actor, action, mark, done);
+        let next = act(living, sets, actor, action, output_stamp, done);
         // (mostly there is one action, and no call is made for none)
         if !rest.is_empty() {
             act_all(living, sets, actor, rest, next, done);

@@ -115,16 +115,16 @@ impl Living {
         signal: &Signal,
         dest: Dest,
         via: Via,
-        mark: OutputStamp,
+        output_stamp: OutputStamp,
         done: &mut ArrayVec<Done, 8>,
     )
         requires within { place < length (state_of self.now).living }
         requires serials { HaveSerials (state_of self.now) }
         requires room { length done.old.items + 1 ≤ 8 }
-        ensures { (d : Done) × (done.new.items ≡ done.old.items ++ d ∷ []) × ((p : Pid) (r : Record) → StandsAt (state_of self.now) place p r → OutputsAs routes.now p r signal.now dest via mark d) }
+        ensures { (d : Done) × (done.new.items ≡ done.old.items ++ d ∷ []) × ((p : Pid) (r : Record) → StandsAt (state_of self.now) place p r → OutputsAs routes.now p r signal.now dest via output_stamp d) }
     {
         let (pid, instance) = self.instances.get(place);
-        output(routes, pid, instance, signal, dest, via, mark, done);
+        output(routes, pid, instance, signal, dest, via, output_stamp, done);
     }
 
     /// Takes the first signal that its state does not save from the port of the instance at this place, whose SENDER it sets.

@@ -36,12 +36,12 @@ impl<K: Listing> Agents for FileAgents<K> {
     ghost may = { λ number frame step. IsAnswerIn K.rows number frame step };
 }
 
-/// What answers the frames of one transition: its number, its row, and its share of the marks.
+/// What answers the frames of one transition: its number, its row, and its share of the bent values.
 #[derive(Drop)]
 pub struct Answering {
     pub number: u32,
     pub row: Row,
-    pub marks: BentValues,
+    pub bent: BentValues,
 }
 
 impl Answering {
@@ -54,7 +54,7 @@ impl Answering {
     {
         let mut step = Step::blank();
         if fill(&self.row, frame, &mut step) {
-            self.marks.note(self.number);
+            self.bent.note(self.number);
         }
         step
     }

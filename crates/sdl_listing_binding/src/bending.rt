@@ -3,7 +3,7 @@ use std::alloc::{AllocError, Global};
 use std::sync::Arc;
 use std::sync::atomic::{AtomicU64, Ordering};
 
-/// The two counts behind all shares of the marks.
+/// The two counts behind all shares of these values.
 #[derive(Drop)]
 struct Counts {
     /// The number of the first transition that bent a value, and 1 more; 0 before any did.
@@ -12,7 +12,7 @@ struct Counts {
 }
 
 /// What the transitions of a run share: which of them bent a value first, and in how many answers one was bent. A value is bent
-/// where it leaves the range of an Integer, or a divisor is 0. No contract can say what the marks hold, since the transitions
+/// where it leaves the range of an Integer, or a divisor is 0. No contract can say what they hold, since the transitions
 /// change them while they are shared.
 #[derive(Drop)]
 pub struct BentValues {
@@ -29,7 +29,7 @@ pub struct Bent {
 }
 
 impl BentValues {
-    /// BentValues without a bent value.
+    /// None, before any value was bent.
     pub fn new(alloc: Global) -> Result<BentValues, AllocError> {
         let counts = Counts {
             first: AtomicU64::new(0),
@@ -40,14 +40,14 @@ impl BentValues {
         })
     }
 
-    /// Another share of the same marks.
+    /// Another share of the same.
     pub fn share(&self) -> Result<BentValues, AllocError> {
         Ok(BentValues {
             counts: Arc::try_clone(&self.counts)?,
         })
     }
 
-    /// BentValues an answer of the transition of this number, in which a value was bent.
+    /// Notes an answer of the transition of this number, in which a value was bent.
     pub fn note(&self, number: u32) {
         let own = number as u64 + 1;
         let _ = self
@@ -57,7 +57,7 @@ impl BentValues {
         self.counts.answers.fetch_add(1, Ordering::SeqCst);
     }
 
-    /// What was marked so far, and None where nothing was.
+    /// What was noted so far, and None where nothing was.
     pub fn bent(&self) -> Option<Bent> {
         let answers = self.counts.answers.load(Ordering::SeqCst);
         let first = self.counts.first.load(Ordering::SeqCst);

@@ -19,7 +19,7 @@ use sdl_transition_behaviour::{Agents, Transition};
 use std::alloc::{AllocError, Global};
 use std::collections::VecDeque;
 
-/// LogStore one transition more, behind the others.
+/// Keeps one transition more, behind the others.
 pub fn keep<S: Agents>(
     stored: &mut VecDeque<Transition<S>>,
     one: Transition<S>,

@@ -248,7 +248,7 @@ impl<'a> Cursor<'a> {
         })
     }
 
-    /// LogStore a fault at the next token, unless there is one from before.
+    /// Keeps a fault at the next token, unless there is one from before.
     pub fn with_late(self, fault: TextFault) -> Cursor<'a>
         ensures tokens { result.tokens.now ≡ self.entry.tokens.now }
         ensures late { result ≡ rule.with_late fault self.entry }

@@ -38,12 +38,12 @@ use std::thread::Threads;
 /// The status of a run in which a value was bent.
 pub const BENT: u8 = 4;
 
-/// The rows of a listing, of which transitions are stored, and the marks that these share.
+/// The rows of a listing, of which transitions are stored, and the bent values that these share.
 #[derive(Drop)]
 struct ToStore {
     alloc: Global,
     rows: Vec<Row>,
-    marks: BentValues,
+    bent: BentValues,
 }
 
 /// All of a listing but its rows: the rest of each set, and what tells of its transitions.
@@ -53,7 +53,7 @@ struct Others {
     labels: Vec<Label>,
     /// The names of states, where a chart is asked for.
     states: States,
-    marks: BentValues,
+    bent: BentValues,
 }
 
 /// A run that is to be made, which waits while transitions are stored.
@@ -131,8 +131,8 @@ fn taken_apart(
 {
     let labels = labels_of(alloc, structure, listing.as_slice())?;
     let states = states_of(alloc, structure, listing.as_slice(), charted)?;
-    let marks = BentValues::new(alloc)?;
-    let shared = marks.share()?;
+    let bent = BentValues::new(alloc)?;
+    let shared = bent.share()?;
     let (heads, rows) = lay_out(alloc, listing)?;
     if rows.len() > u32::MAX as usize {
         return Err(ListingFault::ManyTransitions);
@@ -140,13 +140,13 @@ fn taken_apart(
     let to_store = ToStore {
         alloc,
         rows,
-        marks: shared,
+        bent: shared,
     };
     let others = Others {
         heads,
         labels,
         states,
-        marks,
+        bent,
     };
     Ok((to_store, others))
 }
@@ -174,7 +174,7 @@ fn run_rows<K: Listing + Send, T: Threads + Wait + Sync, R: Read, W: Write, E: W
     ensures fault { IsErr result → (input.new ≡ input.old) × (output.new ≡ output.old) }
     ensures silent { IfOk result (λ status. status ≡ 0 → Keeps (E.contents errors.old) (E.contents errors.new)) }
 {
-    let ToStore { alloc, rows, marks } = to_store;
+    let ToStore { alloc, rows, bent } = to_store;
     let mut stored: VecDeque<Transition<FileAgents<K>>> = VecDeque::new(alloc);
     let mut number: u32 = 0;
     for row in rows {
@@ -182,7 +182,7 @@ fn run_rows<K: Listing + Send, T: Threads + Wait + Sync, R: Read, W: Write, E: W
         let own = Answering {
             number,
             row,
-            marks: marks.share()?,
+            bent: bent.share()?,
         };
         let run: Run = Box::new(
             alloc,
@@ -245,7 +245,7 @@ fn run_job<S: Agents + Send + Drop, T: Threads + Wait + Sync, R: Read, W: Write,
         heads,
         labels,
         states,
-        marks,
+        bent,
     } = others;
     let status = run_prepared(
         rt,
@@ -260,7 +260,7 @@ fn run_job<S: Agents + Send + Drop, T: Threads + Wait + Sync, R: Read, W: Write,
     if status == REFUSED {
         return REFUSED;
     }
-    report_bent(status, labels.as_slice(), marks.bent(), errors)
+    report_bent(status, labels.as_slice(), bent.bent(), errors)
 }
 
 /// Binds the stored transitions to the structure and runs the agents, and answers the exit status.

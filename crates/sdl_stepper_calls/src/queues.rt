@@ -274,7 +274,7 @@ impl Queues {
         Ok(true)
     }
 
-    /// LogStore what was left, and answers how much it is.
+    /// Keeps what was left, and answers how much it is.
     fn keep<W: Write>(&mut self, rest: Rest, answers: &mut Answers<W>) {
         write_count(answers, "left", rest.len());
         self.rest = Some(rest);

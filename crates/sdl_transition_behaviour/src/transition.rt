@@ -27,7 +27,7 @@ pub struct Transition<S> {
 impl<S: Agents> Transition<S> {
     ghost use Rattle.sdl_transition_behaviour.specs.Transitions.{IsAllowed};
 
-    /// LogStore the closure with its number and its offer. No memory is taken.
+    /// Keeps the closure with its number and its offer. No memory is taken.
     pub fn store(number: u32, offer: Offer, run: Run) -> Transition<S>
         requires callable { (f : _) → IsFrameOf offer f.now → Run.pre run f }
         requires allowed { (f : _) (step : _) → IsFrameOf offer f.now → Run.post run f step → S.may number f.now step }
@@ -45,7 +45,7 @@ impl<S: Agents> Transition<S> {
         }
     }
 
-    /// LogStore the closure as `store` does, for a transition that the agents may put together themselves (`Agents::fill`): the closure
+    /// Keeps the closure as `store` does, for a transition that the agents may put together themselves (`Agents::fill`): the closure
     /// answers where they do not. No memory is taken.
     pub fn store_for_agents(number: u32, offer: Offer, run: Run) -> Transition<S>
         requires callable { (f : _) → IsFrameOf offer f.now → Run.pre run f }

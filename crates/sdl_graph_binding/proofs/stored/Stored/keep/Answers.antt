@@ -16,8 +16,8 @@ returns-clause-last g c =
     let new = c.push-pushed.new.self.items in
     let t = c.store_for_agents-stored.result in
     elim c.else-is_err.branch [
-      | else-is_err-via-then-is_err+else-is_ok w ↦ IfOk-from_err c.args.self.now.marks _ (w.is_ok.ensures.negation ∙ ap not w.if-is_ok.false)
-      | else-is_err-via-else-is_err w ↦ always c.args.self.now.marks (
+      | else-is_err-via-then-is_err+else-is_ok w ↦ IfOk-from_err c.args.self.now.breaches _ (w.is_ok.ensures.negation ∙ ap not w.if-is_ok.false)
+      | else-is_err-via-else-is_err w ↦ always c.args.self.now.breaches (
         t,
         pushed c.push-pushed.result c.is_err.result old new t c.push-pushed.ensures.items c.is_err.ensures.negation w.if-is_err.false,
         c.store_for_agents-stored.ensures.number,
@@ -32,8 +32,8 @@ returns-clause-kept g c =
     let new = c.push-pushed.new.self.items in
     let t = c.store_for_agents-stored.result in
     elim c.else-is_err.branch [
-      | else-is_err-via-then-is_err+else-is_ok w ↦ IfOk-from_err c.args.self.now.marks _ (w.is_ok.ensures.negation ∙ ap not w.if-is_ok.false)
-      | else-is_err-via-else-is_err w ↦ always c.args.self.now.marks (number_last
+      | else-is_err-via-then-is_err+else-is_ok w ↦ IfOk-from_err c.args.self.now.breaches _ (w.is_ok.ensures.negation ∙ ap not w.if-is_ok.false)
+      | else-is_err-via-else-is_err w ↦ always c.args.self.now.breaches (number_last
           new
           old
           t

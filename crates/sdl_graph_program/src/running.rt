@@ -22,12 +22,12 @@ pub struct GraphClosing<G, K: LogStore = Vec<Event>> {
 }
 
 /// Runs the agents of a graph on one thread until they end, as `run_keeping` does, with logs that are kept as their type
-/// says: whole, or counted alone. Each step meets the offer of its transition. `marks` are those that the transitions share.
+/// says: whole, or counted alone. Each step meets the offer of its transition. `breaches` are those that the transitions share.
 /// What they say at the end is the closing's `broken`.
 pub fn run_graph<G: Graph, K: LogStore, R: Read, W: Write>(
     alloc: Global,
     bound: Bound<GraphAgents<G>>,
-    marks: &Breaches,
+    breaches: &Breaches,
     budget: u32,
     schedule: &[u32],
     input: &mut R,
@@ -48,6 +48,6 @@ pub fn run_graph<G: Graph, K: LogStore, R: Read, W: Write>(
     ensures untouched { IfErr result (λ f. (input.new ≡ input.old) × (output.new ≡ output.old)) }
 {
     let closing = run_keeping(alloc, bound, budget, schedule, input, output)?;
-    let broken = marks.broken();
+    let broken = breaches.broken();
     Ok(GraphClosing { closing, broken })
 }
