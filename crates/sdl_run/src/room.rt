@@ -1,5 +1,6 @@
 //! What a run in threads takes before its blocks start.
 ghost use Rattle.std.specs.Prelude.{◌≡◌, ◌<◌, ◌≤◌, ◌^◌, [], length, IfOk};
+ghost use Rattle.sdl_run_driver.specs.Closings.{HasRoom};
 ghost use Rattle.sdl_routes.specs.Routes.{AreRoutesOf};
 ghost use Rattle.sdl_run_settling.specs.Room.{HasRejoiningRoom};
 ghost use Rattle.sdl_run.specs.Room.{IsOpened, IsThreadRoom};
@@ -12,7 +13,7 @@ use sdl_instances_log::{Event, LogStore};
 use sdl_routes::Routes;
 use sdl_run_driver::closing::Room;
 use sdl_run_environment::EnvWorker;
-use sdl_run_serial::start::{forwarders_of, make_room};
+use sdl_run_serial::start::forwarders_of;
 use sdl_run_settling::rejoining::RejoiningRoom;
 use sdl_run_threads::{AtWork, Returned};
 use sdl_structure_parts::Checked;
@@ -68,6 +69,27 @@ fn make_rejoining_room<S: Agents, K: LogStore>(
     })
 }
 
+/// Empty lists, with room for what so many blocks and so many workers leave.
+fn make_closing_room<S: Agents, K: LogStore>(
+    alloc: Global,
+    blocks: usize,
+    workers: usize,
+) -> Result<Room<S, K>, AllocError>
+    ensures empty { IfOk result (λ r. (r.parts.items ≡ []) × (r.logs.items ≡ []) × (r.hands.items ≡ [])) }
+    ensures room { IfOk result (λ r. HasRoom blocks workers r) }
+{
+    let parts = Vec::with_capacity(alloc, blocks)?;
+    let logs = Vec::with_capacity(alloc, blocks)?;
+    let counts = Vec::with_capacity(alloc, blocks)?;
+    let hands = Vec::with_capacity(alloc, workers)?;
+    Ok(Room {
+        parts,
+        logs,
+        counts,
+        hands,
+    })
+}
+
 /// Makes the environment and the forwarders, opens the ends of all workers, and takes the room for them and so many blocks.
 fn open_all<S: Agents, K: LogStore, T: Wait>(
     rt: &T,
@@ -109,7 +131,7 @@ pub fn make_thread_room<S: Agents, K: LogStore, T: Wait>(
     ensures { IfOk result (IsThreadRoom checked.now routes.now) }
 {
     let opened = open_all(rt, alloc, checked, routes, blocks)?;
-    let room = make_room(alloc, blocks, blocks + 1 + opened.forwarders.len())?;
+    let room = make_closing_room(alloc, blocks, blocks + 1 + opened.forwarders.len())?;
     let started = Vec::with_capacity(alloc, blocks)?;
     Ok(ThreadRoom {
         opened,

@@ -13,7 +13,7 @@ use crate::joining::run_apart;
 use crate::room::{ThreadRoom, make_thread_room};
 use sdl_instances_log::{FilledAhead, LogStore};
 use sdl_run_driver::closing::{Closing, StartFault};
-use sdl_run_driver::system::System;
+use sdl_run_driver::system::{System, bound_again, with_budget};
 use sdl_run_serial::blocks::start_system;
 use sdl_run_serial::lists::{in_lists, room_for_lists};
 use sdl_run_settling::settling::{Stopped, settle};
@@ -111,21 +111,19 @@ pub fn run_threads_keeping<
     ensures back { IfErr result (λ f. IsBackIn S.may bound f) }
     ensures untouched { IfErr result (λ f. (input.new ≡ input.old) × (output.new ≡ output.old)) }
 {
-    let (checked, routes, blocks) = bound.into_blocks();
-    match make_thread_room(rt, alloc, &checked, &routes, blocks.len()) {
-        Ok(thread_room) => {
-            let system = System {
-                checked,
-                routes,
-                blocks,
-                budget,
-            };
-            match run_in(rt, alloc, system, thread_room, gate, input, output) {
-                Ok(ended) => Ok(ended.closing),
-                Err(bound) => Err(StartFault::Memory(bound)),
-            }
-        }
-        Err(_) => Err(StartFault::Memory(Bound::of_blocks(checked, routes, blocks))),
+    let system = with_budget(bound, budget);
+    match make_thread_room(
+        rt,
+        alloc,
+        &system.checked,
+        &system.routes,
+        system.blocks.len(),
+    ) {
+        Ok(thread_room) => match run_in(rt, alloc, system, thread_room, gate, input, output) {
+            Ok(ended) => Ok(ended.closing),
+            Err(bound) => Err(StartFault::Memory(bound)),
+        },
+        Err(_) => Err(StartFault::Memory(bound_again(system))),
     }
 }
 
