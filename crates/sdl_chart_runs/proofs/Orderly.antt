@@ -24,7 +24,8 @@ use Rattle.sdl_run_outcome.specs.Plan.{Plan, blocks_from, lines_of, workers_of, 
 use Rattle.sdl_run_outcome.specs.Outcome.{Outcome, IsComplete, Headline, AreRunsFrom, of_worker, books_of}
 use Rattle.sdl_run_outcome.proofs.Ways.{row_of}
 use Rattle.sdl_run_ledger.specs.declared.ledger.Ledger.{Ledger}
-use Rattle.sdl_run_order.proofs.Stamps.{among_cases, among_all, cause_stamp}
+use Rattle.sdl_forward_opening.proofs.Bringing.{among_cases}
+use Rattle.sdl_run_order.proofs.Stamps.{among_all, cause_stamp}
 use Rattle.sdl_run_driver.specs.Ended.{HasEnded}
 use Rattle.sdl_chart_page.specs.Entries.{Entry, entry_of_event, entry_of_receipt, entry_of_output, entries, entry_at}
 use Rattle.sdl_chart_page.specs.Pages.{IsSentIn, AreOrderly}
