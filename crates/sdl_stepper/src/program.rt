@@ -1,4 +1,5 @@
 //! What the program does, over any reader and writers, and its exit statuses.
+ghost use Rattle.std.specs.Prelude.{IfSome};
 ghost use Rattle.sdl_routes.specs.Routes.{AreRoutesOf};
 
 use sdl_agents::echo::Echo;
@@ -77,28 +78,28 @@ fn try_path<H: Files + Wait, R: Read, W: Write, E: Write>(
     output: &mut W,
     errors: &mut E,
 ) -> Result<u8, AllocError> {
-    match read_file(rt, alloc, path) {
-        FileRead::Bytes(file) => try_file(
-            rt,
-            alloc,
-            file.as_slice(),
-            signals,
-            input,
-            output,
-            errors,
-        ),
-        FileRead::CannotRead => {
-            write_error(errors, "file: cannot read");
-            Ok(REFUSED)
-        }
-        FileRead::Memory => {
-            write_error(errors, FileFault::Memory);
-            Ok(REFUSED)
-        }
-    }
+    let Some(file) = bytes_of(rt, alloc, path, errors) else {
+        return Ok(REFUSED);
+    };
+    try_file(rt, alloc, file.as_slice(), signals, input, output, errors)
 }
 
-/// The same, of the bytes of the file.
+/// The bytes of the file of this path. Where it is not read, the reason is written.
+fn bytes_of<H: Files, E: Write>(
+    rt: &H,
+    alloc: Global,
+    path: &str,
+    errors: &mut E,
+) -> Option<Vec<u8>> {
+    match read_file(rt, alloc, path) {
+        FileRead::Bytes(file) => return Some(file),
+        FileRead::CannotRead => write_error(errors, "file: cannot read"),
+        FileRead::Memory => write_error(errors, FileFault::Memory),
+    }
+    None
+}
+
+/// Tries the system of the bytes of a structure file.
 fn try_file<T: Wait, R: Read, W: Write, E: Write>(
     rt: &T,
     alloc: Global,
@@ -108,26 +109,32 @@ fn try_file<T: Wait, R: Read, W: Write, E: Write>(
     output: &mut W,
     errors: &mut E,
 ) -> Result<u8, AllocError> {
-    let Some(checked) = checked_file(alloc, file, errors) else {
-        return Ok(REFUSED);
-    };
-    let Some(routes) = routes_in(alloc, &checked, errors) else {
+    let Some((checked, routes)) = system_of(alloc, file, errors) else {
         return Ok(REFUSED);
     };
     let Some(kept) = signals_of(alloc, checked.structure(), signals)? else {
         write_error(errors, "no such signal");
         return Ok(REFUSED);
     };
-    try_system(
+    let ended = try_system(Trial {
         rt,
         alloc,
         checked,
         routes,
-        kept.as_slice(),
+        signals: kept.as_slice(),
         input,
-        output,
-        errors,
-    )
+        output: &mut *output,
+    })?;
+    Ok(status_of(ended, output, errors))
+}
+
+/// The structure of the file, and its routes. Where a rule is broken, that is written.
+fn system_of<E: Write>(alloc: Global, file: &[u8], errors: &mut E) -> Option<(Checked, Routes)>
+    ensures { IfSome result (λ system. AreRoutesOf system.0 system.1) }
+{
+    let checked = checked_file(alloc, file, errors)?;
+    let routes = routes_in(alloc, &checked, errors)?;
+    Some((checked, routes))
 }
 
 /// The signals of these words.
@@ -146,36 +153,31 @@ fn signals_of(
     Ok(Some(signals))
 }
 
-/// Tries the built-in system that has the structure's name. Where there is none, no block has agents.
-fn try_system<T: Wait, R: Read, W: Write, E: Write>(
-    rt: &T,
-    alloc: Global,
-    checked: Checked,
-    routes: Routes,
-    signals: &[SignalId],
-    input: &mut R,
-    output: &mut W,
-    errors: &mut E,
-) -> Result<u8, AllocError>
-    requires { AreRoutesOf checked routes }
+/// Tries the built-in system that has the structure's name.
+fn try_system<T: Wait, R: Read, W: Write>(trial: Trial<T, R, W>) -> Result<Ended, AllocError>
+    requires { AreRoutesOf trial.checked trial.routes }
 {
-    let Some(system) = system_named(checked.structure().system()) else {
-        let blocks: Vec<BlockParts<Echo>> = Vec::new(alloc);
-        let ended = try_blocks(rt, alloc, &checked, &routes, blocks, input, &mut *output);
-        return Ok(status_of(ended, output, errors));
-    };
-    let sets = checked.structure().sets().len() as u32;
-    let trial = Trial {
+    let structure = trial.checked.structure();
+    let sets = structure.sets().len() as u32;
+    match system_named(structure.system()) {
+        Some(system) => sdl_agents::run(system, trial.alloc, sets, trial),
+        None => Ok(without_agents(trial)),
+    }
+}
+
+/// Answers the calls on a system of which no block has agents.
+fn without_agents<T: Wait, R: Read, W: Write>(trial: Trial<T, R, W>) -> Ended {
+    let Trial {
         rt,
         alloc,
         checked,
         routes,
-        signals,
+        signals: _,
         input,
-        output: &mut *output,
-    };
-    let ended = sdl_agents::run(system, alloc, sets, trial)?;
-    Ok(status_of(ended, output, errors))
+        output,
+    } = trial;
+    let blocks: Vec<BlockParts<Echo>> = Vec::new(alloc);
+    try_blocks(rt, alloc, &checked, &routes, blocks, input, output)
 }
 
 /// Writes how the calls ended, and answers the exit status.

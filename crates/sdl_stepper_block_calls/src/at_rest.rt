@@ -333,12 +333,10 @@ fn call_at_rest<S: Agents + Drop, T: Wait, R: Read, W: Write>(
 }
 
 fn use_of(name: &str) -> Option<Use> {
-    if name == "core" {
-        Some(Use::Core)
-    } else if name == "work" {
-        Some(Use::Work)
-    } else {
-        None
+    match name {
+        "core" => Some(Use::Core),
+        "work" => Some(Use::Work),
+        _ => None,
     }
 }
 

@@ -17,6 +17,7 @@ use sdl_stepper_calls::answers::Answers;
 use sdl_stepper_calls::calls::{Call, words_of, write_meant};
 use sdl_stepper_calls::common::{Desk, Place, name_of};
 use sdl_stepper_calls::desk::given_after_name;
+use sdl_stepper_calls::items::Given;
 use sdl_stepper_calls::naming::block_name;
 use sdl_stepper_calls::texts::{write_item, write_pid};
 use sdl_transition::{Agents, Frame};
@@ -26,6 +27,8 @@ use std::sync::Wait;
 
 const ARRIVE: &str =
     "arrive ROUTE SIGNAL VALUE .. [to PID] [sender PID] [stamp N] [origin W.N] [pick N]";
+
+const STAMP: &str = "a stamp is at most 18446744073709551614";
 
 const TURN: &str = "turn [PICK]";
 
@@ -61,10 +64,24 @@ pub fn arrive<S: Agents>(
     }
 }
 
+/// The item that the words give to arrive, or else what was meant. Where it is one, `next` goes up by one.
+fn given_to_arrive(place: &Place, words: &[&str], next: &mut u64) -> Result<Given, &'static str>
+    ensures { IfOk result (λ given. given.item.stamp < 2 ^ 64 - 1) }
+{
+    let Some(given) = given_after_name(place.structure, words, *next) else {
+        return Err(ARRIVE);
+    };
+    if given.item.stamp == u64::MAX {
+        return Err(STAMP);
+    }
+    *next = next.saturating_add(1);
+    Ok(given)
+}
+
 /// `arrive`: what became of the item, or `may not arrive`.
 fn arrive_call<S: Agents, W: Write>(
     place: &Place,
-    desk: &mut Desk,
+    next: &mut u64,
     core: &mut BlockCore<S>,
     call: Call,
     answers: &mut Answers<W>,
@@ -72,23 +89,29 @@ fn arrive_call<S: Agents, W: Write>(
     requires sound { IsSound S.may (system_in core.old place.now.routes.now) (core_of core.old) }
     ensures sound { IfOk result (λ _. IsSound S.may (system_in core.new place.now.routes.now) (core_of core.new)) }
     ensures parts { parts_of core.new ≡ parts_of core.old }
-    ensures board { desk.new.board ≡ desk.old.board }
 {
-    let Some(given) = given_after_name(place.structure, call.words, desk.queues.next) else {
-        write_meant(answers, call.line, ARRIVE);
-        return Ok(());
-    };
-    if given.item.stamp == u64::MAX {
-        write_meant(
-            answers,
-            call.line,
-            "a stamp is at most 18446744073709551614",
-        );
-        return Ok(());
+    match given_to_arrive(place, call.words, next) {
+        Ok(given) => arrive_given(place, core, given, answers),
+        Err(meant) => {
+            write_meant(answers, call.line, meant);
+            Ok(())
+        }
     }
-    desk.queues.next = desk.queues.next.saturating_add(1);
-    let pick = given.pick;
-    let arrival = arrive(core, place.routes, given.item, pick)?;
+}
+
+/// Lets what was given arrive, and answers what became of it.
+fn arrive_given<S: Agents, W: Write>(
+    place: &Place,
+    core: &mut BlockCore<S>,
+    given: Given,
+    answers: &mut Answers<W>,
+) -> Result<(), AllocError>
+    requires sound { IsSound S.may (system_in core.old place.now.routes.now) (core_of core.old) }
+    requires stamp { given.item.stamp < 2 ^ 64 - 1 }
+    ensures sound { IfOk result (λ _. IsSound S.may (system_in core.new place.now.routes.now) (core_of core.new)) }
+    ensures parts { parts_of core.new ≡ parts_of core.old }
+{
+    let arrival = arrive(core, place.routes, given.item, given.pick)?;
     write_arrival(answers, place, arrival);
     Ok(())
 }
@@ -229,6 +252,12 @@ pub fn write_counts<W: Write>(answers: &mut Answers<W>, made: u32, left: u64, is
     answers.line(if is_settled { " settled" } else { " ready" });
 }
 
+fn write_core_counts<S: Agents, W: Write>(answers: &mut Answers<W>, core: &BlockCore<S>) {
+    let made = core.made();
+    let left = core.left_in_ports();
+    write_counts(answers, made, left, core.is_settled());
+}
+
 fn write_log<W: Write>(answers: &mut Answers<W>, shown: Shown, log: &[Event]) {
     for event in log {
         write_event(answers, shown, event);
@@ -244,19 +273,11 @@ fn look_call<S: Agents, W: Write>(
     name: &str,
     answers: &mut Answers<W>,
 ) -> bool {
-    if name == "knew" {
-        write_knew(answers, place, core.log().as_slice());
-    } else if name == "counts" {
-        write_counts(
-            answers,
-            core.made(),
-            core.left_in_ports(),
-            core.is_settled(),
-        );
-    } else if name == "log" {
-        write_log(answers, shown_in(place, core), core.log().as_slice());
-    } else {
-        return false;
+    match name {
+        "knew" => write_knew(answers, place, core.log().as_slice()),
+        "counts" => write_core_counts(answers, core),
+        "log" => write_log(answers, shown_in(place, core), core.log().as_slice()),
+        _ => return false,
     }
     true
 }
@@ -293,13 +314,13 @@ fn core_call<S: Agents, T: Wait, W: Write>(
     ensures sound { IfOk result (λ _. IsSound S.may (system_in core.new site.now.place.routes.now) (core_of core.new)) }
     ensures parts { parts_of core.new ≡ parts_of core.old }
 {
-    let name = name_of(call);
-    if name == "arrive" {
-        arrive_call(&site.place, desk, core, call, answers)
-    } else if name == "turn" {
-        turn_call(&site.place, core, call, answers)
-    } else {
-        still_call(site, desk, core, call, answers)
+    match name_of(call) {
+        "arrive" => {
+            let next = &mut desk.queues.next;
+            arrive_call(&site.place, next, core, call, answers)
+        }
+        "turn" => turn_call(&site.place, core, call, answers),
+        _ => still_call(site, desk, core, call, answers),
     }
 }
 

@@ -132,14 +132,10 @@ fn worker_call<S: Agents, T: Wait, W: Write>(
     ensures board { IfOk result (λ _. IsBoardOf site.now.place.routes.now desk.new.board) }
     ensures parts { behaviours_of worker.new ≡ behaviours_of worker.old }
 {
-    let name = name_of(call);
-    if name == "end" {
-        return Ok(Next::Over(None));
-    }
-    if name == "step" {
-        step_call(&site.place, &mut desk.board, worker, call, answers);
-    } else {
-        still_call(site, desk, worker, call, answers)?;
+    match name_of(call) {
+        "end" => return Ok(Next::Over(None)),
+        "step" => step_call(&site.place, &mut desk.board, worker, call, answers),
+        _ => still_call(site, desk, worker, call, answers)?,
     }
     Ok(Next::Line)
 }

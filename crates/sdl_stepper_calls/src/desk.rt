@@ -1,4 +1,5 @@
-//! The calls on a board: `put ITEM [along ROUTE] [after STATION]`, `take STATION`, `forward PATH` and `left`.
+//! What the calls work on, and the calls on its board: `put ITEM [along ROUTE] [after STATION]`, `take STATION`,
+//! `forward PATH` and `left`.
 ghost use Rattle.std.specs.Prelude.{◌≡◌, ◌<◌, length, IfOk, Contains};
 ghost use Rattle.sdl_forward.specs.Boards.{IsBoardOf, stations_of};
 
@@ -6,6 +7,7 @@ use crate::answers::Answers;
 use crate::calls::{Call, write_meant};
 use crate::items::{Given, given_of};
 use crate::naming::{hop_of, station_of};
+use crate::queues::Queues;
 use crate::texts::{write_item, write_station};
 use sdl_forward::{Board, Forwarded, Forwarder};
 use sdl_queue::Rest;
@@ -22,6 +24,36 @@ const PUT: &str =
 const TAKE: &str = "take STATION";
 
 const FORWARD: &str = "forward PATH";
+
+/// A system, and where memory comes from.
+#[derive(Clone, Copy)]
+pub struct Place<'a> {
+    pub alloc: Global,
+    pub routes: &'a Routes,
+    pub structure: &'a Structure,
+}
+
+/// What the calls work on.
+#[derive(Drop)]
+pub struct Desk {
+    pub board: Board,
+    pub forwarders: Vec<Forwarder>,
+    pub queues: Queues,
+}
+
+impl Desk {
+    /// An empty board of the routes, and empty queues.
+    pub fn new(alloc: Global, routes: &Routes) -> Result<Desk, AllocError>
+        ensures { IfOk result (λ desk. IsBoardOf routes.now desk.board) }
+    {
+        let board = Board::new(alloc, routes)?;
+        Ok(Desk {
+            board,
+            forwarders: Vec::new(alloc),
+            queues: Queues::new(alloc),
+        })
+    }
+}
 
 /// Lets the item wait at the station that follows on the route, and answers that station.
 pub fn put_along(
@@ -57,31 +89,42 @@ fn put_with_retry(board: &mut Board, station: Station, item: Item) -> Result<(),
 
 /// `put`: the station where the item waits, or `no station`.
 pub fn put_call<W: Write>(
-    routes: &Routes,
-    structure: &Structure,
-    board: &mut Board,
-    next: &mut u64,
+    place: &Place,
+    desk: &mut Desk,
     call: Call,
     answers: &mut Answers<W>,
 ) -> Result<(), AllocError>
-    requires { IsBoardOf routes.now board.old }
-    ensures { IfOk result (λ _. IsBoardOf routes.now board.new) }
+    requires { IsBoardOf place.now.routes.now desk.old.board }
+    ensures { IfOk result (λ _. IsBoardOf place.now.routes.now desk.new.board) }
 {
-    let Some(given) = given_after_name(structure, call.words, *next) else {
+    let next = &mut desk.queues.next;
+    let Some(given) = next_given(place.structure, call.words, next) else {
         write_meant(answers, call.line, PUT);
         return Ok(());
     };
-    *next = next.saturating_add(1);
-    let Given {
-        item,
-        along,
-        after,
-        pick: _,
-    } = given;
-    let route = along.unwrap_or(item.route);
-    let put = put_along(routes, board, item, route, after)?;
-    write_put(answers, structure, put);
+    let put = put_given(place.routes, &mut desk.board, given)?;
+    write_put(answers, place.structure, put);
     Ok(())
+}
+
+/// The item of a call whose first word is its name. Where it is one, `next` goes up by one.
+pub fn next_given(structure: &Structure, words: &[&str], next: &mut u64) -> Option<Given> {
+    let given = given_after_name(structure, words, *next)?;
+    *next = next.saturating_add(1);
+    Some(given)
+}
+
+/// Lets what was given wait, and answers its station.
+fn put_given(
+    routes: &Routes,
+    board: &mut Board,
+    given: Given,
+) -> Result<Option<Station>, AllocError>
+    requires { IsBoardOf routes.now board.old }
+    ensures { IfOk result (λ _. IsBoardOf routes.now board.new) }
+{
+    let route = given.along.unwrap_or(given.item.route);
+    put_along(routes, board, given.item, route, given.after)
 }
 
 /// The item of a call whose first word is its name.
@@ -104,18 +147,12 @@ fn write_put<W: Write>(answers: &mut Answers<W>, structure: &Structure, put: Opt
 }
 
 /// `take`: the item that waited at the front of the station, or `none`.
-pub fn take_call<W: Write>(
-    routes: &Routes,
-    structure: &Structure,
-    board: &mut Board,
-    call: Call,
-    answers: &mut Answers<W>,
-)
-    requires { IsBoardOf routes.now board.old }
-    ensures { IsBoardOf routes.now board.new }
+pub fn take_call<W: Write>(place: &Place, desk: &mut Desk, call: Call, answers: &mut Answers<W>)
+    requires { IsBoardOf place.now.routes.now desk.old.board }
+    ensures { IsBoardOf place.now.routes.now desk.new.board }
 {
-    match station_after_name(structure, call.words) {
-        Some(station) => write_taken(answers, structure, board.take(station)),
+    match station_after_name(place.structure, call.words) {
+        Some(station) => write_taken(answers, place.structure, desk.board.take(station)),
         None => write_meant(answers, call.line, TAKE),
     }
 }
@@ -140,25 +177,36 @@ fn write_taken<W: Write>(answers: &mut Answers<W>, structure: &Structure, item: 
 
 /// `forward`: what the step of the path's forwarder did.
 pub fn forward_call<W: Write>(
-    routes: &Routes,
-    structure: &Structure,
-    board: &mut Board,
-    forwarders: &mut Vec<Forwarder>,
+    place: &Place,
+    desk: &mut Desk,
     call: Call,
     answers: &mut Answers<W>,
 ) -> Result<(), AllocError>
-    requires { IsBoardOf routes.now board.old }
-    ensures { IfOk result (λ _. IsBoardOf routes.now board.new) }
+    requires { IsBoardOf place.now.routes.now desk.old.board }
+    ensures { IfOk result (λ _. IsBoardOf place.now.routes.now desk.new.board) }
 {
-    let Some(path) = path_after_name(structure, call.words) else {
+    let Some(path) = path_after_name(place.structure, call.words) else {
         write_meant(answers, call.line, FORWARD);
         return Ok(());
     };
-    let place = place_of(forwarders, path)?;
-    let forwarder = &mut forwarders[place];
-    let forwarded = step_with_retry(routes, board, forwarder);
-    write_forwarded(answers, structure, forwarded, forwarder);
+    let at = place_of(&mut desk.forwarders, path)?;
+    let forwarder = &mut desk.forwarders[at];
+    forward_by(place, &mut desk.board, forwarder, answers);
     Ok(())
+}
+
+/// Makes a step of the forwarder, and answers what it did.
+fn forward_by<W: Write>(
+    place: &Place,
+    board: &mut Board,
+    forwarder: &mut Forwarder,
+    answers: &mut Answers<W>,
+)
+    requires { IsBoardOf place.now.routes.now board.old }
+    ensures { IsBoardOf place.now.routes.now board.new }
+{
+    let forwarded = step_with_retry(place.routes, board, forwarder);
+    write_forwarded(answers, place.structure, forwarded, forwarder);
 }
 
 /// A step of the forwarder. An item that it holds since memory was refused is tried once more.
@@ -214,22 +262,30 @@ fn write_forwarded<W: Write>(
     answers.line("");
 }
 
-/// `left`: how many items wait at each station of the board. An empty board is laid in its place.
+/// `left`: how many items wait at each station of the board. An empty board and forwarders that hold nothing are laid in its
+/// place.
 pub fn left_call<W: Write>(
-    alloc: Global,
-    routes: &Routes,
-    structure: &Structure,
-    board: &mut Board,
+    place: &Place,
+    desk: &mut Desk,
     answers: &mut Answers<W>,
 ) -> Result<(), AllocError>
-    requires { IsBoardOf routes.now board.old }
-    ensures { IfOk result (λ _. IsBoardOf routes.now board.new) }
+    requires { IsBoardOf place.now.routes.now desk.old.board }
+    ensures { IfOk result (λ _. IsBoardOf place.now.routes.now desk.new.board) }
 {
-    let empty = Board::new(alloc, routes)?;
-    let used = mem::replace(board, empty);
+    let used = clear(place, desk)?;
     let rests = used.into_rests();
-    write_rests(answers, structure, rests.as_slice());
+    write_rests(answers, place.structure, rests.as_slice());
     Ok(())
+}
+
+/// Lays an empty board and forwarders that hold nothing in place of those that were used. Answers the board that was used.
+fn clear(place: &Place, desk: &mut Desk) -> Result<Board, AllocError>
+    requires { IsBoardOf place.now.routes.now desk.old.board }
+    ensures { IfOk result (λ _. IsBoardOf place.now.routes.now desk.new.board) }
+{
+    let empty = Board::new(place.alloc, place.routes)?;
+    desk.forwarders = Vec::new(place.alloc);
+    Ok(mem::replace(&mut desk.board, empty))
 }
 
 fn write_rests<W: Write>(

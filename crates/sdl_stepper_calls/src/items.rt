@@ -86,12 +86,17 @@ fn add_values<'a>(
     let [word, words @ ..] = words else {
         return None;
     };
-    let value = value_of(structure, word, *sort)?;
+    add_value(structure, item, *sort, word)?;
+    add_values(structure, item, sorts, words)
+}
+
+fn add_value(structure: &Structure, item: &mut Item, sort: Sort, word: &str) -> Option<()> {
+    let value = value_of(structure, word, sort)?;
     if item.signal.params.is_full() {
         return None;
     }
     item.signal.params.push(value);
-    add_values(structure, item, sorts, words)
+    Some(())
 }
 
 fn value_of(structure: &Structure, word: &str, sort: Sort) -> Option<Value> {
@@ -103,12 +108,10 @@ fn value_of(structure: &Structure, word: &str, sort: Sort) -> Option<Value> {
 }
 
 fn boolean_of(word: &str) -> Option<Value> {
-    if word == "true" {
-        Some(Value::Boolean(true))
-    } else if word == "false" {
-        Some(Value::Boolean(false))
-    } else {
-        None
+    match word {
+        "true" => Some(Value::Boolean(true)),
+        "false" => Some(Value::Boolean(false)),
+        _ => None,
     }
 }
 
@@ -125,29 +128,22 @@ fn add_options(structure: &Structure, given: &mut Given, words: &[&str]) -> bool
 }
 
 fn add_option(structure: &Structure, given: &mut Given, name: &str, word: &str) -> Option<()> {
-    if name == "to" {
-        given.item.to = Some(pid_of(structure, word)?);
-    } else if name == "sender" {
-        given.item.sender = pid_of(structure, word)?;
-    } else if name == "stamp" {
-        given.item.stamp = word.parse::<u64>().ok()?;
-    } else if name == "origin" {
-        given.item.origin = origin_of(word)?;
-    } else {
-        return add_place(structure, given, name, word);
+    match name {
+        "to" => given.item.to = Some(pid_of(structure, word)?),
+        "sender" => given.item.sender = pid_of(structure, word)?,
+        "stamp" => given.item.stamp = word.parse::<u64>().ok()?,
+        "origin" => given.item.origin = origin_of(word)?,
+        _ => return add_place(structure, given, name, word),
     }
     Some(())
 }
 
 fn add_place(structure: &Structure, given: &mut Given, name: &str, word: &str) -> Option<()> {
-    if name == "along" {
-        given.along = Some(RouteId(word.parse::<u32>().ok()?));
-    } else if name == "after" {
-        given.after = Some(station_of(structure, word)?);
-    } else if name == "pick" {
-        given.pick = word.parse::<u32>().ok()?;
-    } else {
-        return None;
+    match name {
+        "along" => given.along = Some(RouteId(word.parse::<u32>().ok()?)),
+        "after" => given.after = Some(station_of(structure, word)?),
+        "pick" => given.pick = word.parse::<u32>().ok()?,
+        _ => return None,
     }
     Some(())
 }

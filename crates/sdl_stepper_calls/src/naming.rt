@@ -82,12 +82,14 @@ fn gate_of(word: &str) -> Option<GateId> {
 
 /// A Pid: `null`, `env`, or `SET:N`.
 pub fn pid_of(structure: &Structure, word: &str) -> Option<Pid> {
-    if word == "null" {
-        return Some(Pid::Null);
+    match word {
+        "null" => Some(Pid::Null),
+        "env" => Some(Pid::Env),
+        _ => instance_of(structure, word),
     }
-    if word == "env" {
-        return Some(Pid::Env);
-    }
+}
+
+fn instance_of(structure: &Structure, word: &str) -> Option<Pid> {
     let (set, serial) = word.split_once(':')?;
     let set = set_of(structure, set)?;
     Some(Pid::Inst(set, serial.parse::<u32>().ok()?))
@@ -95,25 +97,26 @@ pub fn pid_of(structure: &Structure, word: &str) -> Option<Pid> {
 
 /// A path: its channel, with `+` for forth and `-` for back.
 pub fn hop_of(structure: &Structure, word: &str) -> Option<Hop> {
-    if let Some(channel) = word.strip_suffix('+') {
-        let channel = channel_of(structure, channel)?;
-        return Some(Hop {
-            channel,
-            back: false,
-        });
+    match word.strip_suffix('+') {
+        Some(channel) => path_along(structure, channel, false),
+        None => path_along(structure, word.strip_suffix('-')?, true),
     }
-    let channel = channel_of(structure, word.strip_suffix('-')?)?;
-    Some(Hop {
-        channel,
-        back: true,
-    })
+}
+
+fn path_along(structure: &Structure, channel: &str, back: bool) -> Option<Hop> {
+    let channel = channel_of(structure, channel)?;
+    Some(Hop { channel, back })
 }
 
 /// A station: a path, `inlet:BLOCK`, or `outlet`.
 pub fn station_of(structure: &Structure, word: &str) -> Option<Station> {
-    if word == "outlet" {
-        return Some(Station::Outlet);
+    match word {
+        "outlet" => Some(Station::Outlet),
+        _ => inlet_or_line_of(structure, word),
     }
+}
+
+fn inlet_or_line_of(structure: &Structure, word: &str) -> Option<Station> {
     match word.strip_prefix("inlet:") {
         Some(block) => Some(Station::Inlet(block_of(structure, block)?)),
         None => Some(Station::Line(hop_of(structure, word)?)),
@@ -130,28 +133,30 @@ pub fn source_of(structure: &Structure, word: &str) -> Option<Source> {
 
 /// Where an output is to go: `anywhere`, `null`, `env`, or a set.
 pub fn goal_of(structure: &Structure, word: &str) -> Option<Goal> {
-    if word == "anywhere" {
-        return Some(Goal::Anywhere);
+    match word {
+        "anywhere" => Some(Goal::Anywhere),
+        "null" => Some(Goal::Null),
+        "env" => Some(Goal::Environment),
+        _ => Some(Goal::Set(set_of(structure, word)?)),
     }
-    if word == "null" {
-        return Some(Goal::Null);
-    }
-    if word == "env" {
-        return Some(Goal::Environment);
-    }
-    Some(Goal::Set(set_of(structure, word)?))
 }
 
 /// What an output names by VIA: `any`, `gate:N`, or `channel:NAME`.
 pub fn via_of(structure: &Structure, word: &str) -> Option<Via> {
-    if word == "any" {
-        return Some(Via::Any);
+    match word {
+        "any" => Some(Via::Any),
+        _ => named_via_of(structure, word),
     }
-    if let Some(gate) = word.strip_prefix("gate:") {
-        return Some(Via::Gate(gate_of(gate)?));
+}
+
+fn named_via_of(structure: &Structure, word: &str) -> Option<Via> {
+    match word.strip_prefix("gate:") {
+        Some(gate) => Some(Via::Gate(gate_of(gate)?)),
+        None => {
+            let channel = word.strip_prefix("channel:")?;
+            Some(Via::Channel(channel_of(structure, channel)?))
+        }
     }
-    let channel = word.strip_prefix("channel:")?;
-    Some(Via::Channel(channel_of(structure, channel)?))
 }
 
 pub fn signal_name(structure: &Structure, signal: SignalId) -> &str {

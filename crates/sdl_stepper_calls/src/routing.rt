@@ -4,17 +4,47 @@ use crate::calls::{Call, write_meant};
 use crate::naming::{
     gate_name, goal_of, set_name, signal_name, signal_of, source_of, station_of, via_of,
 };
-use crate::texts::{write_path, write_station};
+use crate::texts::{write_path, write_station, write_station_line};
 use sdl_routes::{EndPoint, Hop, Route, Routes, Station, Wish};
 use sdl_signal::{GateId, RouteId};
 use sdl_structure_parts::Structure;
 use std::io::Write;
+
+const ALL: &str = "routes";
 
 const CHOOSE: &str = "choose SOURCE SIGNAL GOAL VIA PICK";
 
 const NEXT: &str = "next ROUTE [STATION]";
 
 const ROUTE: &str = "route N";
+
+/// A call on routes.
+#[derive(Clone, Copy)]
+enum OnRoutes {
+    All,
+    One,
+    Next,
+    Choose,
+}
+
+fn on_routes(name: &str) -> Option<OnRoutes> {
+    match name {
+        "routes" => Some(OnRoutes::All),
+        "route" => Some(OnRoutes::One),
+        "next" => Some(OnRoutes::Next),
+        "choose" => Some(OnRoutes::Choose),
+        _ => None,
+    }
+}
+
+fn meant_by(what: OnRoutes) -> &'static str {
+    match what {
+        OnRoutes::All => ALL,
+        OnRoutes::One => ROUTE,
+        OnRoutes::Next => NEXT,
+        OnRoutes::Choose => CHOOSE,
+    }
+}
 
 /// Answers a call on routes, and says whether it was one.
 pub fn call_routes<W: Write>(
@@ -26,36 +56,49 @@ pub fn call_routes<W: Write>(
     let [name, words @ ..] = call.words else {
         return false;
     };
-    let line = call.line;
-    if *name == "routes" {
-        write_routes(answers, structure, routes);
-    } else if *name == "route" {
-        route_call(routes, structure, line, words, answers);
-    } else if *name == "next" {
-        next_call(routes, structure, line, words, answers);
-    } else if *name == "choose" {
-        choose_call(routes, structure, line, words, answers);
-    } else {
+    let Some(what) = on_routes(name) else {
         return false;
+    };
+    if !use_routes(routes, structure, what, words, answers) {
+        write_meant(answers, call.line, meant_by(what));
     }
     true
+}
+
+/// Answers a call on routes, and says whether its words were understood.
+fn use_routes<W: Write>(
+    routes: &Routes,
+    structure: &Structure,
+    what: OnRoutes,
+    words: &[&str],
+    answers: &mut Answers<W>,
+) -> bool {
+    match what {
+        OnRoutes::All => {
+            write_routes(answers, structure, routes);
+            true
+        }
+        OnRoutes::One => route_call(routes, structure, words, answers),
+        OnRoutes::Next => next_call(routes, structure, words, answers),
+        OnRoutes::Choose => choose_call(routes, structure, words, answers),
+    }
 }
 
 /// `choose`: the route that is chosen, or `none`.
 fn choose_call<W: Write>(
     routes: &Routes,
     structure: &Structure,
-    line: u32,
     words: &[&str],
     answers: &mut Answers<W>,
-) {
+) -> bool {
     let Some((wish, pick)) = wish_of(structure, words) else {
-        return write_meant(answers, line, CHOOSE);
+        return false;
     };
     match routes.choose(&wish, pick) {
         Some(route) => answers.number_line(route.0 as u64),
         None => answers.line("none"),
     }
+    true
 }
 
 /// A wish and a pick by the words of a call.
@@ -76,20 +119,17 @@ fn wish_of(structure: &Structure, words: &[&str]) -> Option<(Wish, u32)> {
 fn next_call<W: Write>(
     routes: &Routes,
     structure: &Structure,
-    line: u32,
     words: &[&str],
     answers: &mut Answers<W>,
-) {
+) -> bool {
     let Some((route, after)) = place_of(structure, words) else {
-        return write_meant(answers, line, NEXT);
+        return false;
     };
     match routes.next(route, after) {
-        Some(station) => {
-            write_station(answers, structure, station);
-            answers.line("");
-        }
+        Some(station) => write_station_line(answers, structure, station),
         None => answers.line("none"),
     }
+    true
 }
 
 /// A route, and a station where one is given.
@@ -108,17 +148,17 @@ fn place_of(structure: &Structure, words: &[&str]) -> Option<(RouteId, Option<St
 fn route_call<W: Write>(
     routes: &Routes,
     structure: &Structure,
-    line: u32,
     words: &[&str],
     answers: &mut Answers<W>,
-) {
+) -> bool {
     let Some((number, None)) = place_of(structure, words) else {
-        return write_meant(answers, line, ROUTE);
+        return false;
     };
     match routes.get(number) {
         Some(route) => write_stations(answers, structure, route),
         None => answers.line("none"),
     }
+    true
 }
 
 fn write_stations<W: Write>(answers: &mut Answers<W>, structure: &Structure, route: &Route) {

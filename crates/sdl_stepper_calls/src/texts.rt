@@ -40,6 +40,11 @@ pub fn write_item<W: Write>(answers: &mut Answers<W>, structure: &Structure, ite
     answers.text(" ");
     answers.text(signal_name(structure, item.signal.id));
     write_values(answers, structure, item.signal.params.as_slice());
+    write_options(answers, structure, item);
+}
+
+/// Writes what the words of a call may leave out.
+fn write_options<W: Write>(answers: &mut Answers<W>, structure: &Structure, item: &Item) {
     if let Some(to) = item.to {
         write_named_pid(answers, structure, " to ", to);
     }
@@ -83,4 +88,14 @@ pub fn write_station<W: Write>(answers: &mut Answers<W>, structure: &Structure, 
         }
         Station::Outlet => answers.text("outlet"),
     }
+}
+
+/// Writes a station, and ends the line.
+pub fn write_station_line<W: Write>(
+    answers: &mut Answers<W>,
+    structure: &Structure,
+    station: Station,
+) {
+    write_station(answers, structure, station);
+    answers.line("");
 }
