@@ -6,7 +6,7 @@ use sdl_graph::{
 use sdl_graph_binding::AgentSets;
 use sdl_signal::{Pid, SetId, SignalId, Sort, StateId, Value};
 use sdl_transition_behaviour::{Dest, Frame, Offer, Step, Via};
-use std::test::Fail;
+use std::alloc::AllocError;
 
 const PRESS: SignalId = SignalId(0);
 
@@ -79,23 +79,7 @@ impl Agent for Lamp {
     }
 }
 
-#[test]
-fn rows_are_known_from_the_step(rt: HostRuntime) {
-    assert!(rt; transitions_of::<Lamp>() == 4);
-    let mut left = 6;
-    assert!(rt; offer_in::<Lamp>(&mut left).is_none());
-    assert!(rt; left == 2);
-}
-
-#[test]
-fn a_row_may_do_all_that_its_set_may(rt: HostRuntime) {
-    let offer = offer_in::<Lamp>(&mut 3);
-    assert!(rt; offer.is_some_and(|offer| is_of_the_last_row(&offer)));
-    let start = offer_in::<Lamp>(&mut 0);
-    assert!(rt; start.is_some_and(|offer| offer.state.is_none() && offer.signal.is_none()));
-}
-
-/// Whether the offer is that of DONE in the last state.
+/// Whether the offer is that of DONE in the last state: a row may do all that its set may.
 fn is_of_the_last_row(offer: &Offer) -> bool {
     let trigger = match &offer.signal {
         Some(signal) => signal.id == DONE && signal.sorts.as_slice() == [Sort::Integer].as_slice(),
@@ -106,40 +90,43 @@ fn is_of_the_last_row(offer: &Offer) -> bool {
     trigger && lists && sorts && offer.may_stop && offer.state == Some(StateId(2))
 }
 
+/// Rows are known from the step. What has no room has no offer.
 #[test]
-fn what_has_no_room_has_no_offer(rt: HostRuntime) {
-    let offer = OfferBuilder::all(&LISTS, 17, &[]).build();
-    assert!(rt; offer.sets == 0);
+fn offers_are_known_from_the_step(rt: HostRuntime) {
+    assert!(rt; transitions_of::<Lamp>() == 4);
+    let mut left = 6;
+    assert!(rt; offer_in::<Lamp>(&mut left).is_none());
+    assert!(rt; left == 2);
+    let offer = offer_in::<Lamp>(&mut 3);
+    assert!(rt; offer.is_some_and(|offer| is_of_the_last_row(&offer)));
+    let start = offer_in::<Lamp>(&mut 0);
+    assert!(rt; start.is_some_and(|offer| offer.state.is_none() && offer.signal.is_none()));
+    assert!(rt; OfferBuilder::all(&LISTS, 17, &[]).build().sets == 0);
 }
 
+/// A step is made for the state and the signal of the frame. What is missing is told from the implicit transition.
 #[test]
-fn a_step_is_made_for_the_state_and_signal_of_the_frame(rt: HostRuntime) {
-    let frame = Lamp::frame(State::Flashing, DONE, &[Value::Integer(7)]);
+fn a_step_is_made_for_its_frame(rt: HostRuntime) {
+    let mut frame = Lamp::frame(State::Flashing, DONE, &[Value::Integer(7)]);
     let step = answer_of::<Lamp>(&frame);
     assert!(rt; step.actions.len() == 1 && step.vars.len() == 2);
-    let mut start = frame;
-    start.state = None;
-    start.signal = None;
-    assert!(rt; answer_of::<Lamp>(&start).actions.len() == 0);
+    frame.state = None;
+    frame.signal = None;
+    assert!(rt; answer_of::<Lamp>(&frame).actions.len() == 0);
+    let lit = Lamp::frame(State::Lit, PRESS, &[]);
+    assert!(rt; Lamp::step(State::Lit, PRESS, &lit).err() == Some(NoStep::Missing));
+    assert!(rt; Lamp::step(State::Lit, DONE, &lit).err() == Some(NoStep::Implicit));
 }
 
 #[test]
-fn what_is_missing_is_told_from_the_implicit_transition(rt: HostRuntime) {
-    let frame = Lamp::frame(State::Lit, PRESS, &[]);
-    let missing = Lamp::step(State::Lit, PRESS, &frame);
-    assert!(rt; missing.err() == Some(NoStep::Missing));
-    let implicit = Lamp::step(State::Lit, DONE, &frame);
-    assert!(rt; implicit.err() == Some(NoStep::Implicit));
-}
-
-#[test]
-fn a_design_has_the_states_and_saves(rt: HostRuntime) -> Result<(), Fail> {
+fn a_design_has_the_states_and_saves(rt: HostRuntime) -> Result<(), AllocError> {
     let mut sets = AgentSets::new(rt.alloc());
     sets.add::<Lamp>();
     assert!(rt; sets.transitions() == 4);
     let designs = sets.designs()?;
-    assert!(rt; designs.len() == 1);
-    let lamp = &designs[0];
+    let [lamp] = designs.as_slice() else {
+        panic!(rt; "not one set");
+    };
     assert!(rt; lamp.name == "Lamp" && lamp.states.len() == 3);
     assert!(rt; lamp.saves == [(StateId(2), PRESS)].as_slice());
     Ok(())

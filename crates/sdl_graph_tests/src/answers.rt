@@ -1,25 +1,27 @@
 //! What marked answers are, and what is marked.
-use super::breaking::{CONFORMING, NUMBERS, breach, breaking_frame, offer, step};
-use sdl_graph::{StepBuilder, no_step};
+use super::breaking::{STEPS, breaking_frame, offer, step};
 use sdl_graph_binding::{Breaches, Broken, keep_to_offer};
-use sdl_signal::{SetId, SignalId, StateId, Value};
+use sdl_signal::StateId;
 use sdl_transition_behaviour::{Next, Step};
 use sdl_transition_conformance::{Breach, first_broken};
-use std::test::Fail;
+use std::alloc::{AllocError, Global};
+use std::process::Abort;
+
+/// The number of the step that conforms to the offer.
+const CONFORMING: u32 = 0;
 
 /// The answer of this number, kept to its offer.
 fn kept_answer(number: u32, breaches: &Breaches) -> Step {
-    let frame = breaking_frame();
-    let mut answer = step(number, &frame);
-    keep_to_offer(number, &offer(), &frame, &mut answer, breaches);
+    let mut answer = step(number);
+    keep_to_offer(number, &offer(), &breaking_frame(), &mut answer, breaches);
     answer
 }
 
 #[test]
-fn a_conforming_answer_stands_unmarked(rt: HostRuntime) -> Result<(), Fail> {
+fn a_conforming_answer_stands_unmarked(rt: HostRuntime) -> Result<(), AllocError> {
     let breaches = Breaches::new(rt.alloc())?;
     let answer = kept_answer(CONFORMING, &breaches);
-    let own = step(CONFORMING, &breaking_frame());
+    let own = step(CONFORMING);
     assert!(rt; answer.actions.as_slice() == own.actions.as_slice());
     assert!(rt; answer.actions.len() == 2);
     assert!(rt; answer.vars.as_slice() == own.vars.as_slice());
@@ -28,29 +30,47 @@ fn a_conforming_answer_stands_unmarked(rt: HostRuntime) -> Result<(), Fail> {
     Ok(())
 }
 
-/// Each is replaced by the step that does nothing, and marked.
+/// The answer of this number is replaced by the step that does nothing, and marked.
+fn does_nothing(
+    rt: &impl Abort,
+    alloc: Global,
+    number: u32,
+    breach: Breach,
+) -> Result<(), AllocError> {
+    let breaches = Breaches::new(alloc)?;
+    let answer = kept_answer(number, &breaches);
+    assert!(rt; answer.actions.is_empty(), "step {number}");
+    assert!(rt; answer.vars.as_slice() == breaking_frame().vars.as_slice());
+    assert!(rt; answer.next == Next::State(StateId(0)));
+    let wanted = Broken {
+        first: number,
+        breach,
+        count: 1,
+    };
+    assert!(rt; breaches.broken() == Some(wanted), "step {number}");
+    Ok(())
+}
+
+/// The first part that the offer does not allow is named.
 #[test]
-fn a_broken_answer_does_nothing(rt: HostRuntime) -> Result<(), Fail> {
-    let frame = breaking_frame();
-    for number in 1..NUMBERS {
-        let breaches = Breaches::new(rt.alloc())?;
-        let answer = kept_answer(number, &breaches);
-        assert_eq!(rt; answer.actions.len(), 0, "transition {number}");
-        assert!(rt; answer.vars.as_slice() == frame.vars.as_slice());
-        assert!(rt; answer.next == Next::State(StateId(0)));
-        let wanted = Some(Broken {
-            first: number,
-            breach: breach(number),
-            count: 1,
-        });
-        assert_eq!(rt; breaches.broken(), wanted, "transition {number}");
+fn a_broken_answer_does_nothing(rt: HostRuntime) -> Result<(), AllocError> {
+    let mut number: u32 = 0;
+    for (_, breach) in STEPS.iter() {
+        assert!(rt;
+            first_broken(&offer(), &step(number)) == *breach,
+            "step {number}"
+        );
+        if let Some(breach) = breach {
+            does_nothing(&rt, rt.alloc(), number, *breach)?;
+        }
+        number = number.saturating_add(1);
     }
     Ok(())
 }
 
 /// Whichever share the answers have, the first is named, and all are counted.
 #[test]
-fn the_first_is_named_and_all_are_counted(rt: HostRuntime) -> Result<(), Fail> {
+fn the_first_is_named_and_all_are_counted(rt: HostRuntime) -> Result<(), AllocError> {
     let breaches = Breaches::new(rt.alloc())?;
     let share = breaches.share()?;
     for number in [CONFORMING, 9, 3, CONFORMING, 9, 1] {
@@ -59,7 +79,7 @@ fn the_first_is_named_and_all_are_counted(rt: HostRuntime) -> Result<(), Fail> {
     }
     let wanted = Some(Broken {
         first: 9,
-        breach: breach(9),
+        breach: Breach::Variable(1),
         count: 4,
     });
     assert!(rt; breaches.broken() == wanted);
@@ -68,7 +88,7 @@ fn the_first_is_named_and_all_are_counted(rt: HostRuntime) -> Result<(), Fail> {
 }
 
 #[test]
-fn the_least_and_the_greatest_number_are_named(rt: HostRuntime) -> Result<(), Fail> {
+fn the_least_and_the_greatest_number_are_named(rt: HostRuntime) -> Result<(), AllocError> {
     for number in [0, u32::MAX] {
         let breaches = Breaches::new(rt.alloc())?;
         breaches.note(number, Breach::Stop);
@@ -80,21 +100,4 @@ fn the_least_and_the_greatest_number_are_named(rt: HostRuntime) -> Result<(), Fa
         assert!(rt; breaches.broken() == wanted);
     }
     Ok(())
-}
-
-/// Of a step with several such parts the first action is named, then the end, then the first variable.
-#[test]
-fn the_first_part_of_a_broken_step_is_named(rt: HostRuntime) {
-    let frame = breaking_frame();
-    let far = StepBuilder::next_state(&frame, StateId(2)).set_variable(0, Value::Integer(1));
-    let step = far.create(SetId(1)).create(SetId(0)).build();
-    assert!(rt; first_broken(&offer(), &step) == Some(Breach::Create(SetId(0))));
-    let far = StepBuilder::next_state(&frame, StateId(2)).set_variable(0, Value::Integer(1));
-    let step = far.create(SetId(1)).build();
-    assert!(rt; first_broken(&offer(), &step) == Some(Breach::NextState(StateId(2))));
-    let near = StepBuilder::next_state(&frame, StateId(1)).set_variable(1, Value::Boolean(true));
-    let step = near.set_variable(0, Value::Integer(1)).build();
-    assert!(rt; first_broken(&offer(), &step) == Some(Breach::Variable(0)));
-    let none = no_step();
-    assert!(rt; first_broken(&offer(), &none) == Some(Breach::NoInstance(SignalId(0))));
 }

@@ -1,7 +1,8 @@
 //! Steps that break their offer, each number in one way.
-use super::sample::values_of;
-use sdl_graph::{OfferBuilder, StepBuilder};
-use sdl_signal::{GateId, Pid, SetId, Signal, SignalId, Sort, StateId, Value};
+use super::sample::frame_on;
+use sdl_graph::no_step;
+use sdl_signal::{GateId, Pid, SetId, SignalId, Sort, StateId, Value};
+use sdl_test_systems::{Doing, Doings, End, Part, Parts, offer_of, step_of};
 use sdl_transition_behaviour::{Dest, Frame, Offer, Step, Via};
 use sdl_transition_conformance::Breach;
 
@@ -11,110 +12,209 @@ const ANSWER: SignalId = SignalId(1);
 
 const NOTICE: SignalId = SignalId(2);
 
-const FIRST: StateId = StateId(0);
+const STRANGER: Pid = Pid::Inst(SetId(2), 1);
 
-const SECOND: StateId = StateId(1);
+/// In a structure of two sets: an answer by any way, a notice by gate 0, a create of set 1, and two next states.
+static OFFER: Parts = Parts {
+    sets: 2,
+    vars: &[Sort::Pid, Sort::Integer],
+    parts: &[
+        (1, Part::Row(StateId(0), ASK, &[Sort::Integer])),
+        (1, Part::Output(ANSWER, &[Sort::Integer], Via::Any)),
+        (1, Part::Output(NOTICE, &[Sort::Pid], Via::Gate(GateId(0)))),
+        (1, Part::Create(SetId(1))),
+        (1, Part::Next(StateId(0))),
+        (1, Part::Next(StateId(1))),
+    ],
+};
 
-/// The step of this number conforms to the offer; those of all others below `NUMBERS` break it.
-pub const CONFORMING: u32 = 0;
+pub fn offer() -> Offer {
+    offer_of(&OFFER)
+}
 
-/// How many numbers there are.
-pub const NUMBERS: u32 = 12;
+/// Steps on `ASK` with 7, each with what of it the offer does not allow.
+pub static STEPS: [(Doings, Option<Breach>); 16] = [
+    // It conforms.
+    (
+        Doings {
+            end: End::Next(1),
+            doings: &[
+                (
+                    1,
+                    Doing::Output(ANSWER, &[Value::Integer(7)], Dest::Sender, Via::Any),
+                ),
+                (1, Doing::Create(SetId(1))),
+                (1, Doing::Variable(1, Value::Integer(6))),
+            ],
+        },
+        None,
+    ),
+    // another gate
+    (
+        Doings {
+            end: End::Next(1),
+            doings: &[(
+                1,
+                Doing::Output(
+                    NOTICE,
+                    &[Value::Pid(Pid::Null)],
+                    Dest::Anywhere,
+                    Via::Gate(GateId(1)),
+                ),
+            )],
+        },
+        Some(Breach::Output(NOTICE, Via::Gate(GateId(1)))),
+    ),
+    // no gate
+    (
+        Doings {
+            end: End::Next(1),
+            doings: &[(
+                1,
+                Doing::Output(NOTICE, &[Value::Pid(Pid::Null)], Dest::Anywhere, Via::Any),
+            )],
+        },
+        Some(Breach::Output(NOTICE, Via::Any)),
+    ),
+    // another signal
+    (
+        Doings {
+            end: End::Next(1),
+            doings: &[(
+                1,
+                Doing::Output(ASK, &[Value::Integer(7)], Dest::Sender, Via::Any),
+            )],
+        },
+        Some(Breach::Output(ASK, Via::Any)),
+    ),
+    // another sort
+    (
+        Doings {
+            end: End::Next(1),
+            doings: &[(
+                1,
+                Doing::Output(ANSWER, &[Value::Boolean(true)], Dest::Sender, Via::Any),
+            )],
+        },
+        Some(Breach::Output(ANSWER, Via::Any)),
+    ),
+    // a parameter too few
+    (
+        Doings {
+            end: End::Next(1),
+            doings: &[(1, Doing::Output(ANSWER, &[], Dest::Sender, Via::Any))],
+        },
+        Some(Breach::Output(ANSWER, Via::Any)),
+    ),
+    // to an instance of a set that is not there
+    (
+        Doings {
+            end: End::Next(1),
+            doings: &[(
+                1,
+                Doing::Output(ANSWER, &[Value::Integer(7)], Dest::Pid(STRANGER), Via::Any),
+            )],
+        },
+        Some(Breach::NoInstance(ANSWER)),
+    ),
+    // with such a Pid
+    (
+        Doings {
+            end: End::Next(1),
+            doings: &[(
+                1,
+                Doing::Output(
+                    NOTICE,
+                    &[Value::Pid(STRANGER)],
+                    Dest::Anywhere,
+                    Via::Gate(GateId(0)),
+                ),
+            )],
+        },
+        Some(Breach::NoInstance(NOTICE)),
+    ),
+    // another create
+    (
+        Doings {
+            end: End::Next(1),
+            doings: &[(1, Doing::Create(SetId(0)))],
+        },
+        Some(Breach::Create(SetId(0))),
+    ),
+    // a variable of another sort
+    (
+        Doings {
+            end: End::Next(1),
+            doings: &[(1, Doing::Variable(1, Value::Boolean(true)))],
+        },
+        Some(Breach::Variable(1)),
+    ),
+    // another next state
+    (
+        Doings {
+            end: End::Next(2),
+            doings: &[],
+        },
+        Some(Breach::NextState(StateId(2))),
+    ),
+    // a stop
+    (
+        Doings {
+            end: End::Stop,
+            doings: &[],
+        },
+        Some(Breach::Stop),
+    ),
+    // Of several such parts the first action is named, then the end, then the first variable.
+    (
+        Doings {
+            end: End::Next(2),
+            doings: &[
+                (1, Doing::Variable(0, Value::Integer(1))),
+                (1, Doing::Create(SetId(1))),
+                (1, Doing::Create(SetId(0))),
+            ],
+        },
+        Some(Breach::Create(SetId(0))),
+    ),
+    (
+        Doings {
+            end: End::Next(2),
+            doings: &[
+                (1, Doing::Variable(0, Value::Integer(1))),
+                (1, Doing::Create(SetId(1))),
+            ],
+        },
+        Some(Breach::NextState(StateId(2))),
+    ),
+    (
+        Doings {
+            end: End::Next(1),
+            doings: &[
+                (1, Doing::Variable(1, Value::Boolean(true))),
+                (1, Doing::Variable(0, Value::Integer(1))),
+            ],
+        },
+        Some(Breach::Variable(0)),
+    ),
+    (
+        Doings {
+            end: End::Nothing,
+            doings: &[],
+        },
+        Some(Breach::NoInstance(SignalId(0))),
+    ),
+];
 
 /// An instance of set 0, in the first state, on `ASK` with 7.
 pub fn breaking_frame() -> Frame {
-    Frame {
-        self_pid: Pid::Inst(SetId(0), 1),
-        parent: Pid::Null,
-        offspring: Pid::Null,
-        sender: Pid::Env,
-        state: Some(FIRST),
-        vars: values_of(&[Value::Pid(Pid::Env), Value::Integer(5)]),
-        signal: Some(Signal {
-            id: ASK,
-            params: values_of(&[Value::Integer(7)]),
-        }),
-    }
+    frame_on(&[Value::Integer(7)])
 }
 
-/// In a structure of two sets: an answer by any way, a notice by gate 0, a create of set 1, and two next states.
-pub fn offer() -> Offer {
-    OfferBuilder::start(2, &[Sort::Pid, Sort::Integer])
-        .row(FIRST, ASK, &[Sort::Integer])
-        .output(ANSWER, &[Sort::Integer], Via::Any)
-        .output(NOTICE, &[Sort::Pid], Via::Gate(GateId(0)))
-        .create(SetId(1))
-        .next_state(FIRST)
-        .next_state(SECOND)
-        .build()
-}
-
-pub fn step(number: u32, frame: &Frame) -> Step {
-    let second = StepBuilder::next_state(frame, SECOND);
-    let seven = [Value::Integer(7)];
-    let stranger = Pid::Inst(SetId(2), 1);
-    match number {
-        CONFORMING => second
-            .output(ANSWER, &seven, Dest::Sender, Via::Any)
-            .create(SetId(1))
-            .set_variable(1, Value::Integer(6))
-            .build(),
-        // another gate
-        1 => second
-            .output(
-                NOTICE,
-                &[Value::Pid(Pid::Null)],
-                Dest::Anywhere,
-                Via::Gate(GateId(1)),
-            )
-            .build(),
-        // no gate
-        2 => second
-            .output(NOTICE, &[Value::Pid(Pid::Null)], Dest::Anywhere, Via::Any)
-            .build(),
-        // another signal
-        3 => second.output(ASK, &seven, Dest::Sender, Via::Any).build(),
-        // another sort
-        4 => second
-            .output(ANSWER, &[Value::Boolean(true)], Dest::Sender, Via::Any)
-            .build(),
-        // a parameter too few
-        5 => second.output(ANSWER, &[], Dest::Sender, Via::Any).build(),
-        // to an instance of a set that is not there
-        6 => second
-            .output(ANSWER, &seven, Dest::Pid(stranger), Via::Any)
-            .build(),
-        // with such a Pid
-        7 => second
-            .output(
-                NOTICE,
-                &[Value::Pid(stranger)],
-                Dest::Anywhere,
-                Via::Gate(GateId(0)),
-            )
-            .build(),
-        // another create
-        8 => second.create(SetId(0)).build(),
-        // a variable of another sort
-        9 => second.set_variable(1, Value::Boolean(true)).build(),
-        // another next state
-        10 => StepBuilder::next_state(frame, StateId(2)).build(),
-        _ => StepBuilder::stop(frame).build(),
-    }
-}
-
-/// What of the step of this number the offer does not allow.
-pub fn breach(number: u32) -> Breach {
-    match number {
-        1 => Breach::Output(NOTICE, Via::Gate(GateId(1))),
-        2 => Breach::Output(NOTICE, Via::Any),
-        3 => Breach::Output(ASK, Via::Any),
-        4 | 5 => Breach::Output(ANSWER, Via::Any),
-        6 => Breach::NoInstance(ANSWER),
-        7 => Breach::NoInstance(NOTICE),
-        8 => Breach::Create(SetId(0)),
-        9 => Breach::Variable(1),
-        10 => Breach::NextState(StateId(2)),
-        _ => Breach::Stop,
+/// The step of this number.
+pub fn step(number: u32) -> Step {
+    match STEPS.get(number as usize) {
+        Some((doings, _)) => step_of(&breaking_frame(), doings),
+        None => no_step(),
     }
 }

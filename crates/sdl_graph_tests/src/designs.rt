@@ -1,242 +1,338 @@
 //! Binding by names, and the first fault of a design.
-use super::pair::{ASKER, DESIGN, PAIR, TELLER};
-use super::storing::{BoundSet, Unfit, bind_pair};
-use sdl_graph_binding::{Design, GraphFault, Misfit, SetDesign};
+use super::pair::{ASKER, DESIGN, PAIR, TELLER, USES};
+use super::storing::{BoundSet, bind_pair};
+use sdl_graph_binding::{Design, GraphFault, Misfit, SetDesign, Use};
 use sdl_signal::{SetId, SignalId, StateId, Value};
 use sdl_transition::BindFault;
 use sdl_transition_behaviour::Kind;
 use std::alloc::Global;
 use std::test::Fail;
 
-const NUMBERS: [u32; 4] = [0, 1, 2, 3];
-
-/// The sets of the design are those of its names: the teller, set 1, has the first two transitions.
-#[test]
-fn sets_go_by_their_names(rt: HostRuntime) -> Result<(), Fail> {
-    let sets = bind_pair(rt.alloc(), PAIR, &DESIGN, NUMBERS.as_slice())?;
-    let teller = BoundSet {
-        set: 1,
-        start: 0,
-        row: Some(1),
-        counts: (1, 2, 1, 0),
-    };
-    let asker = BoundSet {
-        set: 0,
-        start: 2,
-        row: Some(3),
-        counts: (1, 1, 0, 0),
-    };
-    assert!(rt; sets.len() == 2);
-    assert!(rt; sets.as_slice().contains(&teller));
-    assert!(rt; sets.as_slice().contains(&asker));
-    Ok(())
+/// A design with the numbers of the transitions that are bound by it, and the fault that is named.
+#[derive(Clone, Copy)]
+struct Case {
+    uses: &'static [Use<'static>],
+    sets: &'static [SetDesign<'static>],
+    numbers: &'static [u32],
+    fault: Option<GraphFault>,
 }
+
+const PLAIN: Case = Case {
+    uses: USES,
+    sets: &[TELLER, ASKER],
+    numbers: &[0, 1, 2, 3],
+    fault: None,
+};
+
+static CASES: [Case; 22] = [
+    // A number without an end, and one without an offer.
+    Case {
+        numbers: &[0, 4],
+        fault: Some(GraphFault::NoEnd(4)),
+        ..PLAIN
+    },
+    Case {
+        numbers: &[0, 5],
+        fault: Some(GraphFault::NoOffer(5)),
+        ..PLAIN
+    },
+    // A start in the place of a row.
+    Case {
+        numbers: &[0, 2, 2, 3],
+        fault: Some(GraphFault::NoTrigger(2)),
+        ..PLAIN
+    },
+    // A set that is not there. The place is that of the design.
+    Case {
+        sets: &[
+            TELLER,
+            SetDesign {
+                name: "Askers",
+                ..ASKER
+            },
+        ],
+        fault: Some(GraphFault::NoSet(1)),
+        ..PLAIN
+    },
+    Case {
+        sets: &[
+            TELLER,
+            SetDesign {
+                name: "asker",
+                ..ASKER
+            },
+        ],
+        fault: Some(GraphFault::NoSet(1)),
+        ..PLAIN
+    },
+    Case {
+        sets: &[TELLER, SetDesign { name: "", ..ASKER }],
+        fault: Some(GraphFault::NoSet(1)),
+        ..PLAIN
+    },
+    Case {
+        sets: &[TELLER, SetDesign { name: "B", ..ASKER }],
+        fault: Some(GraphFault::NoSet(1)),
+        ..PLAIN
+    },
+    // Bad states.
+    Case {
+        sets: &[
+            SetDesign {
+                states: &["idle", "1"],
+                ..TELLER
+            },
+            ASKER,
+        ],
+        fault: Some(GraphFault::BadStates(0)),
+        ..PLAIN
+    },
+    Case {
+        sets: &[
+            SetDesign {
+                states: &[
+                    "s0", "s1", "s2", "s3", "s4", "s5", "s6", "s7", "s8", "s9", "s10", "s11",
+                    "s12", "s13", "s14", "s15", "s16",
+                ],
+                ..TELLER
+            },
+            ASKER,
+        ],
+        fault: Some(GraphFault::BadStates(0)),
+        ..PLAIN
+    },
+    Case {
+        sets: &[
+            SetDesign {
+                states: &[
+                    "s0", "s1", "s2", "s3", "s4", "s5", "s6", "s7", "s8", "s9", "s10", "s11",
+                    "s12", "s13", "s14", "s15",
+                ],
+                ..TELLER
+            },
+            ASKER,
+        ],
+        fault: None,
+        ..PLAIN
+    },
+    // Nine variables are too many.
+    Case {
+        sets: &[
+            SetDesign {
+                variables: &[Value::Integer(0); 9],
+                ..TELLER
+            },
+            ASKER,
+        ],
+        fault: Some(GraphFault::ManyVariables(0)),
+        ..PLAIN
+    },
+    // Saves of the asker, which is set 0. It has a row for `ask` in its one state.
+    Case {
+        sets: &[
+            TELLER,
+            SetDesign {
+                saves: &[(StateId(0), SignalId(0))],
+                ..ASKER
+            },
+        ],
+        fault: Some(GraphFault::Bind(
+            BindFault::TwoRows(SetId(0)),
+            Some(Misfit::SavedTwice(StateId(0), SignalId(0))),
+        )),
+        ..PLAIN
+    },
+    Case {
+        sets: &[
+            TELLER,
+            SetDesign {
+                saves: &[(StateId(0), SignalId(2))],
+                ..ASKER
+            },
+        ],
+        fault: Some(GraphFault::Bind(
+            BindFault::WrongName(SetId(0)),
+            Some(Misfit::Unmeant(Kind::Signal, 2)),
+        )),
+        ..PLAIN
+    },
+    Case {
+        sets: &[
+            TELLER,
+            SetDesign {
+                saves: &[(StateId(1), SignalId(1))],
+                ..ASKER
+            },
+        ],
+        fault: Some(GraphFault::Bind(
+            BindFault::UnknownState(SetId(0)),
+            Some(Misfit::SavingState(StateId(1))),
+        )),
+        ..PLAIN
+    },
+    Case {
+        sets: &[
+            TELLER,
+            SetDesign {
+                saves: &[(StateId(0), SignalId(1))],
+                ..ASKER
+            },
+        ],
+        fault: None,
+        ..PLAIN
+    },
+    // A use without a name.
+    Case {
+        uses: &[(Kind::Set, 0, "no name")],
+        fault: Some(GraphFault::BadUses),
+        ..PLAIN
+    },
+    // Transitions that are too few or too many.
+    Case {
+        numbers: &[0, 1, 2],
+        fault: Some(GraphFault::FewTransitions(SetId(0))),
+        ..PLAIN
+    },
+    Case {
+        numbers: &[],
+        fault: Some(GraphFault::FewTransitions(SetId(1))),
+        ..PLAIN
+    },
+    Case {
+        numbers: &[0, 1, 2, 3, 3],
+        fault: Some(GraphFault::ManyTransitions),
+        ..PLAIN
+    },
+    Case {
+        sets: &[
+            SetDesign {
+                transitions: 0,
+                ..TELLER
+            },
+            ASKER,
+        ],
+        fault: Some(GraphFault::FewTransitions(SetId(1))),
+        ..PLAIN
+    },
+    // A fault of binding is passed on.
+    Case {
+        sets: &[TELLER],
+        numbers: &[0, 1],
+        fault: Some(GraphFault::Bind(BindFault::NoBehaviour(SetId(0)), None)),
+        ..PLAIN
+    },
+    Case {
+        uses: &[
+            (Kind::Set, 0, "Asker"),
+            (Kind::Set, 1, "Teller"),
+            (Kind::Signal, 0, "ask"),
+        ],
+        fault: Some(GraphFault::Bind(
+            BindFault::WrongName(SetId(1)),
+            Some(Misfit::Unused(1, Kind::Signal, 1)),
+        )),
+        ..PLAIN
+    },
+];
 
 /// The fault of binding these transitions by the design, and None where they are bound.
 fn fault_of(alloc: Global, design: &Design, numbers: &[u32]) -> Option<GraphFault> {
     match bind_pair(alloc, PAIR, design, numbers) {
         Ok(_) => None,
-        Err(Unfit::Graph(fault)) => Some(fault),
-        Err(Unfit::Structure(_)) => Some(GraphFault::Memory),
+        Err(fault) => Some(fault),
     }
 }
 
-fn fault_of_sets(alloc: Global, sets: &[SetDesign], numbers: &[u32]) -> Option<GraphFault> {
+#[test]
+fn the_first_fault_of_a_design_is_named(rt: HostRuntime) {
+    for (place, case) in CASES.iter().enumerate() {
+        let design = Design {
+            uses: case.uses,
+            sets: case.sets,
+        };
+        let fault = fault_of(rt.alloc(), &design, case.numbers);
+        assert!(rt; fault == case.fault, "case {place}");
+    }
+}
+
+/// The fault of these sets.
+fn fault_of_sets(alloc: Global, sets: &[SetDesign]) -> Option<GraphFault> {
     let design = Design {
         uses: DESIGN.uses,
         sets,
     };
-    fault_of(alloc, &design, numbers)
+    fault_of(alloc, &design, &[0, 1, 2, 3])
 }
 
-#[test]
-fn a_number_without_an_end_is_named(rt: HostRuntime) -> Result<(), Fail> {
-    for (number, wanted) in [(4, GraphFault::NoEnd(4)), (5, GraphFault::NoOffer(5))] {
-        let fault = fault_of(rt.alloc(), &DESIGN, [0, number].as_slice());
-        assert!(rt; fault == Some(wanted));
-    }
-    Ok(())
-}
-
-#[test]
-fn a_start_in_the_place_of_a_row_is_named(rt: HostRuntime) -> Result<(), Fail> {
-    let fault = fault_of(rt.alloc(), &DESIGN, [0, 2, 2, 3].as_slice());
-    assert!(rt; fault == Some(GraphFault::NoTrigger(2)));
-    Ok(())
-}
-
-/// The place is that of the design.
-#[test]
-fn a_set_that_is_not_there_is_named(rt: HostRuntime) -> Result<(), Fail> {
-    for name in ["Askers", "asker", "", "B"] {
-        let stranger = SetDesign { name, ..ASKER };
-        let fault = fault_of_sets(rt.alloc(), &[TELLER, stranger], NUMBERS.as_slice());
-        assert_eq!(rt; fault, Some(GraphFault::NoSet(1)), "{name}");
-    }
-    Ok(())
-}
-
-const MANY: [&str; 17] = [
-    "s0", "s1", "s2", "s3", "s4", "s5", "s6", "s7", "s8", "s9", "s10", "s11", "s12", "s13", "s14",
-    "s15", "s16",
-];
-
-/// The fault of a teller with these states.
-fn fault_of_states(alloc: Global, states: &[&str]) -> Option<GraphFault> {
-    let teller = SetDesign { states, ..TELLER };
-    fault_of_sets(alloc, &[teller, ASKER], NUMBERS.as_slice())
-}
-
-#[test]
-fn bad_states_are_named(rt: HostRuntime) -> Result<(), Fail> {
-    let no_name = ["idle", "1"];
-    let fault = fault_of_states(rt.alloc(), no_name.as_slice());
-    assert!(rt; fault == Some(GraphFault::BadStates(0)));
-    let fault = fault_of_states(rt.alloc(), MANY.as_slice());
-    assert!(rt; fault == Some(GraphFault::BadStates(0)));
-    let fault = fault_of_states(rt.alloc(), &MANY[..16]);
-    assert!(rt; fault == None);
-    Ok(())
-}
-
-#[test]
-fn nine_variables_are_too_many(rt: HostRuntime) -> Result<(), Fail> {
-    let nine = SetDesign {
-        variables: &[Value::Integer(0); 9],
-        ..TELLER
-    };
-    let fault = fault_of_sets(rt.alloc(), &[nine, ASKER], NUMBERS.as_slice());
-    assert!(rt; fault == Some(GraphFault::ManyVariables(0)));
-    Ok(())
-}
-
-/// The fault of an asker with these saves.
+/// The fault of an asker with these saves. It is the second set of the design, and set 0 of the structure.
 fn fault_of_saves(alloc: Global, saves: &[(StateId, SignalId)]) -> Option<GraphFault> {
     let asker = SetDesign { saves, ..ASKER };
-    fault_of_sets(alloc, &[TELLER, asker], NUMBERS.as_slice())
+    fault_of_sets(alloc, &[TELLER, asker])
 }
 
-/// The asker is set 0. It has a row for `ask` in its one state.
 #[test]
-fn saves_that_do_not_fit_are_named(rt: HostRuntime) -> Result<(), Fail> {
+fn saves_are_neither_too_many_nor_twice(rt: HostRuntime) {
     let many = [(StateId(0), SignalId(1)); 257];
     let fault = fault_of_saves(rt.alloc(), many.as_slice());
     assert!(rt; fault == Some(GraphFault::ManySaves(SetId(0))));
-    for (saves, wanted) in [
-        (
-            &many[..256],
-            Some((
-                BindFault::TwoRows(SetId(0)),
-                Some(Misfit::SavedTwice(StateId(0), SignalId(1))),
-            )),
-        ),
-        (
-            &[(StateId(0), SignalId(0))],
-            Some((
-                BindFault::TwoRows(SetId(0)),
-                Some(Misfit::SavedTwice(StateId(0), SignalId(0))),
-            )),
-        ),
-        (
-            &[(StateId(0), SignalId(2))],
-            Some((
-                BindFault::WrongName(SetId(0)),
-                Some(Misfit::Unmeant(Kind::Signal, 2)),
-            )),
-        ),
-        (
-            &[(StateId(1), SignalId(1))],
-            Some((
-                BindFault::UnknownState(SetId(0)),
-                Some(Misfit::SavingState(StateId(1))),
-            )),
-        ),
-        (&many[..1], None),
-    ] {
-        let fault = fault_of_saves(rt.alloc(), saves);
-        let wanted = wanted.map(|(fault, misfit)| GraphFault::Bind(fault, misfit));
-        assert!(rt; fault == wanted);
-    }
-    Ok(())
+    let twice = Some(Misfit::SavedTwice(StateId(0), SignalId(1)));
+    let fault = fault_of_saves(rt.alloc(), &many[..256]);
+    assert!(rt; fault == Some(GraphFault::Bind(BindFault::TwoRows(SetId(0)), twice)));
 }
 
-/// What is saved is bound with its set.
+const TOLD: BoundSet = BoundSet {
+    set: 1,
+    start: 0,
+    row: Some(1),
+    counts: (1, 2, 1, 0),
+};
+
+const ASKED: BoundSet = BoundSet {
+    set: 0,
+    start: 2,
+    row: Some(3),
+    counts: (1, 1, 0, 0),
+};
+
+static SAVING: Design = Design {
+    uses: USES,
+    sets: &[
+        SetDesign {
+            saves: &[(StateId(1), SignalId(0)), (StateId(0), SignalId(1))],
+            ..TELLER
+        },
+        ASKER,
+    ],
+};
+
+/// Whether these are the sets, in any order.
+fn are(sets: &[BoundSet], wanted: [BoundSet; 2]) -> bool {
+    sets.len() == 2 && sets.contains(&wanted[0]) && sets.contains(&wanted[1])
+}
+
+/// The sets of the design are those of its names: the teller, set 1, has the first two transitions. What is saved is bound with its
+/// set.
 #[test]
-fn saves_are_bound(rt: HostRuntime) -> Result<(), Fail> {
-    let teller = SetDesign {
-        saves: &[(StateId(1), SignalId(0)), (StateId(0), SignalId(1))],
-        ..TELLER
-    };
-    let design = Design {
-        sets: &[teller, ASKER],
-        ..DESIGN
-    };
-    let sets = bind_pair(rt.alloc(), PAIR, &design, NUMBERS.as_slice())?;
+fn sets_go_by_their_names(rt: HostRuntime) -> Result<(), Fail> {
+    let bound = bind_pair(rt.alloc(), PAIR, &DESIGN, &[0, 1, 2, 3])?;
+    assert!(rt; are(bound.as_slice(), [TOLD, ASKED]));
     let saving = BoundSet {
-        set: 1,
-        start: 0,
-        row: Some(1),
         counts: (1, 2, 1, 2),
+        ..TOLD
     };
-    assert!(rt; sets.as_slice().contains(&saving));
-    Ok(())
-}
-
-#[test]
-fn a_use_without_a_name_is_bad(rt: HostRuntime) -> Result<(), Fail> {
-    let design = Design {
-        uses: &[(Kind::Set, 0, "no name")],
-        ..DESIGN
-    };
-    let fault = fault_of(rt.alloc(), &design, NUMBERS.as_slice());
-    assert!(rt; fault == Some(GraphFault::BadUses));
-    Ok(())
-}
-
-#[test]
-fn transitions_are_neither_too_few_nor_too_many(rt: HostRuntime) -> Result<(), Fail> {
-    let fault = fault_of(rt.alloc(), &DESIGN, [0, 1, 2].as_slice());
-    assert!(rt; fault == Some(GraphFault::FewTransitions(SetId(0))));
-    let fault = fault_of(rt.alloc(), &DESIGN, [].as_slice());
-    assert!(rt; fault == Some(GraphFault::FewTransitions(SetId(1))));
-    let fault = fault_of(rt.alloc(), &DESIGN, [0, 1, 2, 3, 3].as_slice());
-    assert!(rt; fault == Some(GraphFault::ManyTransitions));
-    let none = SetDesign {
-        transitions: 0,
-        ..TELLER
-    };
-    let fault = fault_of_sets(rt.alloc(), &[none, ASKER], NUMBERS.as_slice());
-    assert!(rt; fault == Some(GraphFault::FewTransitions(SetId(1))));
-    Ok(())
-}
-
-#[test]
-fn a_fault_of_binding_is_passed_on(rt: HostRuntime) -> Result<(), Fail> {
-    let fault = fault_of_sets(rt.alloc(), &[TELLER], [0, 1].as_slice());
-    let wanted = GraphFault::Bind(BindFault::NoBehaviour(SetId(0)), None);
-    assert!(rt; fault == Some(wanted));
-    let design = Design {
-        uses: &DESIGN.uses[..3],
-        ..DESIGN
-    };
-    let fault = fault_of(rt.alloc(), &design, NUMBERS.as_slice());
-    let misfit = Some(Misfit::Unused(1, Kind::Signal, 1));
-    let wanted = GraphFault::Bind(BindFault::WrongName(SetId(1)), misfit);
-    assert!(rt; fault == Some(wanted));
+    let saved = bind_pair(rt.alloc(), PAIR, &SAVING, &[0, 1, 2, 3])?;
+    assert!(rt; are(saved.as_slice(), [saving, ASKED]));
     Ok(())
 }
 
 // Run it with each allocation refused in turn: then either the pair is bound, or memory is named.
 #[test]
-fn a_refusal_of_memory_is_named(rt: HostRuntime) -> Result<(), Fail> {
-    let named = match bind_pair(rt.alloc(), PAIR, &DESIGN, NUMBERS.as_slice()) {
+fn a_refusal_of_memory_is_named(rt: HostRuntime) {
+    let named = match bind_pair(rt.alloc(), PAIR, &DESIGN, &[0, 1, 2, 3]) {
         Ok(sets) => sets.len() == 2,
-        Err(Unfit::Graph(fault)) => matches!(
-            fault,
-            GraphFault::Memory | GraphFault::Bind(BindFault::Memory, None)
-        ),
-        Err(Unfit::Structure(stop)) => matches!(stop, sdl_test_systems::Stop::Memory),
+        Err(GraphFault::Memory) => true,
+        Err(GraphFault::Bind(fault, misfit)) => fault == BindFault::Memory && misfit.is_none(),
+        Err(_) => false,
     };
     assert!(rt; named);
-    Ok(())
 }

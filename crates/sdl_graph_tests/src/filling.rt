@@ -1,14 +1,14 @@
 //! A step that is put together where it stands is the one that a builder builds, part by part.
 use super::sample::{ANSWER, sample_frame};
-use sdl_graph::{OfferBuilder, StepBuilder, in_place};
+use sdl_graph::{StepBuilder, in_place};
 use sdl_signal::{Pid, SetId, Sort, StateId, Value};
+use sdl_test_systems::{Part, Parts, offer_of};
 use sdl_transition_behaviour::{Dest, Frame, Step, Via};
 use sdl_transition_conformance::conforms;
-use std::test::Fail;
 
 /// What is put into a step: so many outputs with so many parameters each, so many creates, and a variable at this place.
-#[derive(Clone, Copy, Debug)]
-struct Parts {
+#[derive(Clone, Copy)]
+struct Filling {
     outputs: usize,
     parameters: usize,
     creates: usize,
@@ -16,112 +16,113 @@ struct Parts {
     stops: bool,
 }
 
-const FIVE: [Value; 5] = [Value::Integer(9); 5];
+static FIVE: [Value; 5] = [Value::Integer(9); 5];
 
-fn parameters(parts: Parts) -> &'static [Value] {
-    match FIVE.get(..parts.parameters) {
+fn parameters(filling: Filling) -> &'static [Value] {
+    match FIVE.get(..filling.parameters) {
         Some(first) => first,
-        None => &FIVE,
+        None => FIVE.as_slice(),
     }
 }
 
-fn built(frame: &Frame, parts: Parts) -> Step {
-    let mut step = if parts.stops {
+fn built(frame: &Frame, filling: Filling) -> Step {
+    let mut step = if filling.stops {
         StepBuilder::stop(frame)
     } else {
         StepBuilder::next_state(frame, StateId(1))
     };
-    for _ in 0..parts.outputs {
-        step = step.output(ANSWER, parameters(parts), Dest::Sender, Via::Any);
+    for _ in 0..filling.outputs {
+        step = step.output(ANSWER, parameters(filling), Dest::Sender, Via::Any);
     }
-    for _ in 0..parts.creates {
+    for _ in 0..filling.creates {
         step = step.create(SetId(1));
     }
-    step.set_variable(parts.place, Value::Pid(Pid::Null))
+    step.set_variable(filling.place, Value::Pid(Pid::Null))
         .build()
 }
 
-fn filled(frame: &Frame, parts: Parts) -> Step {
+fn filled(frame: &Frame, filling: Filling) -> Step {
     let mut step = Step::blank();
-    if parts.stops {
+    if filling.stops {
         in_place::stop(&mut step, frame);
     } else {
         in_place::next_state(&mut step, frame, StateId(1));
     }
-    for _ in 0..parts.outputs {
-        in_place::output(&mut step, ANSWER, parameters(parts), Dest::Sender, Via::Any);
+    for _ in 0..filling.outputs {
+        in_place::output(
+            &mut step,
+            ANSWER,
+            parameters(filling),
+            Dest::Sender,
+            Via::Any,
+        );
     }
-    for _ in 0..parts.creates {
+    for _ in 0..filling.creates {
         in_place::create(&mut step, SetId(1));
     }
-    in_place::set_variable(&mut step, parts.place, Value::Pid(Pid::Null));
+    in_place::set_variable(&mut step, filling.place, Value::Pid(Pid::Null));
     step
 }
 
 /// Whether all of it finds room, in a frame with two variables.
-fn fits(parts: Parts) -> bool {
-    parts.outputs.saturating_add(parts.creates) <= 8
-        && (parts.outputs == 0 || parts.parameters <= 4)
-        && parts.place < 2
+fn fits(filling: Filling) -> bool {
+    filling.outputs.saturating_add(filling.creates) <= 8
+        && (filling.outputs == 0 || filling.parameters <= 4)
+        && filling.place < 2
 }
 
-/// Whether the two steps are the same where the parts find room, and break the offer where they do not.
-fn agree(parts: Parts) -> bool {
+/// An offer that has all that is put in, as far as it can.
+static ALL: Parts = Parts {
+    sets: 2,
+    vars: &[Sort::Pid, Sort::Integer],
+    parts: &[
+        (
+            1,
+            Part::Output(
+                ANSWER,
+                &[Sort::Integer, Sort::Integer, Sort::Integer, Sort::Integer],
+                Via::Any,
+            ),
+        ),
+        (1, Part::Output(ANSWER, &[], Via::Any)),
+        (1, Part::Create(SetId(1))),
+        (1, Part::Next(StateId(1))),
+        (1, Part::Stop),
+    ],
+};
+
+/// Whether the two steps are the same where the parts find room, and break the offer where they do not. One that is used again has
+/// nothing of what it was before.
+fn agree(filling: Filling) -> bool {
     let frame = sample_frame();
-    let one = built(&frame, parts);
-    let other = filled(&frame, parts);
-    if fits(parts) {
+    let one = built(&frame, filling);
+    let mut other = filled(&frame, filling);
+    let agrees = if fits(filling) {
         one.actions.as_slice() == other.actions.as_slice()
             && one.vars.as_slice() == other.vars.as_slice()
             && one.next == other.next
     } else {
-        // an offer that has all that is put in, as far as it can
-        let offer = OfferBuilder::start(2, &[Sort::Pid, Sort::Integer])
-            .output(ANSWER, &[Sort::Integer; 4], Via::Any)
-            .output(ANSWER, &[], Via::Any)
-            .create(SetId(1))
-            .next_state(StateId(1))
-            .may_stop()
-            .build();
+        let offer = offer_of(&ALL);
         !conforms(&offer, &one) && !conforms(&offer, &other)
-    }
-}
-
-#[test]
-fn both_put_the_same_step_together(rt: HostRuntime) -> Result<(), Fail> {
-    for outputs in [0, 1, 3, 8, 9] {
-        for count in [0, 1, 4, 5] {
-            for creates in [0, 1, 5, 8] {
-                for place in [0, 1, 2] {
-                    for stops in [true, false] {
-                        let parts = Parts {
-                            outputs,
-                            parameters: count,
-                            creates,
-                            place,
-                            stops,
-                        };
-                        assert!(rt; agree(parts), "{parts:?}");
-                    }
-                }
-            }
-        }
-    }
-    Ok(())
-}
-
-/// A step that is used again has nothing of what it was before.
-#[test]
-fn a_cleared_step_is_blank(rt: HostRuntime) -> Result<(), Fail> {
-    let parts = Parts {
-        outputs: 2,
-        parameters: 1,
-        creates: 1,
-        place: 0,
-        stops: true,
     };
-    let mut step = filled(&sample_frame(), parts);
-    step.clear();
-    assert!(rt; step.actions.is_empty() && step.vars.is_empty());
-    Ok(())
+    other.clear();
+    agrees && other.actions.is_empty() && other.vars.is_empty()
+}
+
+/// The filling of this number.
+fn filling_of(number: usize) -> Filling {
+    Filling {
+        outputs: [0, 1, 3, 8, 9][number % 5],
+        parameters: [0, 1, 4, 5][number / 5 % 4],
+        creates: [0, 1, 5, 8][number / 20 % 4],
+        place: number / 80 % 3,
+        stops: number / 240 == 0,
+    }
+}
+
+#[test]
+fn both_put_the_same_step_together(rt: HostRuntime) {
+    for number in 0..480 {
+        assert!(rt; agree(filling_of(number)), "filling {number}");
+    }
 }

@@ -1,8 +1,8 @@
 //! A graph for two sets in one block, and the structure for it.
-use sdl_graph::{OfferBuilder, StepBuilder, no_offer, no_step};
 use sdl_graph_binding::{Design, SetDesign, Use};
 use sdl_signal::{SignalId, Sort, StateId, Value};
-use sdl_transition_behaviour::{Dest, Frame, Kind, Offer, Step, Via};
+use sdl_test_systems::{Doing, Doings, End, Part, Parts};
+use sdl_transition_behaviour::{Dest, Kind, Via};
 
 /// Sets: 0 Asker, 1 Teller. Signals: 0 ask, 1 tell.
 pub const PAIR: &str = r#"version = 1
@@ -77,43 +77,65 @@ const IDLE: StateId = StateId(0);
 
 const DONE: StateId = StateId(1);
 
-/// The teller's start and row, and then the asker's, from 0 on.
-pub fn offer(number: u32) -> Offer {
-    let teller = OfferBuilder::start(2, &[Sort::Integer]);
-    let asker = OfferBuilder::start(2, &[]);
-    match number {
-        0 => teller.next_state(IDLE).build(),
-        1 => teller
-            .row(IDLE, ASK, &[])
-            .output(TELL, &[Sort::Integer], Via::Any)
-            .next_state(DONE)
-            .build(),
-        2 => asker.next_state(IDLE).build(),
-        3 => asker
-            .row(IDLE, ASK, &[])
-            .output(ASK, &[], Via::Any)
-            .next_state(IDLE)
-            .build(),
-        // it can neither stop nor go on
-        4 => asker.build(),
-        _ => no_offer(),
-    }
-}
+const TELLING: Parts = Parts {
+    sets: 2,
+    vars: &[Sort::Integer],
+    parts: &[(1, Part::Next(IDLE))],
+};
 
-pub fn step(number: u32, frame: &Frame) -> Step {
-    match number {
-        0 | 2 => StepBuilder::next_state(frame, IDLE).build(),
-        1 => StepBuilder::next_state(frame, DONE)
-            .output(TELL, &[Value::Integer(3)], Dest::Anywhere, Via::Any)
-            .build(),
-        3 => StepBuilder::next_state(frame, IDLE)
-            .output(ASK, &[], Dest::Anywhere, Via::Any)
-            .build(),
-        _ => no_step(),
-    }
-}
+const ASKING: Parts = Parts {
+    vars: &[],
+    ..TELLING
+};
 
-const USES: [Use; 4] = [
+/// The teller's start and row, and then the asker's. The last can neither stop nor go on.
+pub static OFFERS: [Parts; 5] = [
+    TELLING,
+    Parts {
+        parts: &[
+            (1, Part::Row(IDLE, ASK, &[])),
+            (1, Part::Output(TELL, &[Sort::Integer], Via::Any)),
+            (1, Part::Next(DONE)),
+        ],
+        ..TELLING
+    },
+    ASKING,
+    Parts {
+        parts: &[
+            (1, Part::Row(IDLE, ASK, &[])),
+            (1, Part::Output(ASK, &[], Via::Any)),
+            (1, Part::Next(IDLE)),
+        ],
+        ..ASKING
+    },
+    Parts {
+        parts: &[],
+        ..ASKING
+    },
+];
+
+const START: Doings = Doings {
+    end: End::Next(0),
+    doings: &[],
+};
+
+pub static STEPS: [Doings; 4] = [
+    START,
+    Doings {
+        end: End::Next(1),
+        doings: &[(
+            1,
+            Doing::Output(TELL, &[Value::Integer(3)], Dest::Anywhere, Via::Any),
+        )],
+    },
+    START,
+    Doings {
+        doings: &[(1, Doing::Output(ASK, &[], Dest::Anywhere, Via::Any))],
+        ..START
+    },
+];
+
+pub const USES: &[Use] = &[
     (Kind::Set, 0, "Asker"),
     (Kind::Set, 1, "Teller"),
     (Kind::Signal, 0, "ask"),
@@ -137,7 +159,7 @@ pub const ASKER: SetDesign = SetDesign {
 };
 
 /// The sets stand in another order than in the structure.
-pub const DESIGN: Design = Design {
-    uses: &USES,
+pub static DESIGN: Design = Design {
+    uses: USES,
     sets: &[TELLER, ASKER],
 };

@@ -5,24 +5,16 @@ use sdl_graph::{
     pid_variable,
 };
 use sdl_signal::Pid;
-use std::test::Fail;
 
 #[test]
-fn parameters_are_read(rt: HostRuntime) -> Result<(), Fail> {
+fn parameters_and_variables_are_read(rt: HostRuntime) {
     let frame = sample_frame();
-    assert!(rt; integer_parameter(&frame, 0) == Some(7));
+    let integers = (integer_parameter(&frame, 0), integer_parameter(&frame, 2));
+    assert!(rt; integers == (Some(7), None));
     assert!(rt; boolean_parameter(&frame, 1) == Some(true));
     assert!(rt; pid_parameter(&frame, 1) == None);
-    assert!(rt; integer_parameter(&frame, 2) == None);
-    Ok(())
-}
-
-#[test]
-fn variables_are_read(rt: HostRuntime) -> Result<(), Fail> {
-    let frame = sample_frame();
-    assert!(rt; pid_variable(&frame, 0) == Some(Pid::Env));
+    let pids = (pid_variable(&frame, 0), pid_variable(&frame, 2));
+    assert!(rt; pids == (Some(Pid::Env), None));
     assert!(rt; integer_variable(&frame, 1) == Some(5));
     assert!(rt; boolean_variable(&frame, 1) == None);
-    assert!(rt; pid_variable(&frame, 2) == None);
-    Ok(())
 }

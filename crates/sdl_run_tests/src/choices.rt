@@ -110,35 +110,41 @@ const LINE: &[u8] = b"line pong 7\n";
 
 const OTHER: &[u8] = b"other pong 7\n";
 
+/// Picks of the environment, each with the route of the line.
+static ROUTES: [(u32, u32); 4] = [(0, 0), (1, 1), (2, 0), (7, 1)];
+
 #[test]
 fn the_environment_chooses_among_routes(rt: HostRuntime) -> Result<(), Fail> {
-    for (pick, route) in [(0, 0), (1, 1), (2, 0), (7, 1)] {
+    for (pick, route) in ROUTES.iter() {
         let wanted = Choice {
-            route,
+            route: *route,
             serial: 1,
             text: LINE,
         };
-        chooses(&rt, rt.alloc(), (pick, 0), wanted)?;
+        chooses(&rt, rt.alloc(), (*pick, 0), wanted)?;
     }
     Ok(())
 }
 
+/// Picks of the block, each with the instance that the line enters and the answer.
+static INSTANCES: [(u32, u32, &[u8]); 6] = [
+    (0, 1, LINE),
+    (1, 2, OTHER),
+    (2, 3, LINE),
+    (3, 1, OTHER),
+    (4, 2, LINE),
+    (11, 3, OTHER),
+];
+
 #[test]
 fn a_block_chooses_among_instances_and_routes(rt: HostRuntime) -> Result<(), Fail> {
-    for (pick, serial, text) in [
-        (0, 1, LINE),
-        (1, 2, OTHER),
-        (2, 3, LINE),
-        (3, 1, OTHER),
-        (4, 2, LINE),
-        (11, 3, OTHER),
-    ] {
+    for (pick, serial, text) in INSTANCES.iter() {
         let wanted = Choice {
             route: 0,
-            serial,
-            text,
+            serial: *serial,
+            text: *text,
         };
-        chooses(&rt, rt.alloc(), (0, pick), wanted)?;
+        chooses(&rt, rt.alloc(), (0, *pick), wanted)?;
     }
     Ok(())
 }

@@ -33,19 +33,19 @@ const OUT: SignalId = SignalId(2);
 /// A number that a behaviour uses, with the name that it means by it.
 type Use = (Kind, u32, &'static str);
 
-const USES_OF_A: [Use; 3] = [
+static USES_OF_A: [Use; 3] = [
     (Kind::Set, 0, "A"),
     (Kind::Signal, 0, "put"),
     (Kind::Signal, 1, "num"),
 ];
 
-const USES_OF_C: [Use; 3] = [
+static USES_OF_C: [Use; 3] = [
     (Kind::Set, 1, "C"),
     (Kind::Signal, 0, "put"),
     (Kind::Signal, 1, "num"),
 ];
 
-const USES_OF_B: [Use; 3] = [
+static USES_OF_B: [Use; 3] = [
     (Kind::Set, 2, "B"),
     (Kind::Signal, 1, "num"),
     (Kind::Signal, 2, "out"),

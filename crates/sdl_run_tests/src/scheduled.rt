@@ -63,14 +63,14 @@ const SERIAL: Options = Options {
 const LINES: &[u8] = b"left put 1\nright put 2\n";
 
 /// Schedules, each with what Relay writes under it: the order of the lines of two routes is that of the workers' steps.
-const SCHEDULES: [(&[u32], &[u8]); 2] = [
+static SCHEDULES: [(&[u32], &[u8]); 2] = [
     (&[], b"sink out 1\nsink out 2\n"),
     (&[2, 2, 4, 8, 0, 0, 0, 10], b"sink out 2\nsink out 1\n"),
 ];
 
 #[test]
 fn relay_goes_by_the_schedule(rt: HostRuntime) -> Result<(), Fail> {
-    for (schedule, wanted) in SCHEDULES {
+    for (schedule, wanted) in SCHEDULES.iter() {
         let settings = Settings {
             alloc: rt.alloc(),
             options: SERIAL,
@@ -83,7 +83,7 @@ fn relay_goes_by_the_schedule(rt: HostRuntime) -> Result<(), Fail> {
         };
         let (status, written) = relay::run(rt.alloc(), SETS, scheduled)??;
         assert!(rt; status == 0);
-        assert!(rt; written.as_slice() == wanted);
+        assert!(rt; written.as_slice() == *wanted);
     }
     Ok(())
 }

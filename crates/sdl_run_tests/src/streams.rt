@@ -194,7 +194,7 @@ pub fn run<T: Threads + Wait + Sync>(
     run_bound(rt, alloc, bound, form, streams, change)
 }
 
-const FORMS: &[Form] = &[Form::OneThread, Form::Threads];
+static FORMS: [Form; 2] = [Form::OneThread, Form::Threads];
 
 const LINES: &[u8] = b"line ping 7\nline ping 8\n";
 
@@ -265,7 +265,7 @@ fn leaves<T: Threads + Wait + Sync + Abort>(
 /// Wherever the reader fails, what came whole before is carried out and answered.
 #[test]
 fn whole_lines_are_answered_where_the_reader_fails(rt: HostRuntime) -> Result<(), Fail> {
-    for form in FORMS {
+    for form in FORMS.iter() {
         for count in 0..LINES.len() + 1 {
             let streams = Streams {
                 bytes: &LINES[..count],
@@ -287,7 +287,7 @@ fn whole_lines_are_answered_where_the_reader_fails(rt: HostRuntime) -> Result<()
 /// Wherever the writer fails, it has taken all before that, and the run goes on: its ledger is that of a whole one.
 #[test]
 fn a_writer_that_fails_anywhere_changes_no_count(rt: HostRuntime) -> Result<(), Fail> {
-    for form in FORMS {
+    for form in FORMS.iter() {
         for count in 0..ANSWERS.len() {
             let streams = Streams {
                 room: count,
@@ -305,7 +305,7 @@ fn a_writer_that_fails_anywhere_changes_no_count(rt: HostRuntime) -> Result<(), 
 }
 
 /// Interruptions of the reads and of the writes of one run, how both end, how many lines are read, and what is written.
-const INTERRUPTIONS: &[(u32, u32, InputEnd, OutputEnd, u64, &[u8])] = &[
+static INTERRUPTIONS: [(u32, u32, InputEnd, OutputEnd, u64, &[u8]); 3] = [
     (1_000, 1_000, InputEnd::Whole, OutputEnd::Whole, 2, ANSWERS),
     (1_001, 1_000, InputEnd::ReadFault, OutputEnd::Whole, 0, b""),
     (1_000, 1_001, InputEnd::Whole, OutputEnd::WriteFault, 2, b""),
@@ -313,8 +313,8 @@ const INTERRUPTIONS: &[(u32, u32, InputEnd, OutputEnd, u64, &[u8])] = &[
 
 #[test]
 fn a_thousand_interrupted_reads_and_writes_change_nothing(rt: HostRuntime) -> Result<(), Fail> {
-    for form in FORMS {
-        for (reads, writes, input, output, lines, written) in INTERRUPTIONS {
+    for form in FORMS.iter() {
+        for (reads, writes, input, output, lines, written) in INTERRUPTIONS.iter() {
             let streams = Streams {
                 interrupted_reads: *reads,
                 interrupted_writes: *writes,
@@ -343,7 +343,7 @@ fn is_whole(left: &Left) -> bool {
 // is refused.
 #[test]
 fn a_refused_start_is_made_again(rt: HostRuntime) -> Result<(), Fail> {
-    for form in FORMS {
+    for form in FORMS.iter() {
         match run(&rt, rt.alloc(), *form, &WELL, Change::Nothing) {
             Ok(left) => {
                 assert!(rt; is_whole(&left) || !left.again);
