@@ -2,7 +2,7 @@
 use super::anything::store_anything;
 use super::drafts::{Draft, RowDraft, bind_drafts};
 use super::outcomes::{Found, Outcome};
-use sdl_examples::{ECHO, HOLD, RELAY};
+use sdl_examples::{ECHO, RELAY};
 use sdl_signal::{GateId, SetId, Sort};
 use sdl_transition::{BindFault, Kind, Via};
 use std::test::Fail;
@@ -10,8 +10,8 @@ use std::test::Fail;
 const PING: RowDraft = RowDraft {
     state: 0,
     signal: 0,
-    sorts: &[Sort::Integer],
-    output: Some(1),
+    sort: Sort::Integer,
+    output: 1,
     via: Via::Any,
     create: None,
     sets: 1,
@@ -24,7 +24,6 @@ const ECHO_DRAFT: Draft = Draft {
         (Kind::Signal, 0, "ping"),
         (Kind::Signal, 1, "pong"),
     ],
-    states: &["idle"],
     sets: 1,
     rows: &[PING],
     saves: &[],
@@ -71,7 +70,7 @@ const B: Draft = Draft {
     ],
     rows: &[RowDraft {
         signal: 1,
-        output: Some(2),
+        output: 2,
         ..PUT
     }],
     ..A
@@ -84,40 +83,6 @@ const CREATING: Draft = Draft {
         ..PUT
     }],
     ..A
-};
-
-const GO: RowDraft = RowDraft {
-    signal: 1,
-    sorts: &[],
-    output: None,
-    ..PING
-};
-
-/// Hold's behaviour: in wait it saves `data`.
-const H: Draft = Draft {
-    uses: &[
-        (Kind::Set, 0, "H"),
-        (Kind::Signal, 0, "data"),
-        (Kind::Signal, 1, "go"),
-        (Kind::Signal, 2, "halt"),
-        (Kind::Signal, 3, "out"),
-    ],
-    states: &["wait", "run"],
-    rows: &[
-        GO,
-        RowDraft {
-            state: 1,
-            output: Some(3),
-            ..PING
-        },
-        RowDraft {
-            state: 1,
-            signal: 2,
-            ..GO
-        },
-    ],
-    saves: &[(0, 0)],
-    ..ECHO_DRAFT
 };
 
 /// A system, as text, with drafts of its behaviours, and what comes of binding them.
@@ -157,21 +122,8 @@ const RELAY_BOUND: Case = Case {
     ..ECHO_BOUND
 };
 
-/// In wait `data` is saved, and there is a row for `go`.
-const HOLD_BOUND: Case = Case {
-    file: HOLD,
-    drafts: &[H],
-    routes: 4,
-    found: Found {
-        first: None,
-        second: Some(1),
-        ..FOUND
-    },
-    ..ECHO_BOUND
-};
-
 /// What is bound, and then drafts of which one rule does not hold, each with the fault that is named.
-static CASES: [Case; 22] = [
+static CASES: [Case; 16] = [
     ECHO_BOUND,
     // A signal without a row may be saved.
     Case {
@@ -182,15 +134,6 @@ static CASES: [Case; 22] = [
         ..ECHO_BOUND
     },
     RELAY_BOUND,
-    HOLD_BOUND,
-    // `halt` has no row in wait.
-    Case {
-        drafts: &[Draft {
-            saves: &[(0, 0), (0, 2)],
-            ..H
-        }],
-        ..HOLD_BOUND
-    },
     Case {
         drafts: &[],
         fault: Some(BindFault::NoBehaviour(SetId(0))),
@@ -211,10 +154,7 @@ static CASES: [Case; 22] = [
     },
     Case {
         drafts: &[Draft {
-            rows: &[RowDraft {
-                output: Some(0),
-                ..PING
-            }],
+            rows: &[RowDraft { output: 0, ..PING }],
             ..ECHO_DRAFT
         }],
         fault: Some(BindFault::UndeclaredOutput(SetId(0))),
@@ -243,7 +183,7 @@ static CASES: [Case; 22] = [
     Case {
         drafts: &[Draft {
             rows: &[RowDraft {
-                sorts: &[Sort::Boolean],
+                sort: Sort::Boolean,
                 ..PING
             }],
             ..ECHO_DRAFT
@@ -297,42 +237,9 @@ static CASES: [Case; 22] = [
         fault: Some(BindFault::CreateElsewhere(SetId(0))),
         ..RELAY_BOUND
     },
-    // `data` has a row in run.
-    Case {
-        drafts: &[Draft {
-            saves: &[(0, 0), (1, 0)],
-            ..H
-        }],
-        fault: Some(BindFault::TwoRows(SetId(0))),
-        ..HOLD_BOUND
-    },
-    // `data` is saved in wait.
-    Case {
-        drafts: &[Draft {
-            saves: &[(0, 0), (0, 0)],
-            ..H
-        }],
-        fault: Some(BindFault::TwoRows(SetId(0))),
-        ..HOLD_BOUND
-    },
-    Case {
-        drafts: &[Draft {
-            saves: &[(0, 0), (2, 2)],
-            ..H
-        }],
-        fault: Some(BindFault::UnknownState(SetId(0))),
-        ..HOLD_BOUND
-    },
-    Case {
-        drafts: &[Draft {
-            saves: &[(0, 0), (0, 4)],
-            ..H
-        }],
-        fault: Some(BindFault::WrongName(SetId(0))),
-        ..HOLD_BOUND
-    },
 ];
 
+/// A static, since a const is written out at each use.
 static RELAY_CASE: Case = RELAY_BOUND;
 
 /// What is to come of the case.

@@ -83,6 +83,9 @@ const ANSWERED_WITH_FIVE: Doing = Doing::Output(
     Via::Any,
 );
 
+/// As many actions as a step has room for.
+const EIGHT_CREATES: &[(u32, Doing)] = &[(8, Doing::Create(SetId(0)))];
+
 /// An offer, how a step ends, what it does, each so often, and whether it conforms.
 type Trial = (Parts, End, &'static [(u32, Doing)], bool);
 
@@ -138,7 +141,7 @@ static STEPS: [Trial; 23] = [
     (SAMPLE, End::Stop, &[], false),
     (SAMPLE, End::Nothing, &[], false),
     // What finds no room makes a step that breaks its offer.
-    (STOPPING, End::Stop, &[(8, Doing::Create(SetId(0)))], true),
+    (STOPPING, End::Stop, EIGHT_CREATES, true),
     (STOPPING, End::Stop, &[(9, Doing::Create(SetId(0)))], false),
     (STOPPING, End::Stop, &[(1, ANSWERED_WITH_FIVE)], false),
     (
@@ -165,6 +168,11 @@ fn steps_conform_or_break_their_offer(rt: HostRuntime) {
             "step {place}"
         );
     }
+    let full = Doings {
+        end: End::Stop,
+        doings: EIGHT_CREATES,
+    };
+    assert!(rt; step_of(&frame, &full).actions.len() == 8);
 }
 
 const NEXT: Part = Part::Next(StateId(0));
@@ -175,7 +183,7 @@ const SILENT: Part = Part::Output(ANSWER, &[], Via::Any);
 
 const FIVE: Part = Part::Output(ANSWER, &[Sort::Integer; 5], Via::Any);
 
-/// Offers, whether each can end, and how many outputs it has then: it is whole, or none.
+/// Offers, whether each can end, and how many outputs it has. Outputs are counted only where the offer can end.
 static OFFERS: [(Parts, bool, usize); 10] = [
     (SAMPLE, true, 2),
     (
@@ -268,7 +276,7 @@ fn offers_can_end_or_not(rt: HostRuntime) {
     for (place, (parts, wanted, outputs)) in OFFERS.iter().enumerate() {
         let offer = offer_of(parts);
         assert!(rt;
-            ends(&offer, *wanted) && ends(&copied_offer(&offer), *wanted),
+            ends_as_wanted(&offer, *wanted) && ends_as_wanted(&copied_offer(&offer), *wanted),
             "offer {place}"
         );
         assert!(rt;
@@ -276,10 +284,10 @@ fn offers_can_end_or_not(rt: HostRuntime) {
             "offer {place}"
         );
     }
-    assert!(rt; ends(&no_offer(), false));
+    assert!(rt; ends_as_wanted(&no_offer(), false));
 }
 
-fn ends(offer: &Offer, wanted: bool) -> bool {
+fn ends_as_wanted(offer: &Offer, wanted: bool) -> bool {
     can_end(offer) == wanted
 }
 

@@ -238,7 +238,14 @@ static CASES: [Case; 22] = [
 /// The fault of binding these transitions by the design, and None where they are bound.
 fn fault_of(alloc: Global, design: &Design, numbers: &[u32]) -> Option<GraphFault> {
     match bind_pair(alloc, PAIR, design, numbers) {
-        Ok(_) => None,
+        // Without sets nothing was bound, and no case may pass as if it were.
+        Ok(sets) => {
+            if sets.is_empty() {
+                Some(GraphFault::Memory)
+            } else {
+                None
+            }
+        }
         Err(fault) => Some(fault),
     }
 }
@@ -306,7 +313,7 @@ static SAVING: Design = Design {
 };
 
 /// Whether these are the sets, in any order.
-fn are(sets: &[BoundSet], wanted: [BoundSet; 2]) -> bool {
+fn same_in_any_order(sets: &[BoundSet], wanted: [BoundSet; 2]) -> bool {
     sets.len() == 2 && sets.contains(&wanted[0]) && sets.contains(&wanted[1])
 }
 
@@ -315,13 +322,13 @@ fn are(sets: &[BoundSet], wanted: [BoundSet; 2]) -> bool {
 #[test]
 fn sets_go_by_their_names(rt: HostRuntime) -> Result<(), Fail> {
     let bound = bind_pair(rt.alloc(), PAIR, &DESIGN, &[0, 1, 2, 3])?;
-    assert!(rt; are(bound.as_slice(), [TOLD, ASKED]));
+    assert!(rt; same_in_any_order(bound.as_slice(), [TOLD, ASKED]));
     let saving = BoundSet {
         counts: (1, 2, 1, 2),
         ..TOLD
     };
     let saved = bind_pair(rt.alloc(), PAIR, &SAVING, &[0, 1, 2, 3])?;
-    assert!(rt; are(saved.as_slice(), [saving, ASKED]));
+    assert!(rt; same_in_any_order(saved.as_slice(), [saving, ASKED]));
     Ok(())
 }
 

@@ -13,25 +13,23 @@ use sdl_transition::{
 };
 use std::alloc::Global;
 
-/// A row with an offer of its own state and signal.
+/// A row on a signal with one parameter, with an offer of its own state and signal.
 #[derive(Clone, Copy)]
 pub struct RowDraft {
     pub state: u32,
     pub signal: u32,
-    pub sorts: &'static [Sort],
-    /// The output that it offers, of one Integer.
-    pub output: Option<u32>,
+    pub sort: Sort,
+    pub output: u32,
     pub via: Via,
     pub create: Option<SetId>,
     pub sets: u32,
 }
 
-/// A behaviour of the set.
+/// A behaviour of the set, in one state.
 #[derive(Clone, Copy)]
 pub struct Draft {
     pub set: u32,
     pub uses: &'static [(Kind, u32, &'static str)],
-    pub states: &'static [&'static str],
     pub sets: u32,
     pub rows: &'static [RowDraft],
     pub saves: &'static [(u32, u32)],
@@ -43,14 +41,10 @@ pub fn named(kind: Kind, number: u32, text: &str) -> Option<Named> {
     Some(Named { kind, number, name })
 }
 
-/// The signal with these sorts, as far as there is room for them.
-fn sorted(id: u32, sorts: &[Sort]) -> SignalSorts {
-    let mut own = ArrayVec::new();
-    let _ = own.try_extend_from_slice(sorts);
-    SignalSorts {
-        id: SignalId(id),
-        sorts: own,
-    }
+fn one(sort: Sort) -> ArrayVec<Sort, 4> {
+    let mut sorts = ArrayVec::new();
+    sorts.push(sort);
+    sorts
 }
 
 /// The offer of a row, or of a start.
@@ -72,13 +66,17 @@ fn offer_of(sets: u32, row: Option<&RowDraft>) -> Offer
     };
     if let Some(row) = row {
         offer.state = Some(StateId(row.state));
-        offer.signal = Some(sorted(row.signal, row.sorts));
-        if let Some(output) = row.output {
-            offer.outputs.push(OfferedOutput {
-                signal: sorted(output, &[Sort::Integer]),
-                via: row.via,
-            });
-        }
+        offer.signal = Some(SignalSorts {
+            id: SignalId(row.signal),
+            sorts: one(row.sort),
+        });
+        offer.outputs.push(OfferedOutput {
+            signal: SignalSorts {
+                id: SignalId(row.output),
+                sorts: one(Sort::Integer),
+            },
+            via: row.via,
+        });
         if let Some(set) = row.create {
             offer.creates.push(set);
         }
@@ -107,12 +105,10 @@ fn uses_of(alloc: Global, draft: &Draft) -> Option<Vec<Named>> {
     Some(uses)
 }
 
-/// The states of a draft.
-fn states_of(draft: &Draft) -> Option<ArrayVec<Name, 16>> {
+/// The one state of a draft.
+fn states() -> Option<ArrayVec<Name, 16>> {
     let mut states = ArrayVec::new();
-    for text in draft.states {
-        states.try_push(sdl_signal::name(text)?).ok()?;
-    }
+    states.push(sdl_signal::name("idle")?);
     Some(states)
 }
 
@@ -139,7 +135,7 @@ struct Plain {
 fn plain_of(alloc: Global, draft: &Draft) -> Option<Plain> {
     Some(Plain {
         uses: uses_of(alloc, draft)?,
-        states: states_of(draft)?,
+        states: states()?,
         saves: saves_of(alloc, draft)?,
     })
 }

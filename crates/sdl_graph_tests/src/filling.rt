@@ -112,17 +112,17 @@ fn agree(filling: Filling) -> bool {
 /// The filling of this number.
 fn filling_of(number: usize) -> Filling {
     Filling {
-        outputs: [0, 1, 3, 8, 9][number % 5],
-        parameters: [0, 1, 4, 5][number / 5 % 4],
-        creates: [0, 1, 5, 8][number / 20 % 4],
-        place: number / 80 % 3,
-        stops: number / 240 == 0,
+        outputs: [0, 1, 2, 3, 8, 9][number % 6],
+        parameters: [0, 1, 4, 5][number / 6 % 4],
+        creates: [0, 1, 5, 8][number / 24 % 4],
+        place: number / 96 % 3,
+        stops: number / 288 == 0,
     }
 }
 
 #[test]
 fn both_put_the_same_step_together(rt: HostRuntime) {
-    for number in 0..480 {
+    for number in 0..576 {
         assert!(rt; agree(filling_of(number)), "filling {number}");
     }
 }

@@ -24,6 +24,8 @@ mod full;
 #[cfg(test)]
 mod graphs;
 #[cfg(test)]
+mod holding;
+#[cfg(test)]
 mod light;
 #[cfg(test)]
 mod outcomes;

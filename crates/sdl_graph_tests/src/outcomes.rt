@@ -20,8 +20,8 @@ pub struct Outcome {
     pub found: Option<Found>,
 }
 
-/// The numbers of the start and of the rows in idle for the signals 0 and 1. Those for a state and a signal that are
-/// not there. and how many variables there are.
+/// What the index finds for a set: the number of its start, how many variables it has, and the numbers of three rows. `first` and
+/// `second` are in state 0, for the signals 0 and 1. `outside` is for a state and a signal that are not there.
 #[derive(Clone, Copy, PartialEq, Eq)]
 pub struct Found {
     pub start: u32,

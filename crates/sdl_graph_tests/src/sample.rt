@@ -28,6 +28,7 @@ pub const SAMPLE: Parts = Parts {
     ],
 };
 
+/// Tables take the const, since no static may refer to another. Functions take this, since a const is written out at each use.
 static SAMPLED: Parts = SAMPLE;
 
 pub fn sample_offer() -> Offer {

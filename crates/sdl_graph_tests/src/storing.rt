@@ -33,8 +33,8 @@ fn bound_set(behaviour: &Behaviour<GraphAgents<Graphs>>) -> BoundSet {
     }
 }
 
-/// Stores the transitions of these numbers and binds them to the structure, and answers the sets of the first block. A structure
-/// that is none has no sets.
+/// Stores the transitions of these numbers and binds them to the structure, and answers the sets of the first block. An
+/// unusable structure answers an empty list.
 pub fn bind_pair(
     alloc: Global,
     text: &str,
