@@ -125,49 +125,57 @@ static DESIGN: Design = Design {
     ],
 };
 
-/// The structure file of the chain.
-const CHAIN: &str = "version = 1
+/// The structure file of a chain of blocks: for each, the end that its channel comes from, and its number.
+macro_rules! chain_file {
+    ($($from:literal => $number:literal),*) => {
+        concat!(
+            "version = 1
 system = 'Chain'
 signal = [{ name = 'num', sorts = ['Integer'] }]
 gate = [{ name = 'in', inward = ['num'] }, { name = 'out', outward = ['num'] }]
-block = [
-  { name = 'B0', gate = [{ name = 'i', inward = ['num'] }, { name = 'o', outward = ['num'] }], set = [{ name = 'S0', gate = [{ name = 'i', inward = ['num'] }, { name = 'o', outward = ['num'] }] }], channel = [{ name = 'x0', ends = ['env.i', 'S0.i'], forth = ['num'] }, { name = 'y0', ends = ['S0.o', 'env.o'], forth = ['num'] }] },
-  { name = 'B1', gate = [{ name = 'i', inward = ['num'] }, { name = 'o', outward = ['num'] }], set = [{ name = 'S1', gate = [{ name = 'i', inward = ['num'] }, { name = 'o', outward = ['num'] }] }], channel = [{ name = 'x1', ends = ['env.i', 'S1.i'], forth = ['num'] }, { name = 'y1', ends = ['S1.o', 'env.o'], forth = ['num'] }] },
-  { name = 'B2', gate = [{ name = 'i', inward = ['num'] }, { name = 'o', outward = ['num'] }], set = [{ name = 'S2', gate = [{ name = 'i', inward = ['num'] }, { name = 'o', outward = ['num'] }] }], channel = [{ name = 'x2', ends = ['env.i', 'S2.i'], forth = ['num'] }, { name = 'y2', ends = ['S2.o', 'env.o'], forth = ['num'] }] },
-  { name = 'B3', gate = [{ name = 'i', inward = ['num'] }, { name = 'o', outward = ['num'] }], set = [{ name = 'S3', gate = [{ name = 'i', inward = ['num'] }, { name = 'o', outward = ['num'] }] }], channel = [{ name = 'x3', ends = ['env.i', 'S3.i'], forth = ['num'] }, { name = 'y3', ends = ['S3.o', 'env.o'], forth = ['num'] }] },
-  { name = 'B4', gate = [{ name = 'i', inward = ['num'] }, { name = 'o', outward = ['num'] }], set = [{ name = 'S4', gate = [{ name = 'i', inward = ['num'] }, { name = 'o', outward = ['num'] }] }], channel = [{ name = 'x4', ends = ['env.i', 'S4.i'], forth = ['num'] }, { name = 'y4', ends = ['S4.o', 'env.o'], forth = ['num'] }] },
-  { name = 'B5', gate = [{ name = 'i', inward = ['num'] }, { name = 'o', outward = ['num'] }], set = [{ name = 'S5', gate = [{ name = 'i', inward = ['num'] }, { name = 'o', outward = ['num'] }] }], channel = [{ name = 'x5', ends = ['env.i', 'S5.i'], forth = ['num'] }, { name = 'y5', ends = ['S5.o', 'env.o'], forth = ['num'] }] },
-  { name = 'B6', gate = [{ name = 'i', inward = ['num'] }, { name = 'o', outward = ['num'] }], set = [{ name = 'S6', gate = [{ name = 'i', inward = ['num'] }, { name = 'o', outward = ['num'] }] }], channel = [{ name = 'x6', ends = ['env.i', 'S6.i'], forth = ['num'] }, { name = 'y6', ends = ['S6.o', 'env.o'], forth = ['num'] }] },
-  { name = 'B7', gate = [{ name = 'i', inward = ['num'] }, { name = 'o', outward = ['num'] }], set = [{ name = 'S7', gate = [{ name = 'i', inward = ['num'] }, { name = 'o', outward = ['num'] }] }], channel = [{ name = 'x7', ends = ['env.i', 'S7.i'], forth = ['num'] }, { name = 'y7', ends = ['S7.o', 'env.o'], forth = ['num'] }] },
-  { name = 'B8', gate = [{ name = 'i', inward = ['num'] }, { name = 'o', outward = ['num'] }], set = [{ name = 'S8', gate = [{ name = 'i', inward = ['num'] }, { name = 'o', outward = ['num'] }] }], channel = [{ name = 'x8', ends = ['env.i', 'S8.i'], forth = ['num'] }, { name = 'y8', ends = ['S8.o', 'env.o'], forth = ['num'] }] },
-  { name = 'B9', gate = [{ name = 'i', inward = ['num'] }, { name = 'o', outward = ['num'] }], set = [{ name = 'S9', gate = [{ name = 'i', inward = ['num'] }, { name = 'o', outward = ['num'] }] }], channel = [{ name = 'x9', ends = ['env.i', 'S9.i'], forth = ['num'] }, { name = 'y9', ends = ['S9.o', 'env.o'], forth = ['num'] }] },
-  { name = 'B10', gate = [{ name = 'i', inward = ['num'] }, { name = 'o', outward = ['num'] }], set = [{ name = 'S10', gate = [{ name = 'i', inward = ['num'] }, { name = 'o', outward = ['num'] }] }], channel = [{ name = 'x10', ends = ['env.i', 'S10.i'], forth = ['num'] }, { name = 'y10', ends = ['S10.o', 'env.o'], forth = ['num'] }] },
-  { name = 'B11', gate = [{ name = 'i', inward = ['num'] }, { name = 'o', outward = ['num'] }], set = [{ name = 'S11', gate = [{ name = 'i', inward = ['num'] }, { name = 'o', outward = ['num'] }] }], channel = [{ name = 'x11', ends = ['env.i', 'S11.i'], forth = ['num'] }, { name = 'y11', ends = ['S11.o', 'env.o'], forth = ['num'] }] },
-  { name = 'B12', gate = [{ name = 'i', inward = ['num'] }, { name = 'o', outward = ['num'] }], set = [{ name = 'S12', gate = [{ name = 'i', inward = ['num'] }, { name = 'o', outward = ['num'] }] }], channel = [{ name = 'x12', ends = ['env.i', 'S12.i'], forth = ['num'] }, { name = 'y12', ends = ['S12.o', 'env.o'], forth = ['num'] }] },
-  { name = 'B13', gate = [{ name = 'i', inward = ['num'] }, { name = 'o', outward = ['num'] }], set = [{ name = 'S13', gate = [{ name = 'i', inward = ['num'] }, { name = 'o', outward = ['num'] }] }], channel = [{ name = 'x13', ends = ['env.i', 'S13.i'], forth = ['num'] }, { name = 'y13', ends = ['S13.o', 'env.o'], forth = ['num'] }] },
-  { name = 'B14', gate = [{ name = 'i', inward = ['num'] }, { name = 'o', outward = ['num'] }], set = [{ name = 'S14', gate = [{ name = 'i', inward = ['num'] }, { name = 'o', outward = ['num'] }] }], channel = [{ name = 'x14', ends = ['env.i', 'S14.i'], forth = ['num'] }, { name = 'y14', ends = ['S14.o', 'env.o'], forth = ['num'] }] },
-  { name = 'B15', gate = [{ name = 'i', inward = ['num'] }, { name = 'o', outward = ['num'] }], set = [{ name = 'S15', gate = [{ name = 'i', inward = ['num'] }, { name = 'o', outward = ['num'] }] }], channel = [{ name = 'x15', ends = ['env.i', 'S15.i'], forth = ['num'] }, { name = 'y15', ends = ['S15.o', 'env.o'], forth = ['num'] }] },
-]
+",
+            $("[[block]]
+name = 'B", $number, "'
+gate = [{ name = 'i', inward = ['num'] }, { name = 'o', outward = ['num'] }]
+set = [{ name = 'S", $number, "', gate = [{ name = 'i', inward = ['num'] }, { name = 'o', outward = ['num'] }] }]
 channel = [
-  { name = 'c0', ends = ['env.in', 'B0.i'], forth = ['num'] },
-  { name = 'c1', ends = ['B0.o', 'B1.i'], forth = ['num'] },
-  { name = 'c2', ends = ['B1.o', 'B2.i'], forth = ['num'] },
-  { name = 'c3', ends = ['B2.o', 'B3.i'], forth = ['num'] },
-  { name = 'c4', ends = ['B3.o', 'B4.i'], forth = ['num'] },
-  { name = 'c5', ends = ['B4.o', 'B5.i'], forth = ['num'] },
-  { name = 'c6', ends = ['B5.o', 'B6.i'], forth = ['num'] },
-  { name = 'c7', ends = ['B6.o', 'B7.i'], forth = ['num'] },
-  { name = 'c8', ends = ['B7.o', 'B8.i'], forth = ['num'] },
-  { name = 'c9', ends = ['B8.o', 'B9.i'], forth = ['num'] },
-  { name = 'c10', ends = ['B9.o', 'B10.i'], forth = ['num'] },
-  { name = 'c11', ends = ['B10.o', 'B11.i'], forth = ['num'] },
-  { name = 'c12', ends = ['B11.o', 'B12.i'], forth = ['num'] },
-  { name = 'c13', ends = ['B12.o', 'B13.i'], forth = ['num'] },
-  { name = 'c14', ends = ['B13.o', 'B14.i'], forth = ['num'] },
-  { name = 'c15', ends = ['B14.o', 'B15.i'], forth = ['num'] },
-  { name = 'last', ends = ['B15.o', 'env.out'], forth = ['num'] },
+  { name = 'x", $number, "', ends = ['env.i', 'S", $number, ".i'], forth = ['num'] },
+  { name = 'y", $number, "', ends = ['S", $number, ".o', 'env.o'], forth = ['num'] },
 ]
-";
+",)*
+            $("[[channel]]
+name = 'c", $number, "'
+ends = ['", $from, "', 'B", $number, ".i']
+forth = ['num']
+",)*
+            "[[channel]]
+name = 'last'
+ends = ['B15.o', 'env.out']
+forth = ['num']
+"
+        )
+    };
+}
+
+/// The structure file of the chain.
+const CHAIN: &str = chain_file!(
+    "env.in" => 0,
+    "B0.o" => 1,
+    "B1.o" => 2,
+    "B2.o" => 3,
+    "B3.o" => 4,
+    "B4.o" => 5,
+    "B5.o" => 6,
+    "B6.o" => 7,
+    "B7.o" => 8,
+    "B8.o" => 9,
+    "B9.o" => 10,
+    "B10.o" => 11,
+    "B11.o" => 12,
+    "B12.o" => 13,
+    "B13.o" => 14,
+    "B14.o" => 15
+);
 
 /// The first two workers, which are blocks, wait at their first steps until both are there, and give up after some tries.
 #[derive(Drop)]

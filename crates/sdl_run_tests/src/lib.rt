@@ -1,6 +1,6 @@
 //! Whole runs. On one thread: Ring, Echo and Relay where a schedule chooses, and a wheel of states. In threads: Relay where steps wait for
-//! one another at a gate, and a chain of sixteen blocks. In both forms: Echo where a stream fails or is interrupted, what it leaves being
-//! audited, and so with a part changed; and runs of graphs as a designer's program makes them, with what it writes.
+//! one another at a gate, and a chain of sixteen blocks. In both forms: Echo where a stream fails or is interrupted. What it leaves is
+//! audited, whole and with a part changed. Also in both forms: runs of graphs as a designer's program makes them, with what it writes.
 #![tactic(auto)]
 
 #[cfg(test)]
@@ -16,7 +16,7 @@ mod counted;
 #[cfg(test)]
 mod echo;
 #[cfg(test)]
-mod echoes;
+mod echo_graph;
 #[cfg(test)]
 mod gates;
 #[cfg(test)]

@@ -1,5 +1,5 @@
 //! Runs of Echo as a graph, with their statuses.
-use super::echoes::{ABSENT, DESIGN, FILLED, MENDED, MUTE, SOUND};
+use super::echo_graph::{ABSENT, DESIGN, FILLED, MENDED, MUTE, SOUND};
 use super::running::{How, prepare_text, run_design};
 use sdl_examples::ECHO;
 use sdl_graph_program::BROKEN;

@@ -1,5 +1,5 @@
 //! The texts of a design's own faults.
-use super::echoes::{DESIGN, SET};
+use super::echo_graph::{DESIGN, SET};
 use sdl_graph_binding::Misfit;
 use sdl_graph_program::numbering::{Numbered, numbered_in};
 use sdl_graph_program::{
